@@ -1,0 +1,91 @@
+ghost use Rattle.std.specs.Prelude.{◌≡◌, ◌+◌, ◌*◌, ◌≤◌, ◌<◌, ◌⊎◌, List, length, IfOk, IfErr, MatchResult};
+ghost use Rattle.bpf_decode.specs.declared.insn.Insn.{Insn};
+ghost use Rattle.bpf_decode.specs.declared.refusal.DecodeFault.TheVariants.{Memory};
+ghost use Rattle.bpf_decode.specs.Faults.{IsCode, IsRefused, FaultyAt, length_fault};
+ghost use Rattle.bpf_decode.specs.Spelling.{spelling, SpelledAt};
+
+use crate::insn::Insn;
+use crate::refusal::{DecodeFault, Refusal};
+use crate::slot::Slot;
+use std::alloc::{AllocError, Global};
+
+/// The bytes of a slot.
+const SLOT: usize = 8;
+
+/// The most slots that code has.
+const MOST_SLOTS: usize = 1024;
+
+/// Reads code: 1 to 1,024 slots that spell instructions (RFC 9669, section 3). A refusal is the
+/// first fault: of the length, or of the first slot that has one.
+pub fn decode_all(alloc: Global, bytes: &[u8]) -> Result<Vec<Insn>, Refusal>
+    // What is read is spelled so.
+    ensures found { IfOk result (λ code. IsCode bytes.now code.items) }
+
+    // What is spelled so is read, unless memory runs out.
+    ensures only { (code : List Insn) → IsCode bytes.now code →
+        MatchResult result (λ found. found.items ≡ code) (λ refusal. refusal.fault ≡ Memory) }
+    ensures refused { IfErr result (λ refusal.
+        (refusal.fault ≡ Memory) ⊎ IsRefused bytes.now refusal.fault refusal.slot) }
+{
+    read_code(alloc, bytes)
+}
+
+fn read_code(alloc: Global, bytes: &[u8]) -> Result<Vec<Insn>, Refusal>
+    ensures found { IfOk result (λ code. IsCode bytes.now code.items) }
+    ensures refused { IfErr result (λ refusal.
+        (refusal.fault ≡ Memory) ⊎ IsRefused bytes.now refusal.fault refusal.slot) }
+{
+    if let Some(fault) = length_fault(bytes.len()) {
+        return Err(Refusal { fault, slot: 0 });
+    }
+    let slots = bytes.len() / SLOT;
+    let mut code = Vec::new(alloc);
+    for slot in 0..slots {
+        let insn = read_slot(bytes, slot)?;
+        code.push(insn)?;
+    }
+    Ok(code)
+}
+
+/// The instruction that one slot spells, or the slot's first fault.
+fn read_slot(bytes: &[u8], slot: usize) -> Result<Insn, Refusal>
+    requires within { 8 * slot + 8 ≤ length bytes.now }
+    requires few { slot < 1024 }
+    ensures found { IfOk result (λ insn. SpelledAt bytes.now slot insn) }
+    ensures refused { IfErr result (λ refusal.
+        (refusal.slot ≡ slot) × FaultyAt bytes.now refusal.fault slot) }
+{
+    let at = slot * SLOT;
+    match Slot::from_bytes(&bytes[at..at + SLOT]).to_insn() {
+        Ok(insn) => Ok(insn),
+        Err(fault) => Err(Refusal {
+            fault,
+            slot: slot as u32,
+        }),
+    }
+}
+
+fn length_fault(bytes: usize) -> Option<DecodeFault>
+    ensures { result ≡ length_fault bytes }
+{
+    if bytes == 0 {
+        Some(DecodeFault::Empty)
+    } else if bytes % SLOT != 0 {
+        Some(DecodeFault::NotSlots)
+    } else if bytes > SLOT * MOST_SLOTS {
+        Some(DecodeFault::TooLong)
+    } else {
+        None
+    }
+}
+
+/// The bytes that spell the instructions.
+pub fn encode_all(alloc: Global, code: &[Insn]) -> Result<Vec<u8>, AllocError>
+    ensures { IfOk result (λ bytes. bytes.items ≡ spelling code.now) }
+{
+    let mut bytes = Vec::new(alloc);
+    for insn in code {
+        bytes.extend_from_slice(&insn.to_slot().to_bytes())?;
+    }
+    Ok(bytes)
+}

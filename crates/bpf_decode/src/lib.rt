@@ -1,0 +1,15 @@
+//! BPF instructions and their encoding in slots of 8 bytes (RFC 9669, section 3), read and written
+//! exactly.
+#![tactic(auto)]
+
+mod code;
+mod insn;
+mod opcode;
+mod refusal;
+mod slot;
+
+pub use code::{decode_all, encode_all};
+pub use insn::{Insn, Reg, Source};
+pub use opcode::{Opcode, SourceKind};
+pub use refusal::{DecodeFault, Refusal};
+pub use slot::Slot;

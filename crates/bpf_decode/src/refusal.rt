@@ -1,0 +1,67 @@
+ghost use Rattle.std.specs.Prelude.{◌≡◌};
+ghost use Rattle.bpf_decode.specs.Faults.{number_of};
+
+use std::alloc::AllocFailed;
+use thiserror::Error;
+
+/// Why bytes are no code. Where several faults stand, the first one is told: first those of the
+/// whole, then slot by slot, at a slot in the order `BadOpcode`, `BadRegister`, `BadOffset`,
+/// `FieldNotZero`.
+#[derive(Clone, Copy, Debug, PartialEq, Eq, Error)]
+pub enum DecodeFault {
+    /// There are no bytes.
+    #[error("Empty")]
+    Empty = 1,
+    /// The number of bytes is no multiple of 8.
+    #[error("NotSlots")]
+    NotSlots = 2,
+    /// There are more than 1,024 slots.
+    #[error("TooLong")]
+    TooLong = 3,
+    /// The opcode is none of this host's.
+    #[error("BadOpcode")]
+    BadOpcode = 4,
+    /// A register number is above 10.
+    #[error("BadRegister")]
+    BadRegister = 5,
+    /// A field without a use is not zero.
+    #[error("FieldNotZero")]
+    FieldNotZero = 6,
+    /// The offset is none that the operation has.
+    #[error("BadOffset")]
+    BadOffset = 9,
+    /// Memory ran out.
+    #[error("Memory")]
+    Memory = 10,
+}
+
+impl DecodeFault {
+    /// The fault's number.
+    pub fn number(&self) -> u8
+        ensures { result ≡ number_of self.now }
+    {
+        *self as u8
+    }
+}
+
+/// A fault and the slot where it stands, counted from 0. For want of memory the slot says nothing.
+#[derive(Clone, Copy, Debug, PartialEq, Eq, Error)]
+#[error("{fault} at {slot}")]
+pub struct Refusal {
+    pub fault: DecodeFault,
+    pub slot: u32,
+}
+
+impl<T: Drop> From<AllocFailed<T>> for Refusal {
+    ghost use Rattle.std.specs.Prelude.{◌≡◌};
+    ghost use Rattle.bpf_decode.specs.declared.refusal.DecodeFault.TheVariants.{Memory};
+
+    ghost from_gives = { λ _ refusal. refusal.fault ≡ Memory };
+
+    fn from(_: AllocFailed<T>) -> Refusal {
+        Refusal {
+            fault: DecodeFault::Memory,
+            slot: 0,
+        }
+    }
+}

@@ -1,0 +1,4 @@
+pub mod Options
+pub mod Places
+pub mod Arrivals
+pub mod Safety

@@ -1,0 +1,2 @@
+-- Accepted code is safe.
+use Rattle.std.proofs.Common.{◌≡◌, ℕ}

@@ -1,0 +1,38 @@
+-- The state at a slot is where all edges to it meet. Edges lead to later slots, so a slot's state depends on earlier
+-- slots alone.
+use Rattle.std.specs.Prelude.{◌≡◌, ℕ, zero, suc, ◌+◌, ◌≤◌, ◌==◌, if◌then◌else◌, List, [], ◌∷◌, ◌++◌, map, filter, Option, Some, None}
+use Rattle.bpf_decode.specs.declared.insn.Insn.{Insn}
+use Rattle.bpf_model.specs.Code.{insn_at}
+use Rattle.bpf_model.specs.State.{State, Edge, start_state, joined, edges, IsOneOf}
+
+abbrev pub edges_of : ℕ → Option State → Option Insn → List Edge
+edges_of slot (Some state) (Some insn) = edges slot state insn
+edges_of slot (Some state) None = []
+edges_of slot None insn = []
+
+-- What these edges know where they lead to this slot.
+abbrev pub carried : ℕ → List Edge → List State
+carried t es = map (λ e. e.state) (filter (λ e. e.target == t) es)
+
+-- What the edges out of the first n slots, and the start, know at slot t.
+abbrev pub arriving : List Insn → ℕ → ℕ → List State
+arriving code zero t = if t == 0 then start_state ∷ [] else []
+arriving code (suc n) t = arriving code n t ++ carried t (edges_of n (joined (arriving code n n)) (insn_at code n))
+
+-- The state at a slot, or none where nothing leads to it.
+abbrev pub state_at : List Insn → ℕ → Option State
+state_at code t = joined (arriving code t t)
+
+-- The edges out of a slot.
+abbrev pub edges_at : List Insn → ℕ → List Edge
+edges_at code slot = edges_of slot (state_at code slot) (insn_at code slot)
+
+-- A path of n edges from slot 0 to slot t.
+abbrev pub Path : List Insn → ℕ → ℕ → Type 0
+Path code zero t = t ≡ 0
+Path code (suc n) t = (s : ℕ) × (e : Edge) × Path code n s × IsOneOf e (edges_at code s) × (e.target ≡ t)
+
+-- The greatest number of instructions on a path: one more than its edges.
+pub record IsBound (code : List Insn) (bound : ℕ) : Type 0 where
+  pub enough : (n t : ℕ) → Path code n t → n + 1 ≤ bound
+  pub met : (n : ℕ) × (t : ℕ) × Path code n t × (bound ≡ n + 1)

@@ -1,0 +1,10 @@
+pub mod Code
+pub mod Machine
+pub mod Step
+pub mod Run
+pub mod State
+pub mod Arrival
+pub mod Verdict
+pub use Rattle.bpf_num.specs.Arithmetic
+pub use Rattle.bpf_decode.specs.Faults
+pub use Rattle.bpf_decode.specs.Spelling

@@ -1,0 +1,78 @@
+-- Which code is accepted, and with which bound; which is refused, and by which first fault.
+use Rattle.std.specs.Prelude.{◌≡◌, ℕ, ◌+◌, ◌<◌, Bool, true, false, not, ◌&&◌, ◌==◌, nat_le, if◌then◌else◌, List, length, Option, Some, None, ◌⊎◌}
+use Rattle.bpf_decode.specs.declared.insn.Insn.{Insn}
+use Rattle.bpf_decode.specs.declared.insn.Insn.TheVariants.{Alu, Exit}
+use Rattle.bpf_decode.specs.declared.refusal.DecodeFault.{DecodeFault}
+use Rattle.bpf_decode.specs.Faults.{IsCode, IsRefused, number_of}
+use Rattle.bpf_model.specs.Code.{slots_of, placed, insn_at}
+use Rattle.bpf_model.specs.State.{State, has_operands}
+use Rattle.bpf_model.specs.Arrival.{state_at, IsBound}
+
+-- The faults behind the decoder's, by their numbers.
+abbrev pub falls_off_end : ℕ
+falls_off_end = 13
+
+abbrev pub writes_frame_pointer : ℕ
+writes_frame_pointer = 15
+
+abbrev pub uninit_register : ℕ
+uninit_register = 16
+
+-- Whether the slot behind an instruction may run next.
+abbrev pub goes_on : Insn → Bool
+goes_on (Alu width op dst src) = true
+goes_on Exit = false
+
+-- Whether an instruction that isn't a store has r10 as its destination.
+abbrev pub writes_r10 : Insn → Bool
+writes_r10 (Alu width op dst src) = dst.number == 10
+writes_r10 Exit = false
+
+-- What is wrong with an instruction at a slot of so many, whether it is reached or not.
+abbrev pub insn_fault : ℕ → ℕ → Insn → Option ℕ
+insn_fault slots slot insn =
+    if goes_on insn && nat_le slots (slot + slots_of insn) then Some falls_off_end
+    else if writes_r10 insn then Some writes_frame_pointer
+    else None
+
+abbrev pub place_fault : ℕ → ℕ → Option Insn → Option ℕ
+place_fault slots slot None = None
+place_fault slots slot (Some insn) = insn_fault slots slot insn
+
+abbrev pub structure_fault : List Insn → ℕ → Option ℕ
+structure_fault code slot = place_fault (length (placed code)) slot (insn_at code slot)
+
+-- What is wrong with an instruction that is reached, given what is known there: an operand that may hold nothing.
+abbrev pub known_fault : Option State → Option Insn → Option ℕ
+known_fault (Some state) (Some insn) = if has_operands state insn then None else Some uninit_register
+known_fault (Some state) None = None
+known_fault None insn = None
+
+abbrev pub visit_fault : List Insn → ℕ → Option ℕ
+visit_fault code slot = known_fault (state_at code slot) (insn_at code slot)
+
+-- The slot is the least that has a fault, and it has this one.
+abbrev pub IsFirst : (ℕ → Option ℕ) → ℕ → ℕ → Type 0
+IsFirst fault_at number slot = (fault_at slot ≡ Some number) × ((k : ℕ) → k < slot → fault_at k ≡ None)
+
+-- Code that is accepted: no slot has a fault, and the bound is that of its longest path.
+pub record IsAccepted (code : List Insn) (bound : ℕ) : Type 0 where
+  pub structure : (slot : ℕ) → structure_fault code slot ≡ None
+  pub visits : (slot : ℕ) → visit_fault code slot ≡ None
+  pub longest : IsBound code bound
+
+-- Code that is refused, for its first fault: of its structure, or else of what is reached.
+abbrev pub IsRejected : List Insn → ℕ → ℕ → Type 0
+IsRejected code number slot =
+    IsFirst (structure_fault code) number slot
+    ⊎ ((k : ℕ) → structure_fault code k ≡ None) × IsFirst (visit_fault code) number slot
+
+-- The verdict on bytes: accepted with a bound.
+abbrev pub Accepts : List ℕ → ℕ → Type 0
+Accepts bytes bound = (code : List Insn) × IsCode bytes code × IsAccepted code bound
+
+-- The verdict on bytes: refused, with the number of the first fault and its slot. The decoder's come first.
+abbrev pub Refuses : List ℕ → ℕ → ℕ → Type 0
+Refuses bytes number slot =
+    ((fault : DecodeFault) × IsRefused bytes fault slot × (number ≡ number_of fault))
+    ⊎ ((code : List Insn) × IsCode bytes code × IsRejected code number slot)
