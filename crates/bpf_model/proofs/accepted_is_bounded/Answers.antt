@@ -1,0 +1,5 @@
+use Rattle.bpf_model.proofs.Safety.{bounded}
+use Rattle.bpf_model.proofs.accepted_is_bounded.Goals as goal
+
+pub returns : goal.returns
+returns c = λ bytes code bound is accepted. bounded bytes code bound is accepted

@@ -1,0 +1,5 @@
+use Rattle.bpf_model.proofs.Safety.{safe}
+use Rattle.bpf_model.proofs.accepted_is_safe.Goals as goal
+
+pub returns : goal.returns
+returns c = λ bytes code bound is accepted. safe bytes code bound is accepted
