@@ -92,7 +92,7 @@ exit_step m state means h alone =
     (a.0, exit_effect m a.0 a.1 alone)
 
 -- where an edge comes from and leads to
-edge_from : (s : ℕ) (o : Option State) (i : Option Insn) (e : Edge) → IsOneOf e (edges_of s o i) → (state : State) × (x : Insn) × (o ≡ Some state) × (i ≡ Some x) × (goes_on x ≡ true) × (e.target ≡ s + slots_of x)
+pub edge_from : (s : ℕ) (o : Option State) (i : Option Insn) (e : Edge) → IsOneOf e (edges_of s o i) → (state : State) × (x : Insn) × (o ≡ Some state) × (i ≡ Some x) × (goes_on x ≡ true) × (e.target ≡ s + slots_of x)
 edge_from s None i e h = absurd h
 edge_from s (Some state) None e h = absurd h
 edge_from s (Some state) (Some Exit) e h = absurd h

@@ -1,0 +1,222 @@
+-- Code without jumps: the one edge out of an instruction leads to the next slot.
+use Rattle.std.proofs.Common.{◌≡◌, ◌≢◌, ◌⊎◌, ℕ, zero, suc, ◌+◌, ◌-◌, ◌*◌, ◌<◌, ◌≤◌, Bool, true, false, ◌&&◌, ◌||◌, cond, eqb, leb, List, [], ◌∷◌, ◌++◌, length, get_or, Option, Some, None, refl, sym, ap, subst, ◌∙◌, arith, inl, inr, map, filter, append_assoc}
+use Rattle.std.specs.Prelude.{slice_get}
+use Rattle.std.proofs.lemmas.Bool.{leb-false, eqb-true, eq-eqb, cases_lt}
+use Rattle.std.proofs.lemmas.Option.{slice_get-get_or}
+use Rattle.std.specs.FinSet as set
+use Rattle.bpf_decode.specs.declared.insn.Insn.{Insn}
+use Rattle.bpf_decode.specs.declared.insn.Insn.TheVariants.{Alu, Exit}
+use Rattle.bpf_num.specs.declared.AluOp.{AluOp}
+use Rattle.bpf_num.specs.declared.AluWidth.{AluWidth}
+use Rattle.bpf_decode.specs.declared.insn.Reg.{Reg}
+use Rattle.bpf_decode.specs.declared.insn.Source.{Source}
+use Rattle.bpf_model.proofs.Options.{neither}
+use Rattle.bpf_model.specs.Code.{slots_of, placed, insn_at}
+use Rattle.bpf_model.specs.State.{State, Edge, start_state, edges, joined, has_operands, IsOneOf}
+use Rattle.bpf_model.specs.Arrival.{edges_of, carried, arriving, state_at, edges_at, Path, IsBound}
+use Rattle.bpf_model.specs.Verdict.{writes_r10, falls_off_end, writes_frame_pointer, IsFirst, IsAccepted, insn_fault, place_fault, structure_fault, known_fault, visit_fault, uninit_register}
+use Rattle.bpf_model.proofs.Places.{one_slot, length-placed, insn_at-is}
+use Rattle.bpf_model.proofs.Safety.{edge_from, safe, bounded}
+use Rattle.bpf_decode.specs.Faults.{IsCode}
+use Rattle.bpf_decode.proofs.Spellings.{same_code}
+use Rattle.bpf_model.specs.Run.{IsSafe}
+use Rattle.bpf_verifier.specs.Verified.{IsProcedure}
+use Rattle.bpf_verifier.specs.Present.{Shows}
+
+-- ---- places
+
+pub place_is : (code : List Insn) (slot : ℕ) (x : Insn) → slot < length code → x ≡ get_or code slot x → insn_at code slot ≡ Some x
+place_is code slot x h e = insn_at-is code slot ∙ slice_get-get_or code slot x h ∙ ap Some (sym e)
+
+nothing_there : (code : List Insn) (k : ℕ) → length code ≤ k → slice_get code k ≡ None
+nothing_there [] k h = refl
+nothing_there (x ∷ xs) zero h = absurd (omega arith)
+nothing_there (x ∷ xs) (suc k) h = nothing_there xs k (omega arith)
+
+nothing_past : (code : List Insn) (k : ℕ) → length code ≤ k → insn_at code k ≡ None
+nothing_past code k h = insn_at-is code k ∙ nothing_there code k h
+
+-- ---- structure
+
+pub structure_is : (code : List Insn) (slot : ℕ) (x : Insn) → insn_at code slot ≡ Some x → structure_fault code slot ≡ insn_fault (length code) slot x
+structure_is code slot x e =
+    ap (place_fault (length (placed code)) slot) e ∙ ap (λ (n : ℕ). insn_fault n slot x) (length-placed code)
+
+pub structure_past : (code : List Insn) (k : ℕ) → length code ≤ k → structure_fault code k ≡ None
+structure_past code k h = ap (place_fault (length (placed code)) k) (nothing_past code k h)
+
+pub structure_whole : (code : List Insn) → ((k : ℕ) → k < length code → structure_fault code k ≡ None) → (k : ℕ) → structure_fault code k ≡ None
+structure_whole code below k =
+    elim (cases_lt k (length code)) [ inl lt ↦ below k lt | inr le ↦ structure_past code k le ]
+
+pub structure_more : (code : List Insn) (slot : ℕ) → ((k : ℕ) → k < slot → structure_fault code k ≡ None) → structure_fault code slot ≡ None → (k : ℕ) → k < slot + 1 → structure_fault code k ≡ None
+structure_more code slot below here k h =
+    elim (cases_lt k slot) [
+      | inl lt ↦ below k lt
+      | inr le ↦ let same : slot ≡ k = omega arith in subst (λ (j : ℕ). structure_fault code j ≡ None) same here
+    ]
+
+-- ---- states
+
+-- an edge leads to the next slot
+next_slot : (code : List Insn) (s : ℕ) (e : Edge) → IsOneOf e (edges_at code s) → e.target ≡ suc s
+next_slot code s e h =
+    let from = edge_from s (state_at code s) (insn_at code s) e h in
+    let lands = from.5 in
+    let one = one_slot from.1 in omega arith
+
+none_carried : (t : ℕ) (es : List Edge) → ((e : Edge) → IsOneOf e es → e.target ≢ t) → carried t es ≡ []
+none_carried t [] h = refl
+none_carried t (e ∷ es) h =
+    let later = none_carried t es (λ d one. h d (inr one)) in
+    let away : eqb e.target t ≡ false = test (eqb e.target t) refl in
+    rw away later where
+      test : (b : Bool) → eqb e.target t ≡ b → eqb e.target t ≡ false
+      test true p = absurd (h e (inl refl) (eqb-true _ _ p))
+      test false p = p
+
+not_first : (t : ℕ) → eqb (suc t) 0 ≡ false
+not_first t = cases (eqb (suc t) 0) refl where
+  cases : (b : Bool) → eqb (suc t) 0 ≡ b → eqb (suc t) 0 ≡ false
+  cases true e = let same = eqb-true (suc t) 0 e in absurd (omega arith)
+  cases false e = e
+
+none_arriving : (code : List Insn) (n t : ℕ) → n ≤ t → arriving code n (suc t) ≡ []
+none_arriving code zero t h = ap (λ (b : Bool). cond b (start_state ∷ []) []) (not_first t)
+none_arriving code (suc n) t h =
+    let before = none_arriving code n t (omega arith) in
+    let here = none_carried (suc t) (edges_at code n) (λ e one same. let e-is = next_slot code n e one in absurd (omega arith)) in
+    rw (before, here) refl
+
+-- the state at the next slot is what the edges out of this one carry
+pub state_next : (code : List Insn) (t : ℕ) → state_at code (suc t) ≡ joined (carried (suc t) (edges_at code t))
+state_next code t = ap (λ (xs : List State). joined (xs ++ carried (suc t) (edges_at code t))) (none_arriving code t t (omega arith))
+
+-- nothing is known behind an exit, since nothing leads there
+none_after : (code : List Insn) (slot : ℕ) → edges_at code slot ≡ [] → (d : ℕ) → state_at code (suc (slot + d)) ≡ None
+none_after code slot e zero =
+    let at : slot + 0 ≡ slot = omega arith in
+    subst (λ (k : ℕ). state_at code (suc k) ≡ None) (sym at) (state_next code slot ∙ ap (λ (es : List Edge). joined (carried (suc slot) es)) e)
+none_after code slot e (suc d) =
+    let at : slot + suc d ≡ suc (slot + d) = omega arith in
+    let before = none_after code slot e d in
+    let idle : edges_at code (suc (slot + d)) ≡ [] = ap (λ (o : Option State). edges_of (suc (slot + d)) o (insn_at code (suc (slot + d)))) before in
+    subst (λ (k : ℕ). state_at code (suc k) ≡ None) (sym at) (state_next code (suc (slot + d)) ∙ ap (λ (es : List Edge). joined (carried (suc (suc (slot + d))) es)) idle)
+
+-- ---- the pass
+
+-- what the pass has found as it comes to a slot
+pub record Passed (code : List Insn) (slot : ℕ) (flags : List Bool) : Type 0 where
+  pub state : State
+  pub here : state_at code slot ≡ Some state
+  pub shown : Shows flags state
+  pub before : (k : ℕ) → k < slot → visit_fault code k ≡ None
+  pub path : Path code slot slot
+  pub inside : slot < length code
+
+pub passed_none : (code : List Insn) (flags : List Bool) → 0 < length code → Shows flags start_state → Passed code 0 flags
+passed_none code flags some shown =
+    record { state = start_state; here = refl; shown = shown; before = λ k h. absurd (omega arith); path = refl; inside = some }
+
+module _ (code : List Insn) (slot : ℕ) (flags : List Bool) (p : Passed code slot flags) where
+  visited : (x : Insn) → insn_at code slot ≡ Some x → visit_fault code slot ≡ known_fault (Some p.state) (Some x)
+  visited x is = ap (λ (o : Option State). known_fault o (insn_at code slot)) p.here ∙ ap (known_fault (Some p.state)) is
+
+  leaving : (x : Insn) → insn_at code slot ≡ Some x → edges_at code slot ≡ edges slot p.state x
+  leaving x is = ap (λ (o : Option State). edges_of slot o (insn_at code slot)) p.here ∙ ap (edges_of slot (Some p.state)) is
+
+  pub absent : (x : Insn) → insn_at code slot ≡ Some x → has_operands p.state x ≡ false → IsFirst (visit_fault code) uninit_register slot
+  absent x is lacks = (visited x is ∙ ap (λ (b : Bool). cond b None (Some uninit_register)) lacks, p.before)
+
+  present : (x : Insn) → insn_at code slot ≡ Some x → has_operands p.state x ≡ true → visit_fault code slot ≡ None
+  present x is has = visited x is ∙ ap (λ (b : Bool). cond b None (Some uninit_register)) has
+
+  -- an exit ends the pass
+  pub exit_right : insn_at code slot ≡ Some Exit → has_operands p.state Exit ≡ true → (k : ℕ) → visit_fault code k ≡ None
+  exit_right is has k =
+      elim (cases_lt k slot) [
+        | inl lt ↦ p.before k lt
+        | inr le ↦ elim (cases_lt slot k) [
+          | inl gt ↦
+              let at : suc (slot + (k - suc slot)) ≡ k = omega arith in
+              let none = subst (λ (j : ℕ). state_at code j ≡ None) at (none_after code slot (leaving Exit is) (k - suc slot)) in
+              ap (λ (o : Option State). known_fault o (insn_at code k)) none
+          | inr ge ↦ let same : slot ≡ k = omega arith in subst (λ (j : ℕ). visit_fault code j ≡ None) same (present Exit is has)
+        ]
+      ]
+
+  path_line : (n t : ℕ) → Path code n t → t ≡ n
+  path_line zero t e = e
+  path_line (suc n) t (s, e, path, one, target) =
+      let before = path_line n s path in
+      let lands = next_slot code s e one in omega arith
+
+  path_short : edges_at code slot ≡ [] → (n t : ℕ) → Path code n t → n ≤ slot
+  path_short out zero t e = omega arith
+  path_short out (suc n) t (s, e, path, one, target) =
+      let before = path_short out n s path in
+      let line = path_line n s path in
+      elim (cases_lt n slot) [
+        | inl lt ↦ omega arith
+        | inr le ↦
+            let same : s ≡ slot = omega arith in
+            absurd (subst (λ (es : List Edge). IsOneOf e es) out (subst (λ (k : ℕ). IsOneOf e (edges_at code k)) same one))
+      ]
+
+  pub exit_bound : insn_at code slot ≡ Some Exit → IsBound code (slot + 1)
+  exit_bound is = record {
+    enough = λ n t path. let short = path_short (leaving Exit is) n t path in omega arith;
+    met = (slot, slot, p.path, refl);
+  }
+
+  -- another instruction leads to the next slot
+  pub passed_more : (x : Insn) (d : ℕ) (next : List Bool) → insn_at code slot ≡ Some x → has_operands p.state x ≡ true → edges slot p.state x ≡ record { target = slot + slots_of x; state = record { present = set.insert p.state.present d } } ∷ [] → suc slot < length code → Shows next (record { present = set.insert p.state.present d }) → Passed code (slot + 1) next
+  passed_more x d next is has edge-is inside shown =
+      let at : suc slot ≡ slot + 1 = omega arith in
+      let one = one_slot x in
+      let lands : slot + slots_of x ≡ suc slot = omega arith in
+      let state : State = record { present = set.insert p.state.present d } in
+      let edge : Edge = record { target = slot + slots_of x; state = state } in
+      let out : edges_at code slot ≡ edge ∷ [] = leaving x is ∙ edge-is in
+      let test : eqb (slot + slots_of x) (suc slot) ≡ true = eq-eqb _ _ lands in
+      let carry : carried (suc slot) (edge ∷ []) ≡ state ∷ [] = rw test refl in
+      subst (λ (k : ℕ). Passed code k next) at (record {
+        state = state;
+        here = state_next code slot ∙ ap (λ (es : List Edge). joined (carried (suc slot) es)) out ∙ ap joined carry;
+        shown = shown;
+        before = λ k h. elim (cases_lt k slot) [
+          | inl lt ↦ p.before k lt
+          | inr le ↦ let same : slot ≡ k = omega arith in subst (λ (j : ℕ). visit_fault code j ≡ None) same (present x is has)
+        ];
+        path = (slot, edge, p.path, subst (λ (es : List Edge). IsOneOf edge es) (sym out) (inl refl), lands);
+        inside = inside;
+      })
+
+-- ---- the verdict
+
+-- what the two passes find together
+pub accepted_by : (code a b : List Insn) (bound : ℕ) → a ≡ code → b ≡ code → ((k : ℕ) → structure_fault a k ≡ None) → ((k : ℕ) → visit_fault b k ≡ None) → IsBound b bound → IsAccepted code bound
+accepted_by code a b bound is-a is-b structure visits longest = record {
+  structure = subst (λ (c : List Insn). (k : ℕ) → structure_fault c k ≡ None) is-a structure;
+  visits = subst (λ (c : List Insn). (k : ℕ) → visit_fault c k ≡ None) is-b visits;
+  longest = subst (λ (c : List Insn). IsBound c bound) is-b longest;
+}
+
+-- code that was accepted makes a procedure
+pub procedure_of : (bytes : List ℕ) (code : List Insn) (bound : ℕ) → IsCode bytes code → IsAccepted code bound → IsProcedure bytes code bound
+procedure_of bytes code bound is accepted =
+    record { is_code = is; safe = safe bytes code bound is accepted; small = bounded bytes code bound is accepted }
+
+pub safe_of : (bytes : List ℕ) (code : List Insn) (bound : ℕ) → IsProcedure bytes code bound → (insns : List Insn) → IsCode bytes insns → IsSafe insns bound
+safe_of bytes code bound p insns is =
+    subst (λ (c : List Insn). IsSafe c bound) (same_code bytes code insns p.is_code is) p.safe
+
+-- an instruction that goes on is not the last
+pub alu_inside : (code : List Insn) (slot : ℕ) (width : AluWidth) (op : AluOp) (dst : Reg) (src : Source) → insn_at code slot ≡ Some (Alu width op dst src) → structure_fault code slot ≡ None → suc slot < length code
+alu_inside code slot width op dst src is none =
+    let x : Insn = Alu width op dst src in
+    let stands : insn_fault (length code) slot x ≡ None = sym (structure_is code slot x is) ∙ none in
+    let both = neither (leb (length code) (slot + slots_of x)) (writes_r10 x) falls_off_end writes_frame_pointer stands in
+    let one = one_slot x in
+    let before = leb-false _ _ both.0 in
+    omega arith

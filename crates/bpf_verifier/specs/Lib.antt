@@ -1,0 +1,5 @@
+pub mod Faults
+pub mod Present
+pub mod Verified
+pub use Rattle.bpf_model.specs.Run
+pub use Rattle.bpf_model.specs.Verdict
