@@ -1,0 +1,93 @@
+use bpf_verifier::{Refusal, VerifyFault};
+use std::alloc::{AllocError, AllocFailed};
+use std::io;
+use thiserror::Error;
+
+/// Why a command ended early. Its text is the line that is written, if one is.
+#[derive(Debug, Drop, Error)]
+pub enum Failure {
+    /// The input is longer than the program reads.
+    #[error("input too long")]
+    InputTooLong,
+    /// The input, or an option's value, is no hex.
+    #[error("input not hex")]
+    NotHex,
+    /// There are more argument bytes than a call has.
+    #[error("args too long")]
+    ArgsTooLong,
+    /// The code was refused.
+    #[error("refused {} {} at {}", .0.fault.number(), .0.fault, .0.slot)]
+    Refused(Refusal),
+    /// The words of the command line are wrong, or ask for help.
+    #[error("{0}")]
+    CommandLine(clap::Error),
+    /// Memory ran out.
+    #[error("out of memory")]
+    Memory,
+    /// A read or a write failed.
+    #[error("{0}")]
+    Stream(io::Error),
+}
+
+impl Failure {
+    /// The status with which the program ends.
+    pub fn status(&self) -> u8 {
+        match self {
+            Failure::InputTooLong | Failure::NotHex | Failure::ArgsTooLong | Failure::Refused(_) =>
+                1,
+            Failure::CommandLine(_) => 2,
+            Failure::Memory => 3,
+            Failure::Stream(_) => 4,
+        }
+    }
+
+    /// Whether its text is written: want of memory and a broken stream say no more.
+    pub fn is_told(&self) -> bool {
+        self.status() < 3
+    }
+}
+
+impl From<AllocError> for Failure {
+    fn from(_: AllocError) -> Failure {
+        Failure::Memory
+    }
+}
+
+impl<T: Drop> From<AllocFailed<T>> for Failure {
+    fn from(_: AllocFailed<T>) -> Failure {
+        Failure::Memory
+    }
+}
+
+impl From<io::Error> for Failure {
+    fn from(error: io::Error) -> Failure {
+        Failure::Stream(error)
+    }
+}
+
+impl From<Refusal> for Failure {
+    fn from(refusal: Refusal) -> Failure {
+        match refusal.fault {
+            VerifyFault::Memory => Failure::Memory,
+            _ => Failure::Refused(refusal),
+        }
+    }
+}
+
+impl From<clap::Error> for Failure {
+    fn from(error: clap::Error) -> Failure {
+        match error.kind() {
+            clap::error::ErrorKind::OutOfMemory => Failure::Memory,
+            _ => Failure::CommandLine(error),
+        }
+    }
+}
+
+impl From<hex::FromHexError> for Failure {
+    fn from(error: hex::FromHexError) -> Failure {
+        match error {
+            hex::FromHexError::OutOfMemory => Failure::Memory,
+            _ => Failure::NotHex,
+        }
+    }
+}

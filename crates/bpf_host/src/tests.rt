@@ -1,0 +1,213 @@
+use crate::command::run_command;
+use std::io::{self, Read, Write};
+use std::test::Fail;
+
+/// Words, input, status and output of a run.
+type Case<'a> = (&'a [&'a str], &'a str, u8, &'a str);
+
+#[test]
+fn runs_of_the_program(rt: HostRuntime) -> Result<(), Fail> {
+    let long_args = "00".repeat(rt.alloc(), 257)?;
+    let cases: [Case; 20] = [
+        (
+            &["bpf_host"],
+            "b700000007000000 9500000000000000\n",
+            0,
+            "accepted bound 2\nresult 7\nsteps 2\nout -\n",
+        ),
+        (
+            &["bpf_host", "exec"],
+            "B700000007000000\t9500000000000000\r\n",
+            0,
+            "accepted bound 2\nresult 7\nsteps 2\nout -\n",
+        ),
+        (
+            &["bpf_host", "exec", "--args", "0a 0b0C"],
+            "bf200000000000009500000000000000",
+            0,
+            "accepted bound 2\nresult 3\nsteps 2\nout -\n",
+        ),
+        (
+            &["bpf_host", "exec"],
+            "b7000000ffffffff9500000000000000",
+            0,
+            "accepted bound 2\nresult 18446744073709551615\nsteps 2\nout -\n",
+        ),
+        (
+            &["bpf_host", "exec", "--client", "4294967295"],
+            "b4000000ffffffff9500000000000000",
+            0,
+            "accepted bound 2\nresult 4294967295\nsteps 2\nout -\n",
+        ),
+        (
+            &["bpf_host", "verify"],
+            "b7000000070000009500000000000000",
+            0,
+            "accepted bound 2\n",
+        ),
+        (
+            &["bpf_host", "exec"],
+            "bf300000000000009500000000000000",
+            1,
+            "refused 16 UninitRegister at 0\n",
+        ),
+        (
+            &["bpf_host", "verify"],
+            "b70a0000000000009500000000000000",
+            1,
+            "refused 15 WritesFramePointer at 0\n",
+        ),
+        (
+            &["bpf_host", "verify"],
+            "b700000000000000",
+            1,
+            "refused 13 FallsOffEnd at 0\n",
+        ),
+        (&["bpf_host", "verify"], "", 1, "refused 1 Empty at 0\n"),
+        (
+            &["bpf_host", "verify"],
+            "000000000000000000000000",
+            1,
+            "refused 2 NotSlots at 0\n",
+        ),
+        (
+            &["bpf_host", "verify"],
+            "0700000000000000ff00000000000000",
+            1,
+            "refused 4 BadOpcode at 1\n",
+        ),
+        (
+            &["bpf_host", "verify"],
+            "b70b0000000000009500000000000000",
+            1,
+            "refused 5 BadRegister at 0\n",
+        ),
+        (
+            &["bpf_host", "verify"],
+            "b7100000000000009500000000000000",
+            1,
+            "refused 6 FieldNotZero at 0\n",
+        ),
+        (
+            &["bpf_host", "verify"],
+            "b7000800000000009500000000000000",
+            1,
+            "refused 9 BadOffset at 0\n",
+        ),
+        (&["bpf_host", "exec"], "b7000", 1, "input not hex\n"),
+        (&["bpf_host", "exec"], "b7 0x", 1, "input not hex\n"),
+        (
+            &["bpf_host", "exec", "--args", "0"],
+            "00",
+            1,
+            "input not hex\n",
+        ),
+        (
+            &["bpf_host", "exec", "--args", long_args.as_str()],
+            "00",
+            1,
+            "args too long\n",
+        ),
+        (
+            &["bpf_host", "exec", "--args", "0", "--client", "16"],
+            "0",
+            1,
+            "input not hex\n",
+        ),
+    ];
+    for (words, input, status, output) in cases {
+        let mut written = Vec::new(rt.alloc());
+        let mut reader = input.as_bytes();
+        let got = run_command(&rt, words, &mut reader, &mut written);
+        assert_eq!(rt; got, status, "{words:?} on {input:?}");
+        assert_eq!(rt;
+            written.as_slice(),
+            output.as_bytes(),
+            "{words:?} on {input:?}"
+        );
+    }
+    Ok(())
+}
+
+#[test]
+fn faults_of_the_command_line(rt: HostRuntime) {
+    let cases: [&[&str]; 6] = [
+        &["bpf_host", "exec", "--client", "4294967296"],
+        &["bpf_host", "exec", "--client", "-1"],
+        &["bpf_host", "walk"],
+        &["bpf_host", "--args", "00"],
+        &["bpf_host", "verify", "--args", "00"],
+        &["bpf_host", "--help"],
+    ];
+    for words in cases {
+        let mut written = Vec::new(rt.alloc());
+        let mut reader = "".as_bytes();
+        let got = run_command(&rt, words, &mut reader, &mut written);
+        assert_eq!(rt; got, 2, "{words:?}");
+        assert!(rt; !written.is_empty(), "{words:?}");
+    }
+}
+
+#[test]
+fn lengths_of_the_input(rt: HostRuntime) -> Result<(), Fail> {
+    let slots = "b700000000000000".repeat(rt.alloc(), 1025)?;
+    let blanks = " ".repeat(rt.alloc(), 1_048_576)?;
+    let more = " ".repeat(rt.alloc(), 1_048_577)?;
+    let cases = [
+        (slots.as_str(), "refused 3 TooLong at 0\n"),
+        (blanks.as_str(), "refused 1 Empty at 0\n"),
+        (more.as_str(), "input too long\n"),
+    ];
+    for (input, output) in cases {
+        let mut written = Vec::new(rt.alloc());
+        let mut reader = input.as_bytes();
+        let got = run_command(&rt, &["bpf_host", "verify"], &mut reader, &mut written);
+        assert_eq!(rt; got, 1, "{output}");
+        assert_eq!(rt; written.as_slice(), output.as_bytes());
+    }
+    Ok(())
+}
+
+/// Gives two digits at its first read, and fails at the second.
+#[derive(Drop)]
+struct Breaks {
+    reads: u32,
+}
+
+impl Read for Breaks {
+    fn read(&mut self, buf: &mut [u8]) -> io::Result<usize> {
+        self.reads = self.reads.saturating_add(1);
+        if self.reads > 1 || buf.len() < 2 {
+            return Err(io::Error::from(io::ErrorKind::Other));
+        }
+        buf[0] = b'b';
+        buf[1] = b'7';
+        Ok(2)
+    }
+}
+
+/// Fails at its first write.
+#[derive(Drop)]
+struct Closed;
+
+impl Write for Closed {
+    fn write(&mut self, _: &[u8]) -> io::Result<usize> {
+        Err(io::Error::from(io::ErrorKind::BrokenPipe))
+    }
+
+    fn flush(&mut self) -> io::Result<()> {
+        Ok(())
+    }
+}
+
+#[test]
+fn streams_that_fail(rt: HostRuntime) {
+    let mut written = Vec::new(rt.alloc());
+    let got = run_command(&rt, &["bpf_host"], &mut Breaks { reads: 0 }, &mut written);
+    assert_eq!(rt; got, 4);
+    assert!(rt; written.is_empty());
+    for input in ["b7000000070000009500000000000000", "b7", "x"] {
+        let got = run_command(&rt, &["bpf_host"], &mut input.as_bytes(), &mut Closed);
+        assert_eq!(rt; got, 4, "on {input}");
+    }
+}
