@@ -31,7 +31,7 @@ pub enum Failure {
 
 impl Failure {
     /// The status with which the program ends.
-    pub fn status(&self) -> u8 {
+    pub(crate) fn status(&self) -> u8 {
         match self {
             Failure::InputTooLong | Failure::NotHex | Failure::ArgsTooLong | Failure::Refused(_) =>
                 1,
@@ -42,7 +42,7 @@ impl Failure {
     }
 
     /// Whether its text is written: want of memory and a broken stream say no more.
-    pub fn is_told(&self) -> bool {
+    pub(crate) fn is_told(&self) -> bool {
         self.status() < 3
     }
 }

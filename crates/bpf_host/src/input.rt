@@ -9,7 +9,7 @@ const MOST_INPUT: usize = 1_048_576;
 const CHUNK: usize = 4096;
 
 /// Reads to the end, or refuses what is longer than the program takes.
-pub fn read_input<I: Read>(alloc: Global, reader: &mut I) -> Result<Vec<u8>, Failure> {
+pub(crate) fn read_input<I: Read>(alloc: Global, reader: &mut I) -> Result<Vec<u8>, Failure> {
     let mut input = Vec::new(alloc);
     let mut chunk = [0; CHUNK];
     for _ in 0..=MOST_INPUT {
@@ -26,7 +26,7 @@ pub fn read_input<I: Read>(alloc: Global, reader: &mut I) -> Result<Vec<u8>, Fai
 }
 
 /// The bytes that hex digits of either case spell; spaces, tabs and line ends are passed over.
-pub fn read_hex(alloc: Global, text: &[u8]) -> Result<Vec<u8>, Failure> {
+pub(crate) fn read_hex(alloc: Global, text: &[u8]) -> Result<Vec<u8>, Failure> {
     let mut digits = Vec::new(alloc);
     for byte in text {
         if !matches!(*byte, b' ' | b'\t' | b'\r' | b'\n') {

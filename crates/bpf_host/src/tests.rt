@@ -1,4 +1,5 @@
 use crate::command::run_command;
+use bpf_decode::{decode_all, encode_all};
 use std::io::{self, Read, Write};
 use std::test::Fail;
 
@@ -210,4 +211,17 @@ fn streams_that_fail(rt: HostRuntime) {
         let got = run_command(&rt, &["bpf_host"], &mut input.as_bytes(), &mut Closed);
         assert_eq!(rt; got, 4, "on {input}");
     }
+}
+
+#[test]
+fn code_is_written_as_it_was_read(rt: HostRuntime) -> Result<(), Fail> {
+    let bytes = hex::decode(
+        rt.alloc(),
+        "0403000007000000bc12000000000000b701000080ffffff0f210000000000009500000000000000",
+    )?;
+    let code = decode_all(rt.alloc(), &bytes)?;
+    assert_eq!(rt; code.len(), 5);
+    let written = encode_all(rt.alloc(), &code)?;
+    assert_eq!(rt; written.as_slice(), bytes.as_slice());
+    Ok(())
 }

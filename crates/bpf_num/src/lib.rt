@@ -37,10 +37,11 @@ pub fn alu64(op: AluOp, dst: u64, src: u64) -> u64
 pub fn alu32(op: AluOp, dst: u64, src: u64) -> u64
     ensures { result ≡ alu32_of op dst src }
 {
-    let dst = (dst & 0xffff_ffff) as u32;
-    let src = (src & 0xffff_ffff) as u32;
-    u64::from(match op {
-        AluOp::Add => dst.wrapping_add(src),
-        AluOp::Mov => src,
-    })
+    let a = (dst & 0xffff_ffff) as u32;
+    let b = (src & 0xffff_ffff) as u32;
+    let low = match op {
+        AluOp::Add => a.wrapping_add(b),
+        AluOp::Mov => b,
+    };
+    u64::from(low)
 }
