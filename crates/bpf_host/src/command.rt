@@ -16,9 +16,9 @@ const MOST_ARGUMENTS: usize = 256;
 /// Does what the words ask for, the program's name the first of them, and answers the status: 0 done,
 /// 1 a refusal, 2 a fault of the command line, 3 want of memory, 4 a read or a write that failed. All
 /// lines, faults too, go to the writer.
-pub fn run_command<R: AllocGlobal, I: Read, O: Write>(
+pub fn run_command<'a, R: AllocGlobal, I: Read, O: Write>(
     rt: &R,
-    words: &[&str],
+    words: &'a [&'a str],
     reader: &mut I,
     writer: &mut O,
 ) -> u8 {
@@ -41,7 +41,7 @@ fn tell<O: Write>(alloc: Global, failure: &Failure, writer: &mut O) -> Result<()
 }
 
 /// The commands and their options.
-fn command_line(alloc: Global) -> Result<Command<'static>, AllocError> {
+fn command_line<'a>(alloc: Global) -> Result<Command<'a>, AllocError> {
     let arguments = Arg::new(alloc, "args")
         .long("args")
         .value_name("HEX")
@@ -62,9 +62,9 @@ fn command_line(alloc: Global) -> Result<Command<'static>, AllocError> {
         .subcommand(exec)
 }
 
-fn dispatch<I: Read, O: Write>(
+fn dispatch<'a, I: Read, O: Write>(
     alloc: Global,
-    words: &[&str],
+    words: &'a [&'a str],
     reader: &mut I,
     writer: &mut O,
 ) -> Result<(), Failure> {
