@@ -1,5 +1,5 @@
-/* Preloaded beside the program: refuses the one allocation whose number, from 1, stands in REFUSE, and then makes the
-   file that REFUSED names. Allocations before main are passed on and not counted. */
+/* Preloaded beside the program: refuses the allocation whose number, from 1, stands in REFUSE, and makes the file that
+   REFUSED names. Where ONCE is set, later allocations are passed on; else all of them are refused too. */
 #define _GNU_SOURCE
 #include <dlfcn.h>
 #include <errno.h>
@@ -8,6 +8,7 @@
 #include <unistd.h>
 
 static long number, wanted;
+static int once;
 static void *(*real_malloc)(size_t);
 static void *(*real_realloc)(void *, size_t);
 static void *(*real_calloc)(size_t, size_t);
@@ -22,11 +23,12 @@ __attribute__((constructor)) static void begin(void) {
   real_posix_memalign = dlsym(RTLD_NEXT, "posix_memalign");
   const char *text = getenv("REFUSE");
   wanted = text ? atol(text) : 0;
+  once = getenv("ONCE") != NULL;
   number = 0;
 }
 
 static int refused(void) {
-  if (wanted == 0 || ++number != wanted) return 0;
+  if (wanted == 0 || ++number < wanted || (once && number > wanted)) return 0;
   const char *file = getenv("REFUSED");
   if (file) close(open(file, O_CREAT | O_WRONLY, 0600));
   errno = ENOMEM;

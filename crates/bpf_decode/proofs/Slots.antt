@@ -1,24 +1,21 @@
 -- The 8 bytes of a slot give its fields back, and the other way round; an instruction and its slot likewise.
-use Rattle.std.proofs.Common.{◌≡◌, ◌≢◌, ℕ, zero, suc, ◌+◌, ◌*◌, ◌/◌, ◌%◌, ◌^◌, ◌<◌, ◌≤◌, Bool, true, false, cond, List, [], ◌∷◌, ◌++◌, length, get_or, take, drop, Option, Some, None, ℤ, pos, refl, sym, ap, subst, ◌∙◌, append_assoc, arith, inl, inr, bit_and, FitsSigned}
-use Rattle.std.specs.Int.{w16, w32, to_le_bytes, cast_unsigned, cast_signed}
+use Rattle.std.proofs.Common.{◌≡◌, ℕ, ◌+◌, ◌*◌, ◌/◌, ◌%◌, ◌^◌, ◌<◌, ◌≤◌, List, [], ◌∷◌, length, get_or, Some, ℤ, pos, refl, sym, ap, subst, ◌∙◌, arith, bit_and}
+use Rattle.std.specs.Int.{w16, w32, cast_unsigned, cast_signed}
 use Rattle.std.proofs.Math.Bridge.{le_prop}
-use Rattle.std.proofs.lemmas.Bool.{le-ltb}
 use Rattle.std.proofs.lemmas.Nat.{and_mask}
-use Rattle.std.proofs.lemmas.Int.{of_z-to_z, to_z-of_z}
+use Rattle.std.proofs.lemmas.Int.{of_z-to_z}
 use Rattle.bpf_num.specs.declared.AluOp.TheVariants.{Add, Mov}
 use Rattle.bpf_num.specs.declared.AluWidth.TheVariants.{W32, W64}
 use Rattle.bpf_decode.specs.declared.insn.Insn.{Insn}
 use Rattle.bpf_decode.specs.declared.insn.Insn.TheVariants.{Alu, Exit}
 use Rattle.bpf_decode.specs.declared.insn.Reg.{Reg}
-use Rattle.bpf_decode.specs.declared.insn.Source.{Source}
 use Rattle.bpf_decode.specs.declared.insn.Source.TheVariants as source
 use Rattle.bpf_decode.specs.declared.opcode.Opcode.{Opcode}
 use Rattle.bpf_decode.specs.declared.opcode.Opcode.TheVariants as opcode
 use Rattle.bpf_decode.specs.declared.opcode.SourceKind.TheVariants.{K, X}
 use Rattle.bpf_decode.specs.declared.slot.Slot.{Slot}
 use Rattle.bpf_decode.specs.Opcodes.{opcode_byte, opcode_of}
-use Rattle.bpf_decode.specs.Spelling.{slot_bytes, IsSlot, IsInsn, spelled}
-use Rattle.bpf_decode.specs.Faults.{slot_fault, field_fault}
+use Rattle.bpf_decode.specs.Spelling.{spelled}
 
 -- ---- bytes and fields
 

@@ -1,18 +1,18 @@
 -- Code and its bytes, slot by slot.
-use Rattle.std.proofs.Common.{◌≡◌, ℕ, zero, suc, ◌+◌, ◌*◌, ◌/◌, ◌%◌, ◌^◌, ◌<◌, ◌≤◌, Bool, true, false, cond, List, [], ◌∷◌, ◌++◌, length, get_or, take, drop, Option, Some, None, ℤ, pos, refl, sym, ap, subst, ◌∙◌, append_assoc, arith, inl, inr, ◌⊎◌, length-append, FitsSigned}
+use Rattle.std.proofs.Common.{◌≡◌, ℕ, zero, suc, ◌+◌, ◌*◌, ◌^◌, ◌<◌, ◌≤◌, false, List, [], ◌∷◌, ◌++◌, length, get_or, take, drop, None, ℤ, refl, sym, ap, subst, ◌∙◌, arith, inl, inr, ◌⊎◌, FitsSigned}
 use Rattle.std.specs.Int.{w16, w32, to_le_bytes, from_le_bytes, cast_unsigned, cast_signed}
 use Rattle.std.specs.List.{flat_map, AllByRecursion}
 use Rattle.std.proofs.Math.Facts.{Fits-of_z}
 use Rattle.std.proofs.Math.ListN.{drop_of_length-le}
-use Rattle.std.proofs.Math.Seq.{take-add, drop-append-add, take-append-add}
-use Rattle.std.proofs.lemmas.List.{append-nil, length-drop, length-take}
+use Rattle.std.proofs.Math.Seq.{take-add, drop-append-add}
+use Rattle.std.proofs.lemmas.List.{append-nil}
 use Rattle.std.proofs.lemmas.List.Concat.{flat_map-cons}
 use Rattle.std.proofs.lemmas.Grind.{flat_map-append}
 use Rattle.std.proofs.lemmas.Bool.{le-ltb}
 use Rattle.std.proofs.Common.{rules, ltb}
 use Rattle.bpf_num.specs.declared.AluOp.TheVariants.{Add, Mov}
 use Rattle.bpf_num.specs.declared.AluWidth.TheVariants.{W32, W64}
-use Rattle.std.proofs.lemmas.Int.{of_z-to_z, to_z-of_z}
+use Rattle.std.proofs.lemmas.Int.{to_z-of_z}
 use Rattle.std.proofs.lemmas.Nat.{from_le_bytes-to_le_bytes_2, from_le_bytes-to_le_bytes_4}
 use Rattle.bpf_decode.specs.declared.insn.Insn.{Insn}
 use Rattle.bpf_decode.specs.declared.insn.Insn.TheVariants.{Alu, Exit}
@@ -23,9 +23,9 @@ use Rattle.std.specs.Prelude.{Result, Ok, Err, IfOk, IfErr, MatchResult}
 use Rattle.std.specs.Global.{Vec}
 use Rattle.bpf_decode.specs.declared.slot.Slot.{Slot}
 use Rattle.bpf_decode.specs.declared.refusal.DecodeFault.{DecodeFault}
-use Rattle.bpf_decode.specs.Spelling.{slot_bytes, IsSlot, IsInsn, IsAt, SpelledAt, spelled, spelling}
-use Rattle.bpf_decode.specs.Faults.{slot_fault, field_fault, length_fault, IsCode, FaultyAt, BreaksAt, IsRefused}
-use Rattle.bpf_decode.proofs.Slots.{slot_of, spelled-slot_of, opcode_again, same_insn}
+use Rattle.bpf_decode.specs.Spelling.{slot_bytes, IsSlot, IsInsn, SpelledAt, spelled, spelling}
+use Rattle.bpf_decode.specs.Faults.{slot_fault, length_fault, IsCode, FaultyAt, IsRefused}
+use Rattle.bpf_decode.proofs.Slots.{slot_of, spelled-slot_of, same_insn}
 
 -- ---- lists of instructions
 

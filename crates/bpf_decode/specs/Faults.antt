@@ -1,14 +1,12 @@
 -- What can be wrong with a slot, and with a list of bytes as a whole.
-use Rattle.std.specs.Prelude.{◌≡◌, ℕ, ◌*◌, ◌%◌, ◌<◌, ◌≤◌, Bool, true, false, ◌||◌, not, ◌==◌, nat_lt, if◌then◌else◌, List, length, take, Option, Some, None, ◌⊎◌}
+use Rattle.std.specs.Prelude.{◌≡◌, ℕ, ◌*◌, ◌%◌, Bool, false, ◌||◌, not, ◌==◌, nat_lt, if◌then◌else◌, List, length, take, Option, Some, None, ◌⊎◌}
 use Rattle.std.specs.List.{AllByRecursion}
 use Rattle.std.specs.Ordering.{int_eq}
 use Rattle.std.specs.Prelude.{pos, ℤ}
-use Rattle.bpf_num.specs.declared.AluOp.{AluOp}
 use Rattle.bpf_num.specs.declared.AluOp.TheVariants.{Add, Mov}
 use Rattle.bpf_decode.specs.declared.insn.Insn.{Insn}
 use Rattle.bpf_decode.specs.declared.opcode.Opcode.{Opcode}
 use Rattle.bpf_decode.specs.declared.opcode.Opcode.TheVariants.{Alu, Exit}
-use Rattle.bpf_decode.specs.declared.opcode.SourceKind.{SourceKind}
 use Rattle.bpf_decode.specs.declared.opcode.SourceKind.TheVariants.{K, X}
 use Rattle.bpf_decode.specs.declared.slot.Slot.{Slot}
 use Rattle.bpf_decode.specs.declared.refusal.DecodeFault.{DecodeFault}

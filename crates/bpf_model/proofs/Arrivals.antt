@@ -1,13 +1,11 @@
 -- What is known at a slot holds on each edge to it.
-use Rattle.std.proofs.Common.{◌≡◌, ◌⊎◌, ℕ, zero, suc, ◌+◌, ◌-◌, ◌*◌, ◌<◌, ◌≤◌, Bool, true, false, ◌&&◌, cond, eqb, List, [], ◌∷◌, ◌++◌, length, Option, Some, None, refl, sym, ap, subst, ◌∙◌, arith, inl, inr, map, filter, fold, rules}
-use Rattle.std.specs.Ordering.{nat_cmp}
+use Rattle.std.proofs.Common.{◌≡◌, ℕ, zero, suc, ◌<◌, Bool, true, false, cond, eqb, List, [], ◌∷◌, Some, refl, sym, ap, subst, ◌∙◌, arith, inl, inr, map, filter, fold}
 use Rattle.std.specs.FinSet as set
 use Rattle.std.proofs.lemmas.Bool.{cases_lt, eq-eqb}
 use Rattle.std.specs.Cmp.{nat_cmp_total}
 use Rattle.bpf_decode.specs.declared.insn.Insn.{Insn}
-use Rattle.bpf_model.specs.Code.{insn_at}
-use Rattle.bpf_model.specs.State.{State, Edge, start_state, meet, joined, edges, IsOneOf}
-use Rattle.bpf_model.specs.Arrival.{edges_of, carried, arriving, state_at, edges_at, Path}
+use Rattle.bpf_model.specs.State.{State, Edge, meet, joined, IsOneOf}
+use Rattle.bpf_model.specs.Arrival.{carried, arriving, state_at, edges_at}
 use Rattle.bpf_model.proofs.Options.{and_true, IsOneOf-left, IsOneOf-right}
 
 -- all that is certain in a is certain in b

@@ -1,6 +1,6 @@
 -- Accepted code is safe: each machine that is reached stands at a slot that a path leads to, and holds what is known
 -- there.
-use Rattle.std.proofs.Common.{◌≡◌, ◌⊎◌, ℕ, zero, suc, ◌+◌, ◌-◌, ◌*◌, ◌<◌, ◌≤◌, Bool, true, false, ◌&&◌, ◌||◌, cond, eqb, leb, List, [], ◌∷◌, ◌++◌, length, replicate, Option, Some, None, refl, sym, ap, subst, ◌∙◌, arith, inl, inr}
+use Rattle.std.proofs.Common.{◌≡◌, ◌⊎◌, ℕ, zero, suc, ◌+◌, ◌<◌, ◌≤◌, Bool, true, false, ◌&&◌, ◌||◌, eqb, leb, List, [], ◌∷◌, length, Option, Some, None, refl, sym, ap, subst, ◌∙◌, arith, inl, inr}
 use Rattle.std.specs.Prelude.{IsSome}
 use Rattle.std.specs.List.{list_any, list_all}
 use Rattle.std.specs.Int.{w64, cast_unsigned}
@@ -19,13 +19,13 @@ use Rattle.bpf_decode.specs.declared.insn.Source.{Source}
 use Rattle.bpf_decode.specs.declared.insn.Source.TheVariants as source
 use Rattle.bpf_decode.specs.Faults.{IsCode}
 use Rattle.bpf_model.specs.Code.{slots_of, placed, insn_at}
-use Rattle.bpf_model.specs.Machine.{Registers, Frame, Machine, Call, IsCall, start, arguments_start, frame_end}
-use Rattle.bpf_model.specs.Step.{Next, Goes, Ends, ◌>>=◌, alu_of, source_value, effect, returned, step}
+use Rattle.bpf_model.specs.Machine.{Machine, Call, start, arguments_start, frame_end}
+use Rattle.bpf_model.specs.Step.{Goes, Ends, ◌>>=◌, alu_of, source_value, effect, step}
 use Rattle.bpf_model.specs.Run.{Run, Ending, EndsSo, IsSafe}
-use Rattle.bpf_model.specs.State.{State, Edge, start_state, edges, operands, has_operands, source_operands, IsOneOf}
+use Rattle.bpf_model.specs.State.{State, Edge, start_state, has_operands, source_operands, IsOneOf}
 use Rattle.bpf_model.specs.Arrival.{edges_of, state_at, edges_at, Path}
 use Rattle.bpf_model.specs.Verdict.{IsAccepted, falls_off_end, writes_frame_pointer, uninit_register, insn_fault, place_fault, known_fault, goes_on, writes_r10}
-use Rattle.bpf_model.proofs.Options.{some_of, is_some_of, and_true, neither, found_none, some_is, insert_some}
+use Rattle.bpf_model.proofs.Options.{some_of, is_some_of, and_true, neither, found_none, insert_some}
 use Rattle.bpf_model.proofs.Places.{one_slot, length-placed, some_at, few}
 use Rattle.bpf_model.proofs.Arrivals.{IsBelow, arrives}
 
