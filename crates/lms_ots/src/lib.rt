@@ -1,0 +1,177 @@
+//! LM-OTS, the one-time signatures of RFC 8554, section 4, under LMOTS_SHA256_N32_W4: hashes of 32
+//! bytes, digits of 4 bits, and 67 chains of 15 steps.
+//!
+//! A key pair is named by a tree's identifier `id`, a leaf's number and a secret seed. It must sign
+//! one message only: two signatures of one leaf give a forger the means to sign others. Nothing here
+//! takes memory.
+#![tactic(auto)]
+
+ghost use Rattle.std.specs.Prelude.{◌≡◌, ℕ, ◌+◌, ◌-◌, ◌/◌, ◌≤◌, ◌<◌, List, drop, length, take};
+ghost use Rattle.lms_ots.specs.Ots.{candidate_of, chain, chain_start, checksum, coef, digits_of, message_hash, public_value, randomizer, signature_of};
+
+use hash::{block_hash, hasher, put, u16str, u32str};
+use sha2::{Digest, Sha256};
+
+mod hash;
+#[cfg(test)]
+mod tests;
+
+/// The length of a hash in bytes, which is n of RFC 8554, section 4.1.
+const HASH_LEN: usize = 32;
+
+/// The number of chains, which is p of RFC 8554, section 4.1.
+const CHAIN_COUNT: usize = 67;
+
+/// The last step's number plus one: each chain takes 15 steps.
+const CHAIN_END: u8 = 15;
+
+/// The word LMOTS_SHA256_N32_W4 of RFC 8554, section 4.1.
+const TYPE: u32 = 3;
+
+/// D_PBLC of RFC 8554, section 4.3.
+const PUBLIC_TAG: u16 = 0x8080;
+
+/// D_MESG of RFC 8554, section 4.3.
+const MESSAGE_TAG: u16 = 0x8181;
+
+/// Stands in the place of a chain's number where a leaf's randomizer is drawn from its seed.
+const RANDOMIZER_TAG: u16 = 0xfffd;
+
+/// Stands in the place of a step's number where a value is drawn from a seed (RFC 8554, appendix A).
+const SEED_STEP: u8 = 0xff;
+
+// Digit `i` of a string of 4-bit digits (RFC 8554, section 3.1.3).
+fn coefficient(bytes: &[u8], i: usize) -> u8
+    requires { i / 2 < length bytes.now }
+    ensures value { result ≡ coef bytes.now i }
+    ensures digit { result ≤ 15 }
+{
+    let byte = bytes[i / 2];
+    if i % 2 == 0 { byte / 16 } else { byte % 16 }
+}
+
+// What the digits of a hash lack to 15 each, shifted left by 4 (RFC 8554, section 4.4).
+fn checksum(q: &[u8; 32]) -> u16
+    ensures { result ≡ checksum q.now }
+{
+    let mut sum: u16 = 0;
+    'summing: for i in 0..2 * HASH_LEN {
+        sum += u16::from(CHAIN_END - coefficient(q, i));
+    }
+    sum * 16
+}
+
+/// The digits of the hash `q` and of its checksum, each from 0 to 15 (RFC 8554, section 4.4).
+pub fn digits(q: &[u8; 32]) -> [u8; 67]
+    ensures { result ≡ digits_of q.now }
+{
+    let tail = u16str(checksum(q));
+    let mut digits = [0u8; CHAIN_COUNT];
+    'of_hash: for i in 0..2 * HASH_LEN {
+        digits[i] = coefficient(q, i);
+    }
+    'of_checksum: for i in 2 * HASH_LEN..CHAIN_COUNT {
+        digits[i] = coefficient(&tail, i - 2 * HASH_LEN);
+    }
+    digits
+}
+
+// The start of chain `i`, from the seed (RFC 8554, appendix A).
+fn chain_start(id: &[u8; 16], leaf: u32, secret: &[u8; 32], i: u16) -> [u8; 32]
+    ensures { result ≡ chain_start id.now leaf secret.now i }
+{
+    block_hash(id, leaf, i, SEED_STEP, secret)
+}
+
+// Chain `i` from `start`: the steps from `from` up to `to` (RFC 8554, section 4.3).
+fn chain(id: &[u8; 16], leaf: u32, i: u16, from: u8, to: u8, start: &[u8; 32]) -> [u8; 32]
+    requires { from ≤ to }
+    ensures { result ≡ chain id.now leaf i from (to - from) start.now }
+{
+    let mut value = *start;
+    'steps: for j in from..to {
+        value = block_hash(id, leaf, i, j, &value);
+    }
+    value
+}
+
+// The randomizer of a leaf's signature, from the seed.
+fn randomizer(id: &[u8; 16], leaf: u32, secret: &[u8; 32]) -> [u8; 32]
+    ensures { result ≡ randomizer id.now leaf secret.now }
+{
+    block_hash(id, leaf, RANDOMIZER_TAG, SEED_STEP, secret)
+}
+
+// The hash whose digits are signed (RFC 8554, section 4.5).
+fn message_hash(id: &[u8; 16], leaf: u32, randomizer: &[u8; 32], message: &[u8]) -> [u8; 32]
+    ensures { result ≡ message_hash id.now leaf randomizer.now message.now }
+{
+    let mut hasher = hasher(id, leaf, MESSAGE_TAG);
+    hasher.update(randomizer);
+    hasher.update(message);
+    hasher.finalize()
+}
+
+/// The public value of a leaf's key pair (RFC 8554, section 4.3).
+pub fn ots_public(id: &[u8; 16], leaf: u32, secret: &[u8; 32]) -> [u8; 32]
+    ensures { result ≡ public_value id.now leaf secret.now }
+{
+    let mut hasher = hasher(id, leaf, PUBLIC_TAG);
+    'chains: for i in 0..CHAIN_COUNT as u16 {
+        let start = chain_start(id, leaf, secret, i);
+        hasher.update(chain(id, leaf, i, 0, CHAIN_END, &start));
+    }
+    hasher.finalize()
+}
+
+/// The signature of `message` by a leaf's key pair (RFC 8554, section 4.5): the type's word, the
+/// randomizer, and a value of each chain. A key pair is to sign one message only, which its holder
+/// sees to.
+pub fn ots_sign(id: &[u8; 16], leaf: u32, secret: &[u8; 32], message: &[u8]) -> [u8; 2180]
+    ensures { result ≡ signature_of id.now leaf secret.now message.now }
+{
+    let randomizer = randomizer(id, leaf, secret);
+    let digits = digits(&message_hash(id, leaf, &randomizer, message));
+    let mut signature = [0u8; 2180];
+    put(&mut signature, 0, &u32str(TYPE));
+    put(&mut signature, 4, &randomizer);
+    'chains: for i in 0..CHAIN_COUNT {
+        let start = chain_start(id, leaf, secret, i as u16);
+        let value = chain(id, leaf, i as u16, 0, digits[i], &start);
+        put(&mut signature, 36 + 32 * i, &value);
+    }
+    signature
+}
+
+/// The public value that a signature of `message` leads to (RFC 8554, section 4.6): the signature is
+/// valid where that is the leaf's. All 2,180 bytes are taken as they are, and the type's word in the
+/// first four is the caller's to judge.
+pub fn ots_candidate(id: &[u8; 16], leaf: u32, message: &[u8], signature: &[u8; 2180]) -> [u8; 32]
+    ensures { result ≡ candidate_of id.now leaf message.now signature.now }
+{
+    let randomizer = hash_at(signature, 4);
+    let digits = digits(&message_hash(id, leaf, &randomizer, message));
+    let mut hasher = hasher(id, leaf, PUBLIC_TAG);
+    'chains: for i in 0..CHAIN_COUNT {
+        let value = hash_at(signature, 36 + 32 * i);
+        hasher.update(chain(id, leaf, i as u16, digits[i], CHAIN_END, &value));
+    }
+    hasher.finalize()
+}
+
+// The 32 bytes of a signature from byte `at` on.
+fn hash_at(signature: &[u8; 2180], at: usize) -> [u8; 32]
+    requires { at + 32 ≤ 2180 }
+    ensures { result ≡ take 32 (drop at signature.now) }
+{
+    let mut hash = [0u8; 32];
+    hash.copy_from_slice(&signature[at..at + 32]);
+    hash
+}
+
+/// **A signature leads to its own leaf's public value**, whatever the identifier, leaf, seed and
+/// message.
+pub fn signatures_lead_to_the_public_value()
+    ensures { (id secret message : List ℕ) (leaf : ℕ)
+        → candidate_of id leaf message (signature_of id leaf secret message) ≡ public_value id leaf secret }
+{}

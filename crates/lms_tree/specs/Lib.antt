@@ -1,0 +1,5 @@
+pub mod FaultNumber
+pub mod Nodes
+pub mod Tree
+pub mod Signature
+pub mod SigningState

@@ -1,0 +1,68 @@
+ghost use Rattle.std.specs.Prelude.{◌≡◌, ◌+◌, ◌*◌};
+
+/// The height of a tree (RFC 8554, section 5.1).
+#[derive(Clone, Copy, Debug, PartialEq, Eq)]
+pub enum Height {
+    /// LMS_SHA256_M32_H5: 32 signatures.
+    H5,
+    /// LMS_SHA256_M32_H10: 1,024 signatures.
+    H10,
+}
+
+impl Height {
+    ghost use Rattle.lms_tree.specs.Signature.{height_named, levels_of, type_of};
+    ghost use Rattle.lms_tree.specs.SigningState.{leaf_count_of};
+
+    // The height that a type's word names.
+    pub(crate) fn named(word: u32) -> Option<Height>
+        ensures { result ≡ height_named word }
+    {
+        if word == 5 {
+            Some(Height::H5)
+        } else if word == 6 {
+            Some(Height::H10)
+        } else {
+            None
+        }
+    }
+
+    // The levels above the leaves.
+    pub(crate) fn levels(self) -> usize
+        ensures { result ≡ levels_of self }
+    {
+        match self {
+            Height::H5 => 5,
+            Height::H10 => 10,
+        }
+    }
+
+    // The type's word.
+    pub(crate) fn type_word(self) -> u32
+        ensures { result ≡ type_of self }
+    {
+        match self {
+            Height::H5 => 5,
+            Height::H10 => 6,
+        }
+    }
+
+    // The number of leaves, each of which signs once.
+    pub(crate) fn leaf_count(self) -> u32
+        ensures { result ≡ leaf_count_of self }
+    {
+        match self {
+            Height::H5 => 32,
+            Height::H10 => 1024,
+        }
+    }
+
+    // The length of a signature in bytes.
+    pub(crate) fn signature_len(self) -> usize
+        ensures { result ≡ 2188 + 32 * levels_of self }
+    {
+        match self {
+            Height::H5 => 2348,
+            Height::H10 => 2508,
+        }
+    }
+}

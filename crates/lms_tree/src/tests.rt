@@ -1,0 +1,225 @@
+use super::*;
+use hex::FromHex;
+use std::alloc::Global;
+use std::process::Abort;
+use std::test::Fail;
+
+mod damaged;
+mod valid;
+
+// A key, a message and a signature in hex, the signature in pieces.
+#[derive(Drop)]
+struct Case {
+    key: &'static str,
+    message: &'static str,
+    signature: &'static [&'static str],
+}
+
+// An identifier, a seed and the public key of the tree of height 5 over them, in hex.
+const KEYS: [(&str, &str, &str); 8] = [
+    (
+        "00000000000000000000000000000000",
+        "0000000000000000000000000000000000000000000000000000000000000000",
+        "0000000500000003000000000000000000000000000000007e14ed0d8b44b61918a5647b0567a49e969e0454cb0f14df2a62b1ca787edcb0",
+    ),
+    (
+        "000102030405060708090a0b0c0d0e0f",
+        "1111111111111111111111111111111111111111111111111111111111111111",
+        "0000000500000003000102030405060708090a0b0c0d0e0f2cdd4a5bf162e109fc106952210cafed891e470667f100962c910a33cac7afc4",
+    ),
+    (
+        "31c635aa95ecf2d28e39f18b79fdd758",
+        "45b171b720630b2e1424a6ae17e1359039813d92c98f4c4b6b7564c0cbf708ed",
+        "000000050000000331c635aa95ecf2d28e39f18b79fdd758c4bad6fbbcf0a0d4fb83d6a9d67369c87e67453be8a541ec1083e7904542d27d",
+    ),
+    (
+        "354b4087b88b37f5c0529baab950a363",
+        "b2dfbb0deece7479444346ce9820fc2cfb82ae8dab8786bfabf5ef578e55c25c",
+        "0000000500000003354b4087b88b37f5c0529baab950a363d2e9139f3225a86c546e9f3633b5747863111ef040d7e11e5a12162bb8fdf731",
+    ),
+    (
+        "48c10cad86b416fae1bc02d0d460f3db",
+        "756780b9fb119fdce5d2c188f11fc4c9aac2265d9e9c8f189338e0ac1c1c1b95",
+        "000000050000000348c10cad86b416fae1bc02d0d460f3db22c3f1e44f9892944924507669b7578abe9f6c1791bd3455f0b93c0b742274f4",
+    ),
+    (
+        "6e41d77279bf5bd8c687069e87769e95",
+        "46243ec8dcc1eca2c44931eeca88321849c1991785f9b8cf5371f951ddd28d1b",
+        "00000005000000036e41d77279bf5bd8c687069e87769e95d22a4217f63ff9086a0857c8b5eebba952f7177308e4724acd709f45733c71be",
+    ),
+    (
+        "0a037b8aaf7425703a1b94a0435bb812",
+        "81e4a5f580421aff7199167a36f4577dd6a121801ebe93d95e348792063a0bd1",
+        "00000005000000030a037b8aaf7425703a1b94a0435bb812e4d27c28549f6640f49f6b16722936fbe916e8b9cdc49764d8ccaa1850a5ba4b",
+    ),
+    (
+        "356066ac17ab6adb73dbbdef973a032e",
+        "85a51bcdfd5fac55fc7439dc685a9a903e5386f9bb1878095a8bd879636370cb",
+        "0000000500000003356066ac17ab6adb73dbbdef973a032ec61ab59b5a4a0100febaaccc0d8f495cc00af6f6766251b557c3b3cdc6d5978b",
+    ),
+];
+
+fn array<const N: usize>(text: &str) -> Result<[u8; N], Fail> {
+    Ok(<[u8; N] as FromHex>::from_hex(text)?)
+}
+
+// The bytes of hex text that is cut into pieces.
+fn joined(alloc: Global, pieces: &[&str]) -> Result<Vec<u8>, Fail> {
+    let mut bytes = Vec::new(alloc);
+    for piece in pieces {
+        let part = hex::decode(alloc, *piece)?;
+        bytes.extend_from_slice(&part)?;
+    }
+    Ok(bytes)
+}
+
+fn verified(alloc: Global, case: &Case) -> Result<Result<(), SigFault>, Fail> {
+    let message = hex::decode(alloc, case.message)?;
+    let signature = joined(alloc, case.signature)?;
+    Ok(verify(&array(case.key)?, &message, &signature))
+}
+
+#[test]
+fn a_tree_of_height_5_signs_32_times(rt: HostRuntime) -> Result<(), Fail> {
+    let mut signer = Signer::from_seed(rt.alloc(), Height::H5, [7; 16], [9; 32])?;
+    let key = signer.public_key();
+    for leaf in 0..32u32 {
+        assert_eq!(rt; signer.next_leaf(), leaf);
+        assert_eq!(rt; signer.leaves_left(), 32 - leaf);
+        let body = leaf.to_be_bytes();
+        let sig = signer.sign(&body)?;
+        assert_eq!(rt; verify(&key, &body, &sig), Ok(()));
+    }
+    assert_eq!(rt; signer.sign(b"once more").err(), Some(SignFault::Exhausted));
+    assert_eq!(rt; signer.next_leaf(), 32);
+    Ok(())
+}
+
+fn check_keys(rt: &impl Abort, alloc: Global, rows: &[(&str, &str, &str)]) -> Result<(), Fail> {
+    for (id, secret, key) in rows {
+        let signer = Signer::from_seed(alloc, Height::H5, array(id)?, array(secret)?)?;
+        assert_eq!(rt; signer.public_key(), array(key)?, "at {id}");
+    }
+    Ok(())
+}
+
+#[test]
+fn public_keys_of_another_implementation(rt: HostRuntime) -> Result<(), Fail> {
+    check_keys(&rt, rt.alloc(), &KEYS[..3])
+}
+
+#[test]
+fn more_public_keys_of_another_implementation(rt: HostRuntime) -> Result<(), Fail> {
+    check_keys(&rt, rt.alloc(), &KEYS[3..6])
+}
+
+#[test]
+fn last_public_keys_of_another_implementation(rt: HostRuntime) -> Result<(), Fail> {
+    check_keys(&rt, rt.alloc(), &KEYS[6..])
+}
+
+#[test]
+fn signatures_of_another_implementation(rt: HostRuntime) -> Result<(), Fail> {
+    let case = valid::leaf_1_of_height_5();
+    let mut signer = Signer::from_seed(
+        rt.alloc(),
+        Height::H5,
+        array(KEYS[2].0)?,
+        array(KEYS[2].1)?,
+    )?;
+    let _first = signer.sign(b"a")?;
+    let second = signer.sign(b"a")?;
+    assert_eq!(rt;
+        second.as_slice(),
+        joined(rt.alloc(), case.signature)?.as_slice()
+    );
+    Ok(())
+}
+
+#[test]
+fn valid_signatures(rt: HostRuntime) -> Result<(), Fail> {
+    assert_eq!(rt; verified(rt.alloc(), &valid::leaf_1_of_height_5())?, Ok(()));
+    assert_eq!(rt;
+        verified(rt.alloc(), &valid::leaf_0_of_height_10())?,
+        Ok(())
+    );
+    assert_eq!(rt; verified(rt.alloc(), &valid::leaf_0_of_height_5())?, Ok(()));
+    assert_eq!(rt;
+        verified(rt.alloc(), &valid::leaf_31_of_height_5())?,
+        Ok(())
+    );
+    assert_eq!(rt; verified(rt.alloc(), &valid::rfc_8554_case_2())?, Ok(()));
+    Ok(())
+}
+
+#[test]
+fn damaged_signatures_and_keys(rt: HostRuntime) -> Result<(), Fail> {
+    assert_eq!(rt;
+        verified(rt.alloc(), &damaged::one_byte_long())?,
+        Err(SigFault::Length)
+    );
+    assert_eq!(rt;
+        verified(rt.alloc(), &damaged::eight_bytes())?,
+        Err(SigFault::Length)
+    );
+    assert_eq!(rt;
+        verified(rt.alloc(), &damaged::key_of_other_height())?,
+        Err(SigFault::Length)
+    );
+    assert_eq!(rt;
+        verified(rt.alloc(), &damaged::key_of_other_one_time_type())?,
+        Err(SigFault::WrongType)
+    );
+    assert_eq!(rt;
+        verified(rt.alloc(), &damaged::key_of_type_0())?,
+        Err(SigFault::WrongType)
+    );
+    assert_eq!(rt;
+        verified(rt.alloc(), &damaged::signature_of_type_0())?,
+        Err(SigFault::WrongType)
+    );
+    assert_eq!(rt;
+        verified(rt.alloc(), &damaged::leaf_beyond())?,
+        Err(SigFault::Leaf)
+    );
+    assert_eq!(rt;
+        verified(rt.alloc(), &damaged::leaf_beyond_again())?,
+        Err(SigFault::Leaf)
+    );
+    assert_eq!(rt;
+        verified(rt.alloc(), &damaged::leaf_far_beyond())?,
+        Err(SigFault::Leaf)
+    );
+    assert_eq!(rt;
+        verified(rt.alloc(), &damaged::message_changed())?,
+        Err(SigFault::Mismatch)
+    );
+    assert_eq!(rt;
+        verified(rt.alloc(), &damaged::path_changed())?,
+        Err(SigFault::Mismatch)
+    );
+    assert_eq!(rt;
+        verified(rt.alloc(), &damaged::leaf_plus_one())?,
+        Err(SigFault::Mismatch)
+    );
+    Ok(())
+}
+
+#[test]
+fn faults_have_names_and_numbers(rt: HostRuntime) -> Result<(), Fail> {
+    assert_eq!(rt;
+        format!(in rt.alloc(); "{} {}", SignFault::Exhausted, SignFault::Memory)?.as_str(),
+        "Exhausted Memory"
+    );
+    assert_eq!(rt;
+        format!(in rt.alloc(); "{} {}", SigFault::Length, SigFault::WrongType)?.as_str(),
+        "Length WrongType"
+    );
+    assert_eq!(rt;
+        format!(in rt.alloc(); "{} {}", SigFault::Leaf, SigFault::Mismatch)?.as_str(),
+        "Leaf Mismatch"
+    );
+    assert_eq!(rt; SignFault::Memory.number(), 2);
+    assert_eq!(rt; SigFault::Mismatch.number(), 4);
+    Ok(())
+}
