@@ -1,17 +1,30 @@
 //! The names of things that the whole host speaks of: who sends, who owns, which procedure, which
-//! view, which place in the order of requests.
+//! view, which place in the order of requests; who takes part; what is asked and answered.
 #![tactic(auto)]
+
+mod ascending;
+mod bytes;
+mod config;
+mod replica_set;
+mod request;
+#[cfg(test)]
+mod tests;
+
+pub use bytes::Bytes;
+pub use config::{ClientEntry, Config, ConfigFault};
+pub use replica_set::ReplicaSet;
+pub use request::{Reply, Request};
 
 /// A replica, by its place in the list of replicas, from 0.
 #[derive(Clone, Copy, Debug, PartialEq, Eq, PartialOrd, Ord, Hash)]
 pub struct ReplicaId(pub u8);
 
 /// A client that may ask for operations.
-#[derive(Clone, Copy, Debug, PartialEq, Eq, PartialOrd, Ord, Hash)]
+#[derive(Clone, Copy, Debug, Default, PartialEq, Eq, PartialOrd, Ord, Hash)]
 pub struct ClientId(pub u32);
 
 /// A tenant: the owner of one map and of the procedures that change it.
-#[derive(Clone, Copy, Debug, PartialEq, Eq, PartialOrd, Ord, Hash)]
+#[derive(Clone, Copy, Debug, Default, PartialEq, Eq, PartialOrd, Ord, Hash)]
 pub struct TenantId(pub u32);
 
 /// An installed procedure of a tenant, counted from 0 in the order of installation.

@@ -1,0 +1,4 @@
+pub mod MarkLemmas
+pub mod ClientLemmas
+pub mod Placed
+pub mod AscendingLemmas
