@@ -1,0 +1,3 @@
+pub mod Entries
+pub mod PutAnswer
+pub mod TenantEntries
