@@ -7,7 +7,7 @@ use Rattle.std.proofs.lemmas.Int.{of_z-to_z}
 use Rattle.bpf_num.specs.declared.AluOp.TheVariants.{Add, Mov}
 use Rattle.bpf_num.specs.declared.AluWidth.TheVariants.{W32, W64}
 use Rattle.bpf_decode.specs.declared.insn.Insn.{Insn}
-use Rattle.bpf_decode.specs.declared.insn.Insn.TheVariants.{Alu, Exit}
+use Rattle.bpf_decode.specs.declared.insn.Insn.TheVariants.{Alu, CallHelper, Exit}
 use Rattle.bpf_decode.specs.declared.insn.Reg.{Reg}
 use Rattle.bpf_decode.specs.declared.insn.Source.TheVariants as source
 use Rattle.bpf_decode.specs.declared.opcode.Opcode.{Opcode}
@@ -53,12 +53,14 @@ slot_of (Alu width op dst (source.Imm value)) =
     record { opcode = opcode_byte (opcode.Alu width op K); dst = dst.number; src = 0; offset = pos 0; imm = value }
 slot_of (Alu width op dst (source.Reg src)) =
     record { opcode = opcode_byte (opcode.Alu width op X); dst = dst.number; src = src.number; offset = pos 0; imm = pos 0 }
+slot_of (CallHelper helper) = record { opcode = opcode_byte opcode.Call; dst = 0; src = 0; offset = pos 0; imm = helper }
 slot_of Exit = record { opcode = opcode_byte opcode.Exit; dst = 0; src = 0; offset = pos 0; imm = pos 0 }
 
 pub spelled-slot_of : (x : Insn) → spelled x ≡ slot_of x ∷ []
 unfolding slot_of
 spelled-slot_of (Alu width op dst (source.Imm value)) = refl
 spelled-slot_of (Alu width op dst (source.Reg src)) = refl
+spelled-slot_of (CallHelper helper) = refl
 spelled-slot_of Exit = refl
 
 -- an opcode is its byte
@@ -71,6 +73,7 @@ opcode_again (opcode.Alu W64 Add K) = refl
 opcode_again (opcode.Alu W64 Add X) = refl
 opcode_again (opcode.Alu W64 Mov K) = refl
 opcode_again (opcode.Alu W64 Mov X) = refl
+opcode_again opcode.Call = refl
 opcode_again opcode.Exit = refl
 
 some_is : (a b : Opcode) → Some a ≡ Some b → a ≡ b
@@ -91,6 +94,8 @@ same_insn (Alu v o d (source.Imm a)) (Alu w p e (source.Reg b)) h =
     let same = opcode_byte_is (opcode.Alu v o K) (opcode.Alu w p X) (ap (λ (s : Slot). s.opcode) h) in cc
 same_insn (Alu v o d (source.Imm a)) Exit h =
     let same = opcode_byte_is (opcode.Alu v o K) opcode.Exit (ap (λ (s : Slot). s.opcode) h) in cc
+same_insn (Alu v o d (source.Imm a)) (CallHelper helper) h =
+    let same = opcode_byte_is (opcode.Alu v o K) opcode.Call (ap (λ (s : Slot). s.opcode) h) in cc
 same_insn (Alu v o d (source.Reg a)) (Alu w p e (source.Imm b)) h =
     let same = opcode_byte_is (opcode.Alu v o X) (opcode.Alu w p K) (ap (λ (s : Slot). s.opcode) h) in cc
 same_insn (Alu v o d (source.Reg a)) (Alu w p e (source.Reg b)) h =
@@ -100,6 +105,17 @@ same_insn (Alu v o d (source.Reg a)) (Alu w p e (source.Reg b)) h =
     cc
 same_insn (Alu v o d (source.Reg a)) Exit h =
     let same = opcode_byte_is (opcode.Alu v o X) opcode.Exit (ap (λ (s : Slot). s.opcode) h) in cc
+same_insn (Alu v o d (source.Reg a)) (CallHelper helper) h =
+    let same = opcode_byte_is (opcode.Alu v o X) opcode.Call (ap (λ (s : Slot). s.opcode) h) in cc
+same_insn (CallHelper g) (Alu w p e (source.Imm b)) h =
+    let same = opcode_byte_is opcode.Call (opcode.Alu w p K) (ap (λ (s : Slot). s.opcode) h) in cc
+same_insn (CallHelper g) (Alu w p e (source.Reg b)) h =
+    let same = opcode_byte_is opcode.Call (opcode.Alu w p X) (ap (λ (s : Slot). s.opcode) h) in cc
+same_insn (CallHelper g) (CallHelper helper) h = ap CallHelper (ap (λ (s : Slot). s.imm) h)
+same_insn (CallHelper g) Exit h =
+    let same = opcode_byte_is opcode.Call opcode.Exit (ap (λ (s : Slot). s.opcode) h) in cc
+same_insn Exit (CallHelper helper) h =
+    let same = opcode_byte_is opcode.Exit opcode.Call (ap (λ (s : Slot). s.opcode) h) in cc
 same_insn Exit (Alu w p e (source.Imm b)) h =
     let same = opcode_byte_is opcode.Exit (opcode.Alu w p K) (ap (λ (s : Slot). s.opcode) h) in cc
 same_insn Exit (Alu w p e (source.Reg b)) h =

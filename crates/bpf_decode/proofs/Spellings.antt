@@ -15,7 +15,7 @@ use Rattle.bpf_num.specs.declared.AluWidth.TheVariants.{W32, W64}
 use Rattle.std.proofs.lemmas.Int.{to_z-of_z}
 use Rattle.std.proofs.lemmas.Nat.{from_le_bytes-to_le_bytes_2, from_le_bytes-to_le_bytes_4}
 use Rattle.bpf_decode.specs.declared.insn.Insn.{Insn}
-use Rattle.bpf_decode.specs.declared.insn.Insn.TheVariants.{Alu, Exit}
+use Rattle.bpf_decode.specs.declared.insn.Insn.TheVariants.{Alu, CallHelper, Exit}
 use Rattle.bpf_decode.specs.declared.insn.Source.TheVariants as source
 use Rattle.bpf_decode.specs.declared.refusal.Refusal.{Refusal}
 use Rattle.bpf_decode.specs.declared.refusal.DecodeFault.TheVariants.{Memory}
@@ -107,6 +107,7 @@ IsSlot-slot_of (Alu W32 Add dst (source.Reg src)) h = let d = dst.in_range in le
 IsSlot-slot_of (Alu W32 Mov dst (source.Reg src)) h = let d = dst.in_range in let e = src.in_range in record { opcode = omega arith; dst = omega arith; src = omega arith; offset = search rules; imm = search rules }
 IsSlot-slot_of (Alu W64 Add dst (source.Reg src)) h = let d = dst.in_range in let e = src.in_range in record { opcode = omega arith; dst = omega arith; src = omega arith; offset = search rules; imm = search rules }
 IsSlot-slot_of (Alu W64 Mov dst (source.Reg src)) h = let d = dst.in_range in let e = src.in_range in record { opcode = omega arith; dst = omega arith; src = omega arith; offset = search rules; imm = search rules }
+IsSlot-slot_of (CallHelper helper) h = record { opcode = omega arith; dst = omega arith; src = omega arith; offset = search rules; imm = h }
 IsSlot-slot_of Exit h = record { opcode = omega arith; dst = omega arith; src = omega arith; offset = search rules; imm = search rules }
 
 register_test : (n : ℕ) → n ≤ 10 → ltb 10 n ≡ false
@@ -122,6 +123,7 @@ slot_of_is_right (Alu W32 Add dst (source.Reg src)) = rw (register_test dst.numb
 slot_of_is_right (Alu W32 Mov dst (source.Reg src)) = rw (register_test dst.number dst.in_range, register_test src.number src.in_range) refl
 slot_of_is_right (Alu W64 Add dst (source.Reg src)) = rw (register_test dst.number dst.in_range, register_test src.number src.in_range) refl
 slot_of_is_right (Alu W64 Mov dst (source.Reg src)) = rw (register_test dst.number dst.in_range, register_test src.number src.in_range) refl
+slot_of_is_right (CallHelper helper) = refl
 slot_of_is_right Exit = refl
 
 -- the 8 bytes at a slot of spelled code are those of an instruction

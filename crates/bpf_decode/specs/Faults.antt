@@ -6,7 +6,7 @@ use Rattle.std.specs.Prelude.{pos, ℤ}
 use Rattle.bpf_num.specs.declared.AluOp.TheVariants.{Add, Mov}
 use Rattle.bpf_decode.specs.declared.insn.Insn.{Insn}
 use Rattle.bpf_decode.specs.declared.opcode.Opcode.{Opcode}
-use Rattle.bpf_decode.specs.declared.opcode.Opcode.TheVariants.{Alu, Exit}
+use Rattle.bpf_decode.specs.declared.opcode.Opcode.TheVariants.{Alu, Call, Exit}
 use Rattle.bpf_decode.specs.declared.opcode.SourceKind.TheVariants.{K, X}
 use Rattle.bpf_decode.specs.declared.slot.Slot.{Slot}
 use Rattle.bpf_decode.specs.declared.refusal.DecodeFault.{DecodeFault}
@@ -41,12 +41,14 @@ is_not_zero z = not (int_eq z (pos 0))
 abbrev pub has_bad_offset : Opcode → Slot → Bool
 has_bad_offset (Alu width Add source) slot = false
 has_bad_offset (Alu width Mov source) slot = is_not_zero slot.offset
+has_bad_offset Call slot = false
 has_bad_offset Exit slot = false
 
 -- Whether a field without a use is not zero (RFC 9669, section 3.1: unused fields shall be cleared).
 abbrev pub has_stray_field : Opcode → Slot → Bool
 has_stray_field (Alu width op K) slot = is_not_zero slot.offset || not (slot.src == 0)
 has_stray_field (Alu width op X) slot = is_not_zero slot.offset || is_not_zero slot.imm
+has_stray_field Call slot = not (slot.dst == 0) || not (slot.src == 0) || is_not_zero slot.offset
 has_stray_field Exit slot =
     not (slot.dst == 0) || not (slot.src == 0) || is_not_zero slot.offset || is_not_zero slot.imm
 

@@ -5,7 +5,7 @@ use Rattle.bpf_num.specs.declared.AluOp.TheVariants.{Add, Mov}
 use Rattle.bpf_num.specs.declared.AluWidth.{AluWidth}
 use Rattle.bpf_num.specs.declared.AluWidth.TheVariants.{W32, W64}
 use Rattle.bpf_decode.specs.declared.opcode.Opcode.{Opcode}
-use Rattle.bpf_decode.specs.declared.opcode.Opcode.TheVariants.{Alu, Exit}
+use Rattle.bpf_decode.specs.declared.opcode.Opcode.TheVariants.{Alu, Call, Exit}
 use Rattle.bpf_decode.specs.declared.opcode.SourceKind.{SourceKind}
 use Rattle.bpf_decode.specs.declared.opcode.SourceKind.TheVariants.{K, X}
 
@@ -24,9 +24,10 @@ abbrev pub code_of : AluOp → ℕ
 code_of Add = 0x0
 code_of Mov = 0xb
 
--- The byte of an opcode. EXIT is operation 9 of the class JMP, 5.
+-- The byte of an opcode. CALL and EXIT are operations 8 and 9 of the class JMP, 5.
 abbrev pub opcode_byte : Opcode → ℕ
 opcode_byte (Alu width op source) = 16 * code_of op + 8 * source_of source + class_of width
+opcode_byte Call = 16 * 0x8 + 8 * 0 + 0x5
 opcode_byte Exit = 16 * 0x9 + 8 * 0 + 0x5
 
 -- The opcodes of this host.
@@ -34,7 +35,7 @@ abbrev pub opcodes : List Opcode
 opcodes =
     Alu W32 Add K ∷ Alu W32 Add X ∷ Alu W32 Mov K ∷ Alu W32 Mov X
     ∷ Alu W64 Add K ∷ Alu W64 Add X ∷ Alu W64 Mov K ∷ Alu W64 Mov X
-    ∷ Exit ∷ []
+    ∷ Call ∷ Exit ∷ []
 
 -- The opcode that a byte stands for.
 abbrev pub opcode_of : ℕ → Option Opcode

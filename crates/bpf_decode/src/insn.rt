@@ -44,6 +44,10 @@ pub enum Insn {
         dst: Reg,
         src: Source,
     },
+    /// Call of the helper of this number (RFC 9669, section 4.3.1).
+    CallHelper {
+        helper: i32,
+    },
     /// Return from the function (RFC 9669, section 4.3).
     Exit,
 }

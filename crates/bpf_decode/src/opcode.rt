@@ -20,6 +20,7 @@ pub enum Opcode {
         op: AluOp,
         source: SourceKind,
     },
+    Call,
     Exit,
 }
 
@@ -37,6 +38,7 @@ impl Opcode {
             0x0f => alu(AluWidth::W64, AluOp::Add, SourceKind::X),
             0xb7 => alu(AluWidth::W64, AluOp::Mov, SourceKind::K),
             0xbf => alu(AluWidth::W64, AluOp::Mov, SourceKind::X),
+            0x85 => Opcode::Call,
             0x95 => Opcode::Exit,
             _ => return None,
         })
@@ -62,6 +64,7 @@ impl Opcode {
                 };
                 code + source + class
             }
+            Opcode::Call => 0x85,
             Opcode::Exit => 0x95,
         }
     }

@@ -88,6 +88,7 @@ impl Slot {
                     src,
                 }
             }
+            Opcode::Call => Insn::CallHelper { helper: self.imm },
             Opcode::Exit => Insn::Exit,
         })
     }
@@ -100,7 +101,7 @@ impl Slot {
                 AluOp::Add => false,
                 AluOp::Mov => self.offset != 0,
             },
-            Opcode::Exit => false,
+            Opcode::Call | Opcode::Exit => false,
         }
     }
 
@@ -112,6 +113,7 @@ impl Slot {
                 SourceKind::K => self.offset != 0 || self.src != 0,
                 SourceKind::X => self.offset != 0 || self.imm != 0,
             },
+            Opcode::Call => self.dst != 0 || self.src != 0 || self.offset != 0,
             Opcode::Exit => self.dst != 0 || self.src != 0 || self.offset != 0 || self.imm != 0,
         }
     }
@@ -145,6 +147,13 @@ impl Insn {
                     imm,
                 }
             }
+            Insn::CallHelper { helper } => Slot {
+                opcode: Opcode::Call.byte(),
+                dst: 0,
+                src: 0,
+                offset: 0,
+                imm: helper,
+            },
             Insn::Exit => Slot {
                 opcode: Opcode::Exit.byte(),
                 dst: 0,

@@ -6,6 +6,7 @@ use clap::{Arg, ArgMatches, Command, value_parser};
 use host_types::ClientId;
 use std::alloc::{AllocError, Global};
 use std::io::{Read, Write};
+use tenant_maps::TenantMap;
 
 /// The client that calls where none is named.
 const DEFAULT_CLIENT: u32 = 16;
@@ -98,7 +99,7 @@ fn tell_verdict<O: Write>(
     Ok(procedure)
 }
 
-/// Judges the code, runs it, and writes how it ended.
+/// Judges the code, runs it over an empty map, and writes how it ended.
 fn exec<I: Read, O: Write>(
     alloc: Global,
     options: &ArgMatches<'_>,
@@ -112,7 +113,9 @@ fn exec<I: Read, O: Write>(
     }
     let client = ClientId(options.get_one::<u32>("client").unwrap_or(DEFAULT_CLIENT));
     let procedure = tell_verdict(alloc, &code, writer)?;
-    tell_ending(alloc, &run(&procedure, &arguments, client), writer)
+    let mut map = TenantMap::new(alloc);
+    let finished = run(&procedure, &arguments, client, &mut map)?;
+    tell_ending(alloc, &finished, writer)
 }
 
 /// Writes how a call ended.

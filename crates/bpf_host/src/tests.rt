@@ -8,7 +8,7 @@ type Case = (&'static [&'static str], &'static str, u8, &'static str);
 
 #[test]
 fn runs_of_the_program(rt: HostRuntime) -> Result<(), Fail> {
-    let cases: [Case; 19] = [
+    let cases: [Case; 27] = [
         (
             &["bpf_host"],
             "b700000007000000 9500000000000000\n",
@@ -50,6 +50,64 @@ fn runs_of_the_program(rt: HostRuntime) -> Result<(), Fail> {
             "bf300000000000009500000000000000",
             1,
             "refused 16 UninitRegister at 0\n",
+        ),
+        (
+            &[
+                "bpf_host",
+                "exec",
+                "--args",
+                "000102030405060708090a0b0c0d0e0f 00000000 00000001 00000002 00000003 00000004 00000005 00000006 00000007",
+            ],
+            "bf12000000000000 0702000010000000 8500000002000000 9500000000000000",
+            0,
+            "accepted bound 4\nresult 0\nsteps 4\nout -\n",
+        ),
+        (
+            &[
+                "bpf_host",
+                "exec",
+                "--args",
+                "000102030405060708090a0b0c0d0e0f",
+            ],
+            "bfa2000000000000 07020000e0ffffff 8500000001000000 9500000000000000",
+            0,
+            "accepted bound 4\nresult 1\nsteps 4\nout -\n",
+        ),
+        (
+            &["bpf_host", "verify"],
+            "8500000003000000 9500000000000000",
+            1,
+            "refused 14 UnknownHelper at 0\n",
+        ),
+        (
+            &["bpf_host", "verify"],
+            "8510000001000000 9500000000000000",
+            1,
+            "refused 6 FieldNotZero at 0\n",
+        ),
+        (
+            &["bpf_host", "verify"],
+            "8500000001000000 9500000000000000",
+            1,
+            "refused 17 BadAccess at 0\n",
+        ),
+        (
+            &["bpf_host", "verify"],
+            "bfa2000000000000 07020000e1ffffff 8500000001000000 9500000000000000",
+            1,
+            "refused 17 BadAccess at 2\n",
+        ),
+        (
+            &["bpf_host", "verify"],
+            "bfa1000000000000 07010000f0ffffff bfa2000000000000 07020000d0ffffff 8500000001000000 9500000000000000",
+            1,
+            "refused 18 UninitBytes at 4\n",
+        ),
+        (
+            &["bpf_host", "verify"],
+            "bfa2000000000000 07020000e0ffffff 8500000001000000 bf10000000000000 9500000000000000",
+            1,
+            "refused 16 UninitRegister at 3\n",
         ),
         (
             &["bpf_host", "verify"],

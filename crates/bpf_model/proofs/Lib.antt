@@ -1,5 +1,10 @@
 pub mod Options
+pub mod Pasted
 pub mod Places
 pub mod Arrivals
+pub mod Memories
+pub mod RangeLaws
+pub mod Meaning
+pub mod Fitting
 pub mod Safety
 pub mod Runs

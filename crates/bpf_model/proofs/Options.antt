@@ -1,5 +1,5 @@
 -- Options, tests and elements of lists.
-use Rattle.std.proofs.Common.{◌≡◌, ℕ, Bool, true, false, ◌&&◌, ◌||◌, cond, Option, Some, None, List, [], ◌∷◌, ◌++◌, refl, inl, inr}
+use Rattle.std.proofs.Common.{◌≡◌, ℕ, Bool, true, false, ◌&&◌, not, cond, Option, Some, None, List, [], ◌∷◌, ◌++◌, refl, inl, inr}
 use Rattle.std.specs.Prelude.{IsSome}
 use Rattle.bpf_model.specs.State.{IsOneOf}
 
@@ -16,14 +16,17 @@ and_true true b e = (refl, e)
 and_true false b e = absurd cc
 
 -- a chain of tests that finds nothing
-pub neither : (a b : Bool) (m n : ℕ) → cond a (Some m) (cond b (Some n) None) ≡ None → (a ≡ false) × (b ≡ false)
-neither true b m n e = absurd cc
-neither false true m n e = absurd cc
-neither false false m n e = (refl, refl)
+pub no_fault : (a b c : Bool) (m n k : ℕ) → cond a (Some m) (cond b (Some n) (cond c (Some k) None)) ≡ None → (a ≡ false) × (b ≡ false) × (c ≡ false)
+no_fault true b c m n k e = absurd cc
+no_fault false true c m n k e = absurd cc
+no_fault false false true m n k e = absurd cc
+no_fault false false false m n k e = (refl, refl, refl)
 
-pub found_none : (a : Bool) (n : ℕ) → cond a None (Some n) ≡ None → a ≡ true
-found_none true n e = refl
-found_none false n e = absurd cc
+pub all_three : (a b c : Bool) (m n k : ℕ) → cond (not a) (Some m) (cond (not b) (Some n) (cond (not c) (Some k) None)) ≡ None → (a ≡ true) × (b ≡ true) × (c ≡ true)
+all_three false b c m n k e = absurd cc
+all_three true false c m n k e = absurd cc
+all_three true true false m n k e = absurd cc
+all_three true true true m n k e = (refl, refl, refl)
 
 pub IsOneOf-left : {X : Type 0} (x : X) (xs ys : List X) → IsOneOf x xs → IsOneOf x (xs ++ ys)
 IsOneOf-left x [] ys h = absurd h
@@ -36,8 +39,3 @@ IsOneOf-right x (y ∷ xs) ys h = inr (IsOneOf-right x xs ys h)
 
 pub some_is : {A : Type 0} (x y : A) → Some x ≡ Some y → x ≡ y
 some_is x y e = cc
-
--- what is known after an insertion
-pub insert_some : (b c : Bool) (v : ℕ) (o : Option ℕ) → (b || c) ≡ true → (c ≡ true → IsSome o) → IsSome (cond b (Some v) o)
-insert_some true c v o e f = refl
-insert_some false c v o e f = f e

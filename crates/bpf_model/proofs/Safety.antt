@@ -1,95 +1,45 @@
 -- Accepted code is safe: each machine that is reached stands at a slot that a path leads to, and holds what is known
 -- there.
-use Rattle.std.proofs.Common.{◌≡◌, ◌⊎◌, ℕ, zero, suc, ◌+◌, ◌<◌, ◌≤◌, Bool, true, false, ◌&&◌, ◌||◌, eqb, leb, List, [], ◌∷◌, length, Option, Some, None, refl, sym, ap, subst, ◌∙◌, arith, inl, inr}
-use Rattle.std.specs.Prelude.{IsSome}
-use Rattle.std.specs.List.{list_any, list_all}
-use Rattle.std.specs.Int.{w64, cast_unsigned}
+use Rattle.std.proofs.Common.{◌≡◌, ◌⊎◌, ℕ, zero, suc, ◌+◌, ◌<◌, ◌≤◌, Bool, true, false, ◌&&◌, cond, leb, List, [], ◌∷◌, ◌++◌, length, get_or, Option, Some, None, ℤ, refl, sym, ap, subst, ◌∙◌, arith, inl, inr, map}
+use Rattle.std.specs.List.{list_all}
+use Rattle.std.specs.Option.{is_some, is_none}
+use Rattle.std.specs.FinMap as finite
 use Rattle.std.specs.Ordering.{nat_cmp, eq_by_cmp}
-use Rattle.std.specs.Cmp.{nat_cmp_total}
-use Rattle.std.specs.FinMap as map
-use Rattle.std.specs.FinSet as set
-use Rattle.std.proofs.lemmas.Bool.{leb-false, eqb-true}
-use Rattle.bpf_num.specs.declared.AluOp.{AluOp}
-use Rattle.bpf_num.specs.declared.AluOp.TheVariants.{Add, Mov}
-use Rattle.bpf_num.specs.declared.AluWidth.{AluWidth}
+use Rattle.std.specs.Cmp.Lexicographic.{slice_cmp}
+use Rattle.std.proofs.lemmas.Bool.{leb-false}
 use Rattle.bpf_decode.specs.declared.insn.Insn.{Insn}
-use Rattle.bpf_decode.specs.declared.insn.Insn.TheVariants.{Alu, Exit}
-use Rattle.bpf_decode.specs.declared.insn.Reg.{Reg}
-use Rattle.bpf_decode.specs.declared.insn.Source.{Source}
-use Rattle.bpf_decode.specs.declared.insn.Source.TheVariants as source
+use Rattle.bpf_decode.specs.declared.insn.Insn.TheVariants.{Alu, CallHelper, Exit}
 use Rattle.bpf_decode.specs.Faults.{IsCode}
+use Rattle.bpf_model.specs.Bind.{◌>>=◌}
 use Rattle.bpf_model.specs.Code.{slots_of, placed, insn_at}
-use Rattle.bpf_model.specs.Machine.{Machine, Call, start, arguments_start, frame_end}
-use Rattle.bpf_model.specs.Step.{Goes, Ends, ◌>>=◌, alu_of, source_value, effect, step}
+use Rattle.tenant_maps.specs.Entries.{Entries, IsTenantMap}
+use Rattle.bpf_model.specs.Machine.{Machine, Call, IsCall, start}
+use Rattle.bpf_model.specs.Helpers.{Helper, Access, Get, Put, helper_of, writes}
+use Rattle.bpf_model.specs.Ranges.{Range}
+use Rattle.bpf_model.specs.Step.{Goes, Ends, effect, step}
 use Rattle.bpf_model.specs.Run.{Run, Ending, EndsSo, IsSafe}
-use Rattle.bpf_model.specs.State.{State, Edge, start_state, has_operands, source_operands, IsOneOf}
+use Rattle.bpf_model.specs.State.{State, Edge, start_state, has_operands, helper_operands, helper_reads, helper_writes, reads_of, writes_of, are_inside, are_there, edges, with_range, alu_range, after_helper, IsOneOf}
 use Rattle.bpf_model.specs.Arrival.{edges_of, state_at, edges_at, Path}
-use Rattle.bpf_model.specs.Verdict.{IsAccepted, falls_off_end, writes_frame_pointer, uninit_register, insn_fault, place_fault, known_fault, goes_on, writes_r10}
-use Rattle.bpf_model.proofs.Options.{some_of, is_some_of, and_true, neither, found_none, insert_some}
+use Rattle.bpf_model.specs.Verdict.{IsAccepted, falls_off_end, unknown_helper, writes_frame_pointer, uninit_register, bad_access, uninit_bytes, insn_fault, place_fault, known_fault, insn_known_fault, goes_on, calls_unknown, writes_r10}
+use Rattle.bpf_model.proofs.Options.{some_is, is_some_of, and_true, all_three, no_fault}
 use Rattle.bpf_model.proofs.Places.{one_slot, length-placed, some_at, few}
 use Rattle.bpf_model.proofs.Arrivals.{IsBelow, arrives}
-
--- the registers that are known to hold something do
-pub record Means (state : State) (m : Machine) : Type 0 where
-  pub present : (r : ℕ) → set.contains state.present r ≡ true → IsSome (map.get m.frame.registers r)
-
--- ---- the start
-
-three : (r : ℕ) → list_any (λ y. eqb y r) (1 ∷ 2 ∷ 10 ∷ []) ≡ true → (1 ≡ r) ⊎ ((2 ≡ r) ⊎ (10 ≡ r))
-three r h = cases (eqb 1 r) (eqb 2 r) (eqb 10 r) refl refl refl h where
-  cases : (a b c : Bool) → eqb 1 r ≡ a → eqb 2 r ≡ b → eqb 10 r ≡ c → (a || (b || (c || false))) ≡ true → (1 ≡ r) ⊎ ((2 ≡ r) ⊎ (10 ≡ r))
-  cases true b c p q s e = inl (eqb-true _ _ p)
-  cases false true c p q s e = inr (inl (eqb-true _ _ q))
-  cases false false true p q s e = inr (inr (eqb-true _ _ s))
-  cases false false false p q s e = absurd cc
-
-start_means : (call : Call) → Means start_state (start call)
-start_means call = record {
-  present = λ r h.
-      let found = map.get-from_entries nat_cmp_total ((1, arguments_start) ∷ (2, length call.arguments) ∷ (10, frame_end 0) ∷ []) r in
-      let P : ℕ → Type 0 = λ q. IsSome (map.find nat_cmp q ((1, arguments_start) ∷ (2, length call.arguments) ∷ (10, frame_end 0) ∷ [])) in
-      rw found (elim (three r (sym (set.contains-from_list_nat (1 ∷ 2 ∷ 10 ∷ []) r) ∙ h)) [
-        | inl e ↦ subst P e refl
-        | inr (inl e) ↦ subst P e refl
-        | inr (inr e) ↦ subst P e refl
-      ]);
-}
+use Rattle.bpf_model.proofs.Meaning.{Means, source_fits, start_means, moved, alu_moves, moved_means, AreValues, Answers, after, get_answers, put_answers, helper_means}
+use Rattle.bpf_model.proofs.Fitting.{fit_at, insn_fits}
 
 -- ---- one instruction
 
--- the machine after an instruction that wrote a register
-abbrev moved : Machine → ℕ → ℕ → ℕ → Machine
-moved m slots dst value =
-    record m { frame = record { pc = m.frame.pc + slots; registers = map.insert m.frame.registers dst value } }
-
-source_some : (state : State) (m : Machine) (src : Source) → Means state m → list_all (λ r. set.contains state.present r) (source_operands src) ≡ true → (b : ℕ) × (source_value m.frame.registers src ≡ Some b)
-source_some state m (source.Imm value) means h = (cast_unsigned w64 value, refl)
-source_some state m (source.Reg reg) means h =
-    some_of (map.get m.frame.registers reg.number) (means.present reg.number (and_true _ _ h).0)
-
-add_effect : (m : Machine) (width : AluWidth) (dst : Reg) (src : Source) (a b : ℕ) → source_value m.frame.registers src ≡ Some b → map.get m.frame.registers dst.number ≡ Some a → eqb dst.number 10 ≡ false → effect m (Alu width Add dst src) ≡ Some (Goes (moved m (slots_of (Alu width Add dst src)) dst.number (alu_of width Add a b)))
-add_effect m width dst src a b b-is a-is ten = rw (b-is, a-is, ten) refl
-
-mov_effect : (m : Machine) (width : AluWidth) (dst : Reg) (src : Source) (b : ℕ) → source_value m.frame.registers src ≡ Some b → eqb dst.number 10 ≡ false → effect m (Alu width Mov dst src) ≡ Some (Goes (moved m (slots_of (Alu width Mov dst src)) dst.number (alu_of width Mov 0 b)))
-mov_effect m width dst src b b-is ten = rw (b-is, ten) refl
-
-exit_effect : (m : Machine) (a : ℕ) → map.get m.frame.registers 0 ≡ Some a → m.callers ≡ [] → effect m Exit ≡ Some (Ends a)
+exit_effect : (m : Machine) (a : ℕ) → finite.get m.frame.registers 0 ≡ Some a → m.callers ≡ [] → effect m Exit ≡ Some (Ends a)
 exit_effect m a a-is alone = rw (a-is, alone) refl
-
-alu_step : (m : Machine) (state : State) (width : AluWidth) (op : AluOp) (dst : Reg) (src : Source) → Means state m → has_operands state (Alu width op dst src) ≡ true → eqb dst.number 10 ≡ false → (value : ℕ) × (effect m (Alu width op dst src) ≡ Some (Goes (moved m (slots_of (Alu width op dst src)) dst.number value)))
-alu_step m state width Add dst src means h ten =
-    let both = and_true _ _ h in
-    let a = some_of (map.get m.frame.registers dst.number) (means.present dst.number both.0) in
-    let b = source_some state m src means both.1 in
-    (alu_of width Add a.0 b.0, add_effect m width dst src a.0 b.0 b.1 a.1 ten)
-alu_step m state width Mov dst src means h ten =
-    let b = source_some state m src means h in
-    (alu_of width Mov 0 b.0, mov_effect m width dst src b.0 b.1 ten)
 
 exit_step : (m : Machine) (state : State) → Means state m → has_operands state Exit ≡ true → m.callers ≡ [] → (value : ℕ) × (effect m Exit ≡ Some (Ends value))
 exit_step m state means h alone =
-    let a = some_of (map.get m.frame.registers 0) (means.present 0 (and_true _ _ h).0) in
-    (a.0, exit_effect m a.0 a.1 alone)
+    let known = some_known (state.ranges 0) (and_true _ _ h).0 in
+    let a = means.ranges 0 known.0 known.1 in
+    (a.value, exit_effect m a.value a.is alone) where
+      some_known : (o : Option Range) → is_some o ≡ true → (x : Range) × (o ≡ Some x)
+      some_known None e = absurd cc
+      some_known (Some x) e = (x, refl)
 
 -- where an edge comes from and leads to
 pub edge_from : (s : ℕ) (o : Option State) (i : Option Insn) (e : Edge) → IsOneOf e (edges_of s o i) → (state : State) × (x : Insn) × (o ≡ Some state) × (i ≡ Some x) × (goes_on x ≡ true) × (e.target ≡ s + slots_of x)
@@ -99,16 +49,40 @@ edge_from s (Some state) (Some Exit) e h = absurd h
 edge_from s (Some state) (Some (Alu width op dst src)) e (inl is) =
     (state, Alu width op dst src, refl, refl, refl, ap (λ (x : Edge). x.target) is)
 edge_from s (Some state) (Some (Alu width op dst src)) e (inr h) = absurd h
+edge_from s (Some state) (Some (CallHelper number)) e (inl is) =
+    (state, CallHelper number, refl, refl, refl, ap (λ (x : Edge). x.target) is)
+edge_from s (Some state) (Some (CallHelper number)) e (inr h) = absurd h
 
 and_false : (a b : Bool) → a ≡ true → (a && b) ≡ false → b ≡ false
 and_false true b e h = h
 and_false false b e h = absurd cc
+
+-- the values of a tenant's map have 32 bytes
+found_long : (q value : List ℕ) (es : List (List ℕ × List ℕ)) → ((k : ℕ) (d : List ℕ) → k < length (map (λ e. e.1) es) → length (get_or (map (λ e. e.1) es) k d) ≡ 32) → finite.find (slice_cmp nat_cmp) q es ≡ Some value → length value ≡ 32
+found_long q value [] all h = absurd cc
+found_long q value (e ∷ es) all h =
+    elim (choice (eq_by_cmp (slice_cmp nat_cmp) q e.0) refl) [
+      | inl t ↦
+          let is : e.1 ≡ value = some_is _ _ (sym (ap (λ (b : Bool). cond b (Some e.1) (finite.find (slice_cmp nat_cmp) q es)) t) ∙ h) in
+          subst (λ (v : List ℕ). length v ≡ 32) is (all 0 e.1 (omega arith))
+      | inr f ↦
+          found_long q value es (λ k d lt. all (suc k) d (omega arith)) (sym (ap (λ (b : Bool). cond b (Some e.1) (finite.find (slice_cmp nat_cmp) q es)) f) ∙ h)
+    ] where
+      choice : (b : Bool) → eq_by_cmp (slice_cmp nat_cmp) q e.0 ≡ b → (eq_by_cmp (slice_cmp nat_cmp) q e.0 ≡ true) ⊎ (eq_by_cmp (slice_cmp nat_cmp) q e.0 ≡ false)
+      choice true p = inl p
+      choice false p = inr p
+
+pub values_of : (entries : Entries) → IsTenantMap entries → AreValues entries
+unfolding AreValues
+values_of entries is key value found =
+    found_long key value (finite.entries entries) (λ k d lt. (is.values k d lt).0) (sym (finite.get-entries entries key) ∙ found)
 
 -- ---- a machine that is reached
 
 -- what holds of a machine that n steps reach
 record Reached (code : List Insn) (n : ℕ) (m : Machine) : Type 0 where
   callers : m.callers ≡ []
+  values : AreValues m.entries
   path : Path code n m.frame.pc
   known : State
   known_is : state_at code m.frame.pc ≡ Some known
@@ -116,26 +90,45 @@ record Reached (code : List Insn) (n : ℕ) (m : Machine) : Type 0 where
   insn : Insn
   insn_is : insn_at code m.frame.pc ≡ Some insn
 
+-- what a slot's having no fault says
+record IsRight (code : List Insn) (pc : ℕ) (state : State) (x : Insn) : Type 0 where
+  operands : has_operands state x ≡ true
+  inside : are_inside state (reads_of x ++ writes_of x) ≡ true
+  there : are_there state (reads_of x) ≡ true
+  behind : (goes_on x && leb (length (placed code)) (pc + slots_of x)) ≡ false
+  helper : calls_unknown x ≡ false
+  r10 : writes_r10 x ≡ false
+
 module _ (bytes : List ℕ) (code : List Insn) (bound : ℕ) (c : IsCode bytes code) (a : IsAccepted code bound) where
-  reached_start : (call : Call) → Reached code 0 (start call)
-  reached_start call =
+  reached_start : (call : Call) → IsCall call → Reached code 0 (start call)
+  reached_start call is =
       let first = some_at code 0 (few bytes code c).0 in
-      record { callers = refl; path = refl; known = start_state; known_is = refl; means = start_means call; insn = first.0; insn_is = first.1 }
+      record {
+        callers = refl;
+        values = values_of call.entries is.entries;
+        path = refl;
+        known = start_state;
+        known_is = refl;
+        means = start_means call is;
+        insn = first.0;
+        insn_is = first.1;
+      }
 
   -- the instruction has no fault
-  right : (pc : ℕ) (state : State) (x : Insn) → state_at code pc ≡ Some state → insn_at code pc ≡ Some x → (has_operands state x ≡ true) × ((goes_on x && leb (length (placed code)) (pc + slots_of x)) ≡ false) × (writes_r10 x ≡ false)
+  right : (pc : ℕ) (state : State) (x : Insn) → state_at code pc ≡ Some state → insn_at code pc ≡ Some x → IsRight code pc state x
   right pc state x known is =
-      let reads : known_fault (Some state) (Some x) ≡ None = sym (ap (λ (o : Option State). known_fault o (insn_at code pc)) known ∙ ap (known_fault (Some state)) is) ∙ a.visits pc in
+      let reads : insn_known_fault state x ≡ None = sym (ap (λ (o : Option State). known_fault o (insn_at code pc)) known ∙ ap (known_fault (Some state)) is) ∙ a.visits pc in
       let stands : insn_fault (length (placed code)) pc x ≡ None = sym (ap (place_fault (length (placed code)) pc) is) ∙ a.structure pc in
-      let both = neither (goes_on x && leb (length (placed code)) (pc + slots_of x)) (writes_r10 x) falls_off_end writes_frame_pointer stands in
-      (found_none (has_operands state x) uninit_register reads, both.0, both.1)
-
-  known_after : (m : Machine) (state j : State) (slots dst value : ℕ) → Means state m → IsBelow j (record { present = set.insert state.present dst }) → Means j (moved m slots dst value)
-  known_after m state j slots dst value means below = record {
-    present = λ r h.
-        let there = sym (set.contains-insert nat_cmp_total state.present dst r) ∙ below.present r h in
-        rw (map.get-insert nat_cmp_total m.frame.registers dst value r) (insert_some (eq_by_cmp nat_cmp r dst) (set.contains state.present r) value (map.get m.frame.registers r) there (means.present r));
-  }
+      let whole = no_fault (goes_on x && leb (length (placed code)) (pc + slots_of x)) (calls_unknown x) (writes_r10 x) falls_off_end unknown_helper writes_frame_pointer stands in
+      let known = all_three (has_operands state x) (are_inside state (reads_of x ++ writes_of x)) (are_there state (reads_of x)) uninit_register bad_access uninit_bytes reads in
+      record {
+        operands = known.0;
+        inside = known.1;
+        there = known.2;
+        behind = whole.0;
+        helper = whole.1;
+        r10 = whole.2;
+      }
 
   -- one step: on to a machine that is reached in its turn, or out
   abbrev Progresses : ℕ → Machine → Type 0
@@ -143,38 +136,73 @@ module _ (bytes : List ℕ) (code : List Insn) (bound : ℕ) (c : IsCode bytes c
       ((next : Machine) × (step code m ≡ Some (Goes next)) × Reached code (suc n) next)
       ⊎ ((value : ℕ) × (step code m ≡ Some (Ends value)))
 
+  -- on over the one edge out of an instruction
+  onward : (n : ℕ) (m next : Machine) (x : Insn) (after : State) → (at : Reached code n m) → at.insn ≡ x → goes_on x ≡ true → edges m.frame.pc at.known x ≡ record { target = m.frame.pc + slots_of x; state = after } ∷ [] → effect m x ≡ Some (Goes next) → next.frame.pc ≡ m.frame.pc + slots_of x → next.callers ≡ m.callers → AreValues next.entries → ((j : State) → IsBelow j after → Means j next) → Progresses n m
+  onward n m next x after at e goes edge-is does pc-is callers-are values means =
+      let is : insn_at code m.frame.pc ≡ Some x = at.insn_is ∙ ap Some e in
+      let ok = right m.frame.pc at.known x at.known_is is in
+      let one = one_slot x in
+      let behind = leb-false _ _ (and_false (goes_on x) _ goes ok.behind) in
+      let inside : m.frame.pc + slots_of x < length code = omega (arith, behind, length-placed code) in
+      let edge : Edge = record { target = m.frame.pc + slots_of x; state = after } in
+      let edges-are : edges_at code m.frame.pc ≡ edge ∷ [] = ap (λ (o : Option State). edges_of m.frame.pc o (insn_at code m.frame.pc)) at.known_is ∙ ap (edges_of m.frame.pc (Some at.known)) is ∙ edge-is in
+      let one_of : IsOneOf edge (edges_at code m.frame.pc) = subst (λ (es : List Edge). IsOneOf edge es) (sym edges-are) (inl refl) in
+      let later : m.frame.pc < m.frame.pc + slots_of x = omega arith in
+      let j = arrives code m.frame.pc edge one_of later in
+      let there = some_at code (m.frame.pc + slots_of x) inside in
+      inl (
+        next,
+        ap (λ (o : Option Insn). o >>= λ (i : Insn). effect m i) is ∙ does,
+        record {
+          callers = callers-are ∙ at.callers;
+          values = values;
+          path = (m.frame.pc, edge, at.path, one_of, sym pc-is);
+          known = j.0;
+          known_is = ap (state_at code) pc-is ∙ j.1;
+          means = means j.0 j.2;
+          insn = there.0;
+          insn_is = ap (insn_at code) pc-is ∙ there.1;
+        },
+      )
+
+  -- a helper's answer leads on
+  helped : (n : ℕ) (m : Machine) (number : ℤ) (helper : Helper) → (at : Reached code n m) → at.insn ≡ CallHelper number → helper_of number ≡ Some helper → Answers at.known m helper number → Progresses n m
+  helped n m number helper at e is answers =
+      let written : writes_of (CallHelper number) ≡ writes helper = ap helper_writes is in
+      let edge-is = ap (λ (ws : List Access). record { target = m.frame.pc + slots_of (CallHelper number); state = after_helper at.known ws } ∷ []) written in
+      onward n m (after m (slots_of (CallHelper number)) answers.answer) (CallHelper number) (after_helper at.known (writes helper)) at e refl edge-is answers.goes refl refl answers.values (λ j below. helper_means at.known j m helper number at.means answers below)
+
+  helper_at : (n : ℕ) (m : Machine) (number : ℤ) → (at : Reached code n m) → at.insn ≡ CallHelper number → (o : Option Helper) → helper_of number ≡ o → IsRight code m.frame.pc at.known (CallHelper number) → Progresses n m
+  helper_at n m number at e None is ok = absurd (let known = sym (ap is_none is) ∙ ok.helper in cc)
+  helper_at n m number at e (Some Get) is ok =
+      let has = sym (ap (λ (o : Option Helper). list_all (λ r. is_some (at.known.ranges r)) (helper_operands o)) is) ∙ ok.operands in
+      let inside = sym (ap (λ (o : Option Helper). are_inside at.known (helper_reads o ++ helper_writes o)) is) ∙ ok.inside in
+      let there = sym (ap (λ (o : Option Helper). are_there at.known (helper_reads o)) is) ∙ ok.there in
+      helped n m number Get at e is (get_answers at.known m number is at.means at.callers at.values has inside there)
+  helper_at n m number at e (Some Put) is ok =
+      let has = sym (ap (λ (o : Option Helper). list_all (λ r. is_some (at.known.ranges r)) (helper_operands o)) is) ∙ ok.operands in
+      let inside = sym (ap (λ (o : Option Helper). are_inside at.known (helper_reads o ++ helper_writes o)) is) ∙ ok.inside in
+      let there = sym (ap (λ (o : Option Helper). are_there at.known (helper_reads o)) is) ∙ ok.there in
+      helped n m number Put at e is (put_answers at.known m number is at.means at.values has inside there)
+
   progress_at : (n : ℕ) (m : Machine) (x : Insn) → (at : Reached code n m) → at.insn ≡ x → Progresses n m
   progress_at n m Exit at e =
       let is : insn_at code m.frame.pc ≡ Some Exit = at.insn_is ∙ ap Some e in
       let ok = right m.frame.pc at.known Exit at.known_is is in
-      let out = exit_step m at.known at.means ok.0 at.callers in
+      let out = exit_step m at.known at.means ok.operands at.callers in
       inr (out.0, ap (λ (o : Option Insn). o >>= λ (i : Insn). effect m i) is ∙ out.1)
+  progress_at n m (CallHelper number) at e =
+      let is : insn_at code m.frame.pc ≡ Some (CallHelper number) = at.insn_is ∙ ap Some e in
+      let ok = right m.frame.pc at.known (CallHelper number) at.known_is is in
+      helper_at n m number at e (helper_of number) refl ok
   progress_at n m (Alu width op dst src) at e =
       let x : Insn = Alu width op dst src in
       let is : insn_at code m.frame.pc ≡ Some x = at.insn_is ∙ ap Some e in
       let ok = right m.frame.pc at.known x at.known_is is in
-      let one = one_slot x in
-      let inside : m.frame.pc + slots_of x < length code = omega (arith, leb-false _ _ ok.1, length-placed code) in
-      let go = alu_step m at.known width op dst src at.means ok.0 ok.2 in
-      let edge : Edge = record { target = m.frame.pc + slots_of x; state = record { present = set.insert at.known.present dst.number } } in
-      let edges-are : edges_at code m.frame.pc ≡ edge ∷ [] = ap (λ (o : Option State). edges_of m.frame.pc o (insn_at code m.frame.pc)) at.known_is ∙ ap (edges_of m.frame.pc (Some at.known)) is in
-      let one_of : IsOneOf edge (edges_at code m.frame.pc) = rw edges-are (inl refl) in
-      let later : m.frame.pc < m.frame.pc + slots_of x = omega arith in
-      let j = arrives code m.frame.pc edge one_of later in
-      let next = some_at code (m.frame.pc + slots_of x) inside in
-      inl (
-        moved m (slots_of x) dst.number go.0,
-        ap (λ (o : Option Insn). o >>= λ (i : Insn). effect m i) is ∙ go.1,
-        record {
-          callers = at.callers;
-          path = (m.frame.pc, edge, at.path, one_of, refl);
-          known = j.0;
-          known_is = j.1;
-          means = known_after m at.known j.0 (slots_of x) dst.number go.0 at.means j.2;
-          insn = next.0;
-          insn_is = next.1;
-        },
-      )
+      let small = source_fits width op dst src (insn_fits code m.frame.pc x c.fit is) in
+      let fit = fit_at code c.fit m.frame.pc at.known at.known_is in
+      let moves = alu_moves at.known m width op dst src at.means fit small ok.operands ok.r10 in
+      onward n m (moved m (slots_of x) dst.number moves.value) x (with_range at.known dst.number (alu_range at.known x)) at e refl refl moves.goes refl refl at.values (λ j below. moved_means at.known j m x dst.number at.means moves below)
 
   progress : (n : ℕ) (m : Machine) → Reached code n m → Progresses n m
   progress n m at = progress_at n m at.insn at refl
@@ -182,22 +210,22 @@ module _ (bytes : List ℕ) (code : List Insn) (bound : ℕ) (c : IsCode bytes c
   goes_is : (x y : Machine) → Some (Goes x) ≡ Some (Goes y) → x ≡ y
   goes_is x y e = cc
 
-  reached : (call : Call) (n : ℕ) (m : Machine) → Run code (start call) n m → Reached code n m
-  reached call zero m run = subst (Reached code 0) run (reached_start call)
-  reached call (suc n) m (mid, run, goes) =
-      elim (progress n mid (reached call n mid run)) [
+  reached : (call : Call) → IsCall call → (n : ℕ) (m : Machine) → Run code (start call) n m → Reached code n m
+  reached call is zero m run = subst (Reached code 0) run (reached_start call is)
+  reached call is (suc n) m (mid, run, goes) =
+      elim (progress n mid (reached call is n mid run)) [
         | inl (next, there, at) ↦ subst (Reached code (suc n)) (goes_is next m (sym there ∙ goes)) at
         | inr (value, out) ↦ absurd (let both = sym out ∙ goes in cc)
       ]
 
   -- the run ends before the steps that are left are used up
-  ends_within : (call : Call) (left n : ℕ) (m : Machine) → Run code (start call) n m → n + left ≡ bound → (ending : Ending) × EndsSo code call ending × (ending.steps ≤ bound)
-  ends_within call zero n m run sum =
-      let at = reached call n m run in
+  ends_within : (call : Call) → IsCall call → (left n : ℕ) (m : Machine) → Run code (start call) n m → n + left ≡ bound → (ending : Ending) × EndsSo code call ending × (ending.steps ≤ bound)
+  ends_within call is zero n m run sum =
+      let at = reached call is n m run in
       let enough = a.longest.enough n m.frame.pc at.path in absurd (omega arith)
-  ends_within call (suc left) n m run sum =
-      elim (progress n m (reached call n m run)) [
-        | inl (next, goes, at) ↦ ends_within call left (suc n) next (m, run, goes) (omega arith)
+  ends_within call is (suc left) n m run sum =
+      elim (progress n m (reached call is n m run)) [
+        | inl (next, goes, at) ↦ ends_within call is left (suc n) next (m, run, goes) (omega arith)
         | inr (value, out) ↦ (
           record { value = value; output = m.output; entries = m.entries; steps = n + 1 },
           record { before = n; last = m; run = run; exits = out; output = refl; entries = refl; steps = refl },
@@ -208,11 +236,11 @@ module _ (bytes : List ℕ) (code : List Insn) (bound : ℕ) (c : IsCode bytes c
   pub safe : IsSafe code bound
   safe = record {
     unstuck = λ call is n m run.
-        elim (progress n m (reached call n m run)) [
+        elim (progress n m (reached call is n m run)) [
           | inl (next, goes, at) ↦ is_some_of (step code m) (Goes next) goes
           | inr (value, out) ↦ is_some_of (step code m) (Ends value) out
         ];
-    ends = λ call is. ends_within call bound 0 (start call) refl (omega arith);
+    ends = λ call is. ends_within call is bound 0 (start call) refl (omega arith);
   }
 
   -- ---- the bound
@@ -223,7 +251,7 @@ module _ (bytes : List ℕ) (code : List Insn) (bound : ℕ) (c : IsCode bytes c
       let before = path_within n s path in
       let from = edge_from s (state_at code s) (insn_at code s) e one_of in
       let ok = right s from.0 from.1 from.2 from.3 in
-      let inside = and_false (goes_on from.1) _ from.4 ok.1 in
+      let inside = and_false (goes_on from.1) _ from.4 ok.behind in
       let one = one_slot from.1 in
       let lands = from.5 in
       (omega arith, omega (arith, leb-false _ _ inside, length-placed code))

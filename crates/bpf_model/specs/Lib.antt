@@ -1,5 +1,8 @@
+pub mod Bind
 pub mod Code
 pub mod Machine
+pub mod Helpers
+pub mod Ranges
 pub mod Step
 pub mod Run
 pub mod State
@@ -8,3 +11,4 @@ pub mod Verdict
 pub use Rattle.bpf_num.specs.Arithmetic
 pub use Rattle.bpf_decode.specs.Faults
 pub use Rattle.bpf_decode.specs.Spelling
+pub use Rattle.tenant_maps.specs.Entries

@@ -1,55 +1,176 @@
 -- What is known of the machine at a slot, whatever it is called with, and what an instruction makes of it.
-use Rattle.std.specs.Prelude.{◌≡◌, ◌⊎◌, ℕ, ◌+◌, Bool, if◌then◌else◌, List, [], ◌∷◌, ◌++◌, fold, Option, Some, None}
-use Rattle.std.specs.List.{list_all}
-use Rattle.std.specs.Ordering.{nat_cmp}
-use Rattle.std.specs.FinSet as set
+use Rattle.std.specs.Prelude.{◌≡◌, ◌⊎◌, ℕ, zero, suc, ◌+◌, ◌-◌, Bool, true, false, ◌&&◌, ◌||◌, ◌==◌, nat_le, nat_lt, if◌then◌else◌, List, [], ◌∷◌, ◌++◌, fold, Option, Some, None}
+use Rattle.std.specs.Int.{w64, cast_unsigned}
+use Rattle.std.specs.List.{list_all, list_any}
+use Rattle.std.specs.Option.{is_some}
+use Rattle.bpf_num.specs.declared.AluOp.{AluOp}
 use Rattle.bpf_decode.specs.declared.insn.Insn.{Insn}
-use Rattle.bpf_decode.specs.declared.insn.Insn.TheVariants.{Alu, Exit}
+use Rattle.bpf_decode.specs.declared.insn.Insn.TheVariants.{Alu, CallHelper, Exit}
 use Rattle.bpf_decode.specs.declared.insn.Source.{Source}
 use Rattle.bpf_decode.specs.declared.insn.Source.TheVariants as source
+use Rattle.bpf_model.specs.Bind.{◌>>=◌}
 use Rattle.bpf_model.specs.Code.{slots_of}
+use Rattle.bpf_model.specs.Machine.{arguments_start, frame_end, is_inside}
 use Rattle.bpf_model.specs.Step.{reads_destination}
+use Rattle.bpf_model.specs.Helpers.{Helper, Access, helper_of, arguments_of, reads, writes}
+use Rattle.bpf_model.specs.Ranges.{Range, single, is_single, hull, transfer}
 
--- The registers that hold something for certain.
+-- The range of each register that holds a number for certain, and the bytes of the stack that are there for certain:
+-- they are marked.
 pub record State : Type 0 where
-  pub present : set.FinSet nat_cmp
+  pub ranges : ℕ → Option Range
+  pub marked : ℕ → Bool
 
--- As a call begins.
+-- As a call begins: r1 has the address of the arguments, r2 their length, r10 the frame's end.
 abbrev pub start_state : State
-start_state = record { present = set.from_list (1 ∷ 2 ∷ 10 ∷ []) }
+start_state = record {
+  ranges = λ r.
+      if r == 1 then Some (single arguments_start)
+      else if r == 2 then Some (record { lo = 0; hi = 256 })
+      else if r == 10 then Some (single (frame_end 0))
+      else None;
+  marked = λ a. false;
+}
+
+abbrev pub both : Option Range → Option Range → Option Range
+both (Some a) (Some b) = Some (hull a b)
+both (Some a) None = None
+both None b = None
 
 -- What is known where two ways meet: what is known on both.
 abbrev pub meet : State → State → State
-meet a b = record { present = set.intersection a.present b.present }
+meet a b = record {
+  ranges = λ r. both (a.ranges r) (b.ranges r);
+  marked = λ address. a.marked address && b.marked address;
+}
 
 -- What is known where all these ways meet; nothing leads here where there is none.
 abbrev pub joined : List State → Option State
 joined [] = None
 joined (s ∷ ss) = Some (fold meet s ss)
 
+-- ---- what an instruction reads
+
 abbrev pub source_operands : Source → List ℕ
 source_operands (source.Imm value) = []
 source_operands (source.Reg reg) = reg.number ∷ []
 
+abbrev pub helper_operands : Option Helper → List ℕ
+helper_operands None = []
+helper_operands (Some helper) = arguments_of helper
+
 -- The registers that an instruction reads, in the order in which they are judged.
 abbrev pub operands : Insn → List ℕ
 operands (Alu width op dst src) = (if reads_destination op then dst.number ∷ [] else []) ++ source_operands src
+operands (CallHelper number) = helper_operands (helper_of number)
 operands Exit = 0 ∷ []
 
 abbrev pub has_operands : State → Insn → Bool
-has_operands state insn = list_all (λ r. set.contains state.present r) (operands insn)
+has_operands state insn = list_all (λ r. is_some (state.ranges r)) (operands insn)
+
+-- ---- accesses to memory
+
+-- Whether so many bytes from an address on are all marked.
+abbrev pub all_marked : (ℕ → Bool) → ℕ → ℕ → Bool
+all_marked marked address zero = true
+all_marked marked address (suc n) = marked address && all_marked marked (address + 1) n
+
+-- How many bytes an access of this size may touch, from the least address on.
+abbrev pub extent : Range → ℕ → ℕ
+extent range size = range.hi + size - range.lo
+
+-- Whether all bytes that an access may touch lie in the frame, or all in the arguments.
+abbrev pub lies_inside : Option Range → ℕ → Bool
+lies_inside None size = false
+lies_inside (Some range) size = is_inside 0 range.lo (extent range size)
+
+-- Whether all bytes of the stack that an access may touch are marked. The arguments are always there.
+abbrev pub is_there : (ℕ → Bool) → Option Range → ℕ → Bool
+is_there marked None size = false
+is_there marked (Some range) size =
+    nat_le arguments_start range.lo || all_marked marked range.lo (extent range size)
+
+abbrev pub helper_reads : Option Helper → List Access
+helper_reads None = []
+helper_reads (Some helper) = reads helper
+
+abbrev pub helper_writes : Option Helper → List Access
+helper_writes None = []
+helper_writes (Some helper) = writes helper
+
+abbrev pub reads_of : Insn → List Access
+reads_of (Alu width op dst src) = []
+reads_of (CallHelper number) = helper_reads (helper_of number)
+reads_of Exit = []
+
+abbrev pub writes_of : Insn → List Access
+writes_of (Alu width op dst src) = []
+writes_of (CallHelper number) = helper_writes (helper_of number)
+writes_of Exit = []
+
+abbrev pub are_inside : State → List Access → Bool
+are_inside state accesses = list_all (λ access. lies_inside (state.ranges access.register) access.size) accesses
+
+abbrev pub are_there : State → List Access → Bool
+are_there state accesses =
+    list_all (λ access. is_there state.marked (state.ranges access.register) access.size) accesses
+
+-- ---- what an instruction makes of a state
+
+abbrev pub source_range : State → Source → Option Range
+source_range state (source.Imm value) = Some (single (cast_unsigned w64 value))
+source_range state (source.Reg reg) = state.ranges reg.number
+
+-- The first operand, where it is read.
+abbrev pub destination_range : State → AluOp → ℕ → Option Range
+destination_range state op dst = if reads_destination op then state.ranges dst else Some (single 0)
+
+abbrev pub with_range : State → ℕ → Option Range → State
+with_range state dst range = record state { ranges = λ r. if r == dst then range else state.ranges r }
+
+-- A write marks its bytes where its address is a single number.
+abbrev pub is_written : Option Range → ℕ → ℕ → Bool
+is_written None size address = false
+is_written (Some range) size address =
+    is_single range && nat_le range.lo address && nat_lt address (range.lo + size)
+
+-- After a helper r0 holds 0 or 1, and r1 to r5 nothing.
+abbrev pub after_helper : State → List Access → State
+after_helper state written = record {
+  ranges = λ r.
+      if r == 0 then Some (record { lo = 0; hi = 1 })
+      else if nat_le 6 r then state.ranges r
+      else None;
+  marked = λ address.
+      list_any (λ access. is_written (state.ranges access.register) access.size address) written
+      || state.marked address;
+}
 
 -- An edge: a slot that may run next, and what is known there.
 pub record Edge : Type 0 where
   pub target : ℕ
   pub state : State
 
+abbrev pub alu_range : State → Insn → Option Range
+alu_range state (Alu width op dst src) = do
+  b ← source_range state src
+  a ← destination_range state op dst.number
+  Some (transfer width op a b)
+alu_range state (CallHelper number) = None
+alu_range state Exit = None
+
 -- The edges out of an instruction at a slot.
 abbrev pub edges : ℕ → State → Insn → List Edge
 edges slot state (Alu width op dst src) =
     record {
       target = slot + slots_of (Alu width op dst src);
-      state = record { present = set.insert state.present dst.number };
+      state = with_range state dst.number (alu_range state (Alu width op dst src));
+    }
+    ∷ []
+edges slot state (CallHelper number) =
+    record {
+      target = slot + slots_of (CallHelper number);
+      state = after_helper state (writes_of (CallHelper number));
     }
     ∷ []
 edges slot state Exit = []

@@ -1,16 +1,21 @@
 -- Which code is accepted, and with which bound; which is refused, and by which first fault.
-use Rattle.std.specs.Prelude.{◌≡◌, ℕ, ◌+◌, ◌<◌, Bool, true, false, ◌&&◌, ◌==◌, nat_le, if◌then◌else◌, List, length, Option, Some, None, ◌⊎◌}
+use Rattle.std.specs.Prelude.{◌≡◌, ℕ, ◌+◌, ◌<◌, Bool, true, false, ◌&&◌, not, ◌==◌, nat_le, if◌then◌else◌, List, length, ◌++◌, Option, Some, None, ◌⊎◌}
+use Rattle.std.specs.Option.{is_none}
 use Rattle.bpf_decode.specs.declared.insn.Insn.{Insn}
-use Rattle.bpf_decode.specs.declared.insn.Insn.TheVariants.{Alu, Exit}
+use Rattle.bpf_decode.specs.declared.insn.Insn.TheVariants.{Alu, CallHelper, Exit}
 use Rattle.bpf_decode.specs.declared.refusal.DecodeFault.{DecodeFault}
 use Rattle.bpf_decode.specs.Faults.{IsCode, IsRefused, number_of}
 use Rattle.bpf_model.specs.Code.{slots_of, placed, insn_at}
-use Rattle.bpf_model.specs.State.{State, has_operands}
+use Rattle.bpf_model.specs.Helpers.{helper_of}
+use Rattle.bpf_model.specs.State.{State, has_operands, are_inside, are_there, reads_of, writes_of}
 use Rattle.bpf_model.specs.Arrival.{state_at, IsBound}
 
 -- The faults behind the decoder's, by their numbers.
 abbrev pub falls_off_end : ℕ
 falls_off_end = 13
+
+abbrev pub unknown_helper : ℕ
+unknown_helper = 14
 
 abbrev pub writes_frame_pointer : ℕ
 writes_frame_pointer = 15
@@ -18,20 +23,35 @@ writes_frame_pointer = 15
 abbrev pub uninit_register : ℕ
 uninit_register = 16
 
+abbrev pub bad_access : ℕ
+bad_access = 17
+
+abbrev pub uninit_bytes : ℕ
+uninit_bytes = 18
+
 -- Whether the slot behind an instruction may run next.
 abbrev pub goes_on : Insn → Bool
 goes_on (Alu width op dst src) = true
+goes_on (CallHelper number) = true
 goes_on Exit = false
+
+-- Whether an instruction calls a helper that this host doesn't have.
+abbrev pub calls_unknown : Insn → Bool
+calls_unknown (Alu width op dst src) = false
+calls_unknown (CallHelper number) = is_none (helper_of number)
+calls_unknown Exit = false
 
 -- Whether an instruction that isn't a store has r10 as its destination.
 abbrev pub writes_r10 : Insn → Bool
 writes_r10 (Alu width op dst src) = dst.number == 10
+writes_r10 (CallHelper number) = false
 writes_r10 Exit = false
 
 -- What is wrong with an instruction at a slot of so many, whether it is reached or not.
 abbrev pub insn_fault : ℕ → ℕ → Insn → Option ℕ
 insn_fault slots slot insn =
     if goes_on insn && nat_le slots (slot + slots_of insn) then Some falls_off_end
+    else if calls_unknown insn then Some unknown_helper
     else if writes_r10 insn then Some writes_frame_pointer
     else None
 
@@ -42,9 +62,18 @@ place_fault slots slot (Some insn) = insn_fault slots slot insn
 abbrev pub structure_fault : List Insn → ℕ → Option ℕ
 structure_fault code slot = place_fault (length (placed code)) slot (insn_at code slot)
 
--- What is wrong with an instruction that is reached, given what is known there: an operand that may hold nothing.
+-- What is wrong with an instruction that is reached, given what is known there: an operand that may hold nothing, an
+-- access that may lie outside, a byte that is read and may not be there. Each is judged for all accesses before the
+-- next.
+abbrev pub insn_known_fault : State → Insn → Option ℕ
+insn_known_fault state insn =
+    if not (has_operands state insn) then Some uninit_register
+    else if not (are_inside state (reads_of insn ++ writes_of insn)) then Some bad_access
+    else if not (are_there state (reads_of insn)) then Some uninit_bytes
+    else None
+
 abbrev pub known_fault : Option State → Option Insn → Option ℕ
-known_fault (Some state) (Some insn) = if has_operands state insn then None else Some uninit_register
+known_fault (Some state) (Some insn) = insn_known_fault state insn
 known_fault (Some state) None = None
 known_fault None insn = None
 

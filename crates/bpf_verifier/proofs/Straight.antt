@@ -1,26 +1,27 @@
 -- Code without jumps: the one edge out of an instruction leads to the next slot.
-use Rattle.std.proofs.Common.{◌≡◌, ◌≢◌, ◌⊎◌, ℕ, zero, suc, ◌+◌, ◌-◌, ◌*◌, ◌<◌, ◌≤◌, Bool, true, false, ◌&&◌, ◌||◌, cond, eqb, leb, List, [], ◌∷◌, ◌++◌, length, get_or, Option, Some, None, refl, sym, ap, subst, ◌∙◌, arith, inl, inr, map, filter, append_assoc}
+use Rattle.std.proofs.Common.{◌≡◌, ◌≢◌, ◌⊎◌, ℕ, zero, suc, ◌+◌, ◌-◌, ◌<◌, ◌≤◌, Bool, true, false, ◌&&◌, cond, eqb, leb, List, [], ◌∷◌, ◌++◌, length, get_or, Option, Some, None, refl, sym, ap, subst, ◌∙◌, arith, inl, inr}
 use Rattle.std.specs.Prelude.{slice_get}
 use Rattle.std.proofs.lemmas.Bool.{leb-false, eqb-true, eq-eqb, cases_lt}
 use Rattle.std.proofs.lemmas.Option.{slice_get-get_or}
-use Rattle.std.specs.FinSet as set
 use Rattle.bpf_decode.specs.declared.insn.Insn.{Insn}
-use Rattle.bpf_decode.specs.declared.insn.Insn.TheVariants.{Alu, Exit}
-use Rattle.bpf_num.specs.declared.AluOp.{AluOp}
-use Rattle.bpf_num.specs.declared.AluWidth.{AluWidth}
-use Rattle.bpf_decode.specs.declared.insn.Reg.{Reg}
-use Rattle.bpf_decode.specs.declared.insn.Source.{Source}
-use Rattle.bpf_model.proofs.Options.{neither}
+use Rattle.bpf_decode.specs.declared.insn.Insn.TheVariants.{Exit}
+use Rattle.bpf_model.proofs.Options.{no_fault}
 use Rattle.bpf_model.specs.Code.{slots_of, placed, insn_at}
-use Rattle.bpf_model.specs.State.{State, Edge, start_state, edges, joined, has_operands, IsOneOf}
+use Rattle.bpf_model.specs.State.{State, Edge, start_state, edges, joined, IsOneOf}
 use Rattle.bpf_model.specs.Arrival.{edges_of, carried, arriving, state_at, edges_at, Path, IsBound}
-use Rattle.bpf_model.specs.Verdict.{writes_r10, falls_off_end, writes_frame_pointer, IsFirst, IsAccepted, insn_fault, place_fault, structure_fault, known_fault, visit_fault, uninit_register}
+use Rattle.bpf_model.specs.Verdict.{Refuses, goes_on, calls_unknown, writes_r10, falls_off_end, unknown_helper, writes_frame_pointer, IsFirst, IsAccepted, insn_fault, place_fault, structure_fault, known_fault, insn_known_fault, visit_fault}
 use Rattle.bpf_model.proofs.Places.{one_slot, length-placed, insn_at-is}
 use Rattle.bpf_model.proofs.Safety.{edge_from, safe, bounded}
-use Rattle.bpf_decode.specs.Faults.{IsCode}
+use Rattle.bpf_decode.specs.Faults.{IsCode, IsRefused, number_of}
+use Rattle.bpf_decode.specs.declared.refusal.DecodeFault.{DecodeFault}
+use Rattle.bpf_decode.specs.declared.refusal.DecodeFault.TheVariants as decode
+use Rattle.bpf_verifier.specs.declared.refusal.VerifyFault.{VerifyFault}
+use Rattle.bpf_verifier.specs.declared.refusal.VerifyFault.TheVariants.{Memory}
+use Rattle.bpf_verifier.specs.Faults.{from_decode, number_of as fault_number}
 use Rattle.bpf_decode.proofs.Spellings.{same_code}
 use Rattle.bpf_model.specs.Run.{IsSafe}
 use Rattle.bpf_verifier.specs.Verified.{IsProcedure}
+use Rattle.bpf_verifier.specs.declared.range.Range.{Range}
 use Rattle.bpf_verifier.specs.Present.{Shows}
 
 -- ---- places
@@ -106,34 +107,32 @@ none_after code slot e (suc d) =
 -- ---- the pass
 
 -- what the pass has found as it comes to a slot
-pub record Passed (code : List Insn) (slot : ℕ) (flags : List Bool) : Type 0 where
+pub record Passed (code : List Insn) (slot : ℕ) (ranges : List (Option Range)) (marks : List Bool) : Type 0 where
   pub state : State
   pub here : state_at code slot ≡ Some state
-  pub shown : Shows flags state
+  pub shown : Shows ranges marks state
   pub before : (k : ℕ) → k < slot → visit_fault code k ≡ None
   pub path : Path code slot slot
   pub inside : slot < length code
 
-pub passed_none : (code : List Insn) (flags : List Bool) → 0 < length code → Shows flags start_state → Passed code 0 flags
-passed_none code flags some shown =
+pub passed_none : (code : List Insn) (ranges : List (Option Range)) (marks : List Bool) → 0 < length code → Shows ranges marks start_state → Passed code 0 ranges marks
+passed_none code ranges marks some shown =
     record { state = start_state; here = refl; shown = shown; before = λ k h. absurd (omega arith); path = refl; inside = some }
 
-module _ (code : List Insn) (slot : ℕ) (flags : List Bool) (p : Passed code slot flags) where
-  visited : (x : Insn) → insn_at code slot ≡ Some x → visit_fault code slot ≡ known_fault (Some p.state) (Some x)
+module _ (code : List Insn) (slot : ℕ) (ranges : List (Option Range)) (marks : List Bool) (p : Passed code slot ranges marks) where
+  -- what is wrong at the slot is what is wrong with its instruction
+  pub visited : (x : Insn) → insn_at code slot ≡ Some x → visit_fault code slot ≡ insn_known_fault p.state x
   visited x is = ap (λ (o : Option State). known_fault o (insn_at code slot)) p.here ∙ ap (known_fault (Some p.state)) is
 
   leaving : (x : Insn) → insn_at code slot ≡ Some x → edges_at code slot ≡ edges slot p.state x
   leaving x is = ap (λ (o : Option State). edges_of slot o (insn_at code slot)) p.here ∙ ap (edges_of slot (Some p.state)) is
 
-  pub absent : (x : Insn) → insn_at code slot ≡ Some x → has_operands p.state x ≡ false → IsFirst (visit_fault code) uninit_register slot
-  absent x is lacks = (visited x is ∙ ap (λ (b : Bool). cond b None (Some uninit_register)) lacks, p.before)
-
-  present : (x : Insn) → insn_at code slot ≡ Some x → has_operands p.state x ≡ true → visit_fault code slot ≡ None
-  present x is has = visited x is ∙ ap (λ (b : Bool). cond b None (Some uninit_register)) has
+  pub faulty : (x : Insn) (number : ℕ) → insn_at code slot ≡ Some x → insn_known_fault p.state x ≡ Some number → IsFirst (visit_fault code) number slot
+  faulty x number is wrong = (visited x is ∙ wrong, p.before)
 
   -- an exit ends the pass
-  pub exit_right : insn_at code slot ≡ Some Exit → has_operands p.state Exit ≡ true → (k : ℕ) → visit_fault code k ≡ None
-  exit_right is has k =
+  pub exit_right : insn_at code slot ≡ Some Exit → insn_known_fault p.state Exit ≡ None → (k : ℕ) → visit_fault code k ≡ None
+  exit_right is right k =
       elim (cases_lt k slot) [
         | inl lt ↦ p.before k lt
         | inr le ↦ elim (cases_lt slot k) [
@@ -141,7 +140,8 @@ module _ (code : List Insn) (slot : ℕ) (flags : List Bool) (p : Passed code sl
               let at : suc (slot + (k - suc slot)) ≡ k = omega arith in
               let none = subst (λ (j : ℕ). state_at code j ≡ None) at (none_after code slot (leaving Exit is) (k - suc slot)) in
               ap (λ (o : Option State). known_fault o (insn_at code k)) none
-          | inr ge ↦ let same : slot ≡ k = omega arith in subst (λ (j : ℕ). visit_fault code j ≡ None) same (present Exit is has)
+          | inr ge ↦
+              let same : slot ≡ k = omega arith in subst (λ (j : ℕ). visit_fault code j ≡ None) same (visited Exit is ∙ right)
         ]
       ]
 
@@ -170,23 +170,22 @@ module _ (code : List Insn) (slot : ℕ) (flags : List Bool) (p : Passed code sl
   }
 
   -- another instruction leads to the next slot
-  pub passed_more : (x : Insn) (d : ℕ) (next : List Bool) → insn_at code slot ≡ Some x → has_operands p.state x ≡ true → edges slot p.state x ≡ record { target = slot + slots_of x; state = record { present = set.insert p.state.present d } } ∷ [] → suc slot < length code → Shows next (record { present = set.insert p.state.present d }) → Passed code (slot + 1) next
-  passed_more x d next is has edge-is inside shown =
+  pub passed_more : (x : Insn) (after : State) (next : List (Option Range)) (kept : List Bool) → insn_at code slot ≡ Some x → insn_known_fault p.state x ≡ None → edges slot p.state x ≡ record { target = slot + slots_of x; state = after } ∷ [] → suc slot < length code → Shows next kept after → Passed code (slot + 1) next kept
+  passed_more x after next kept is right edge-is inside shown =
       let at : suc slot ≡ slot + 1 = omega arith in
       let one = one_slot x in
       let lands : slot + slots_of x ≡ suc slot = omega arith in
-      let state : State = record { present = set.insert p.state.present d } in
-      let edge : Edge = record { target = slot + slots_of x; state = state } in
+      let edge : Edge = record { target = slot + slots_of x; state = after } in
       let out : edges_at code slot ≡ edge ∷ [] = leaving x is ∙ edge-is in
       let test : eqb (slot + slots_of x) (suc slot) ≡ true = eq-eqb _ _ lands in
-      let carry : carried (suc slot) (edge ∷ []) ≡ state ∷ [] = rw test refl in
-      subst (λ (k : ℕ). Passed code k next) at (record {
-        state = state;
+      let carry : carried (suc slot) (edge ∷ []) ≡ after ∷ [] = rw test refl in
+      subst (λ (k : ℕ). Passed code k next kept) at (record {
+        state = after;
         here = state_next code slot ∙ ap (λ (es : List Edge). joined (carried (suc slot) es)) out ∙ ap joined carry;
         shown = shown;
         before = λ k h. elim (cases_lt k slot) [
           | inl lt ↦ p.before k lt
-          | inr le ↦ let same : slot ≡ k = omega arith in subst (λ (j : ℕ). visit_fault code j ≡ None) same (present x is has)
+          | inr le ↦ let same : slot ≡ k = omega arith in subst (λ (j : ℕ). visit_fault code j ≡ None) same (visited x is ∙ right)
         ];
         path = (slot, edge, p.path, subst (λ (es : List Edge). IsOneOf edge es) (sym out) (inl refl), lands);
         inside = inside;
@@ -211,12 +210,40 @@ pub safe_of : (bytes : List ℕ) (code : List Insn) (bound : ℕ) → IsProcedur
 safe_of bytes code bound p insns is =
     subst (λ (c : List Insn). IsSafe c bound) (same_code bytes code insns p.is_code is) p.safe
 
--- an instruction that goes on is not the last
-pub alu_inside : (code : List Insn) (slot : ℕ) (width : AluWidth) (op : AluOp) (dst : Reg) (src : Source) → insn_at code slot ≡ Some (Alu width op dst src) → structure_fault code slot ≡ None → suc slot < length code
-alu_inside code slot width op dst src is none =
-    let x : Insn = Alu width op dst src in
+-- an instruction that goes on is not the last, and the helper that it calls is known
+pub well_placed : (code : List Insn) (slot : ℕ) (x : Insn) → insn_at code slot ≡ Some x → structure_fault code slot ≡ None → ((goes_on x && leb (length code) (slot + slots_of x)) ≡ false) × (calls_unknown x ≡ false)
+well_placed code slot x is none =
     let stands : insn_fault (length code) slot x ≡ None = sym (structure_is code slot x is) ∙ none in
-    let both = neither (leb (length code) (slot + slots_of x)) (writes_r10 x) falls_off_end writes_frame_pointer stands in
+    let all = no_fault (goes_on x && leb (length code) (slot + slots_of x)) (calls_unknown x) (writes_r10 x) falls_off_end unknown_helper writes_frame_pointer stands in
+    (all.0, all.1)
+
+pub inside_next : (code : List Insn) (slot : ℕ) (x : Insn) → goes_on x ≡ true → (goes_on x && leb (length code) (slot + slots_of x)) ≡ false → suc slot < length code
+inside_next code slot x goes h =
     let one = one_slot x in
-    let before = leb-false _ _ both.0 in
-    omega arith
+    let before = leb-false _ _ (rest (goes_on x) (leb (length code) (slot + slots_of x)) goes h) in omega arith where
+      rest : (a b : Bool) → a ≡ true → (a && b) ≡ false → b ≡ false
+      rest true b e f = f
+      rest false b e f = absurd cc
+
+-- ---- the decoder's refusals
+
+decoded_number : (fault : DecodeFault) → (from_decode fault ≡ Memory) ⊎ (number_of fault ≡ fault_number (from_decode fault))
+decoded_number decode.Empty = inr refl
+decoded_number decode.NotSlots = inr refl
+decoded_number decode.TooLong = inr refl
+decoded_number decode.BadOpcode = inr refl
+decoded_number decode.BadRegister = inr refl
+decoded_number decode.FieldNotZero = inr refl
+decoded_number decode.BadOffset = inr refl
+decoded_number decode.Memory = inl refl
+
+-- a refusal of the decoder's, told by the verifier's name
+pub told : (bytes : List ℕ) (fault : DecodeFault) (slot : ℕ) (name : VerifyFault) (at : ℕ) → name ≡ from_decode fault → at ≡ slot → (fault ≡ decode.Memory) ⊎ IsRefused bytes fault slot → (name ≡ Memory) ⊎ Refuses bytes (fault_number name) at
+told bytes fault slot name at e same (inl memory) = inl (e ∙ ap from_decode memory)
+told bytes fault slot name at e same (inr refused) =
+    elim (decoded_number fault) [
+      | inl memory ↦ inl (e ∙ memory)
+      | inr number ↦
+          let is : fault_number name ≡ number_of fault = ap fault_number e ∙ sym number in
+          inr (inl (fault, subst (λ (k : ℕ). IsRefused bytes fault k) (sym same) refused, is))
+    ]

@@ -1,9 +1,9 @@
 -- The numbers by which faults are told, and the verifier's name of each fault of the decoder.
-use Rattle.std.specs.Prelude.{◌≡◌, ℕ}
+use Rattle.std.specs.Prelude.{ℕ}
 use Rattle.bpf_decode.specs.declared.refusal.DecodeFault.{DecodeFault}
 use Rattle.bpf_decode.specs.declared.refusal.DecodeFault.TheVariants as decode
 use Rattle.bpf_verifier.specs.declared.refusal.VerifyFault.{VerifyFault}
-use Rattle.bpf_verifier.specs.declared.refusal.VerifyFault.TheVariants.{Empty, NotSlots, TooLong, BadOpcode, BadRegister, FieldNotZero, BadOffset, FallsOffEnd, WritesFramePointer, UninitRegister, Memory}
+use Rattle.bpf_verifier.specs.declared.refusal.VerifyFault.TheVariants.{Empty, NotSlots, TooLong, BadOpcode, BadRegister, FieldNotZero, BadOffset, FallsOffEnd, UnknownHelper, WritesFramePointer, UninitRegister, BadAccess, UninitBytes, Memory}
 
 abbrev pub number_of : VerifyFault → ℕ
 number_of Empty = 1
@@ -14,8 +14,11 @@ number_of BadRegister = 5
 number_of FieldNotZero = 6
 number_of BadOffset = 9
 number_of FallsOffEnd = 13
+number_of UnknownHelper = 14
 number_of WritesFramePointer = 15
 number_of UninitRegister = 16
+number_of BadAccess = 17
+number_of UninitBytes = 18
 number_of Memory = 21
 
 abbrev pub from_decode : DecodeFault → VerifyFault

@@ -2,10 +2,14 @@
 //! is accepted.
 #![tactic(auto)]
 
+mod helpers;
+mod known;
 mod pass;
 mod procedure;
+mod range;
 mod refusal;
 mod structure;
+mod transfer;
 
 pub use procedure::{Procedure, verify};
 pub use refusal::{Refusal, VerifyFault};

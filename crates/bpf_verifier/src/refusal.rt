@@ -6,8 +6,8 @@ use std::alloc::AllocError;
 use thiserror::Error;
 
 /// Why code is refused. Where several faults stand, the first one is told: the decoder's; then those
-/// of the structure, slot by slot, `FallsOffEnd` before `WritesFramePointer`; then the first of a slot
-/// that is reached.
+/// of the structure, slot by slot, in the order of their numbers; then the first of a slot that is
+/// reached, in the order of their numbers.
 #[derive(Clone, Copy, Debug, PartialEq, Eq, Error)]
 pub enum VerifyFault {
     /// There are no bytes.
@@ -34,12 +34,21 @@ pub enum VerifyFault {
     /// An instruction that goes on to the next slot ends the code.
     #[error("FallsOffEnd")]
     FallsOffEnd = 13,
+    /// A helper is called that this host doesn't have.
+    #[error("UnknownHelper")]
+    UnknownHelper = 14,
     /// r10, the end of the frame, would be written.
     #[error("WritesFramePointer")]
     WritesFramePointer = 15,
     /// A register that is read may hold nothing.
     #[error("UninitRegister")]
     UninitRegister = 16,
+    /// Memory is accessed that may not lie wholly inside the frame, or wholly inside the arguments.
+    #[error("BadAccess")]
+    BadAccess = 17,
+    /// A byte of the stack is read that may never have been written.
+    #[error("UninitBytes")]
+    UninitBytes = 18,
     /// Memory ran out.
     #[error("Memory")]
     Memory = 21,

@@ -3,6 +3,7 @@ ghost use Rattle.std.specs.Option.{option_map};
 ghost use Rattle.bpf_model.specs.Verdict.{insn_fault, structure_fault, IsFirst};
 ghost use Rattle.bpf_verifier.specs.Faults.{number_of};
 
+use crate::helpers::{GET, PUT};
 use crate::refusal::{Refusal, VerifyFault};
 use bpf_decode::Insn;
 
@@ -29,16 +30,14 @@ fn insn_fault(slots: usize, slot: usize, insn: &Insn) -> Option<VerifyFault>
     requires { slot < slots }
     ensures { option_map number_of result ≡ insn_fault slots slot insn.now }
 {
+    let falls_off_end = slot + 1 >= slots;
     match insn {
-        Insn::Alu { dst, .. } => {
-            if slot + 1 >= slots {
-                Some(VerifyFault::FallsOffEnd)
-            } else if dst.number == 10 {
-                Some(VerifyFault::WritesFramePointer)
-            } else {
-                None
-            }
-        }
         Insn::Exit => None,
+        _ if falls_off_end => Some(VerifyFault::FallsOffEnd),
+        Insn::Alu { dst, .. } if dst.number == 10 => Some(VerifyFault::WritesFramePointer),
+        Insn::CallHelper { helper } if *helper != GET && *helper != PUT => {
+            Some(VerifyFault::UnknownHelper)
+        }
+        _ => None,
     }
 }

@@ -1,7 +1,4 @@
-use Rattle.std.proofs.Common.{◌≡◌, ◌<◌, ℕ, Option, Some, None, length, sym, ◌∙◌, arith, ap}
-use Rattle.bpf_model.specs.Code.{insn_at}
-use Rattle.bpf_model.specs.Verdict.{structure_fault}
-use Rattle.bpf_verifier.specs.Faults.{number_of}
+use Rattle.std.proofs.Common.{sym, ◌∙◌, arith}
 use Rattle.bpf_verifier.proofs.Straight.{place_is, structure_is, structure_more, structure_whole}
 use Rattle.bpf_verifier.proofs.structure.check_structure.Goals as goal
 

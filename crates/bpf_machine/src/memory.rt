@@ -1,0 +1,85 @@
+ghost use Rattle.std.specs.Prelude.{◌≡◌};
+ghost use Rattle.bpf_machine.specs.Shows.{LiesInside, place};
+
+/// The bytes of the frame.
+const FRAME: usize = 512;
+
+/// The bytes of the arguments.
+const ARGUMENTS: usize = 256;
+
+/// Where the frame begins.
+const FRAME_START: u64 = 0x1_0000_0000;
+
+/// Where the arguments begin.
+const ARGUMENTS_START: u64 = 0x2_0000_0000;
+
+/// The bytes that code can reach: the frame's, and behind them those of the arguments. A byte of the
+/// frame that was never written has some value that is never read.
+#[derive(Drop)]
+pub struct Memory {
+    bytes: [u8; FRAME + ARGUMENTS],
+}
+
+impl Memory {
+    ghost use Rattle.std.specs.Prelude.{◌≡◌, ℕ, List, ◌≤◌, Some, length};
+    ghost use Rattle.tenant_maps.specs.Entries.{Entries};
+    ghost use Rattle.bpf_model.specs.Machine.{Memory as Bytes, bytes_at, start, stored};
+    ghost use Rattle.bpf_machine.specs.Shows.{LiesInside, ShowsMemory, call_of};
+
+    /// As a call begins: the arguments, with zeros behind them.
+    pub fn at_start(args: &[u8]) -> Memory
+        requires { length args.now ≤ 256 }
+        ensures { (client : ℕ) (entries : Entries) →
+            let m = start (call_of args.now client entries) in ShowsMemory result.bytes m.memory }
+    {
+        let mut bytes = [0; FRAME + ARGUMENTS];
+        bytes[FRAME..FRAME + args.len()].copy_from_slice(args);
+        Memory { bytes }
+    }
+
+    /// The 16 bytes of a key.
+    pub fn key_at(&self, address: u64) -> [u8; 16]
+        requires { LiesInside address 16 }
+        ensures { (memory : Bytes) (key : List ℕ) → ShowsMemory self.now.bytes memory →
+            bytes_at memory address 16 ≡ Some key → result ≡ key }
+    {
+        let at = place(address);
+        let mut key = [0; 16];
+        key.copy_from_slice(&self.bytes[at..at + 16]);
+        key
+    }
+
+    /// The 32 bytes of a value.
+    pub fn value_at(&self, address: u64) -> [u8; 32]
+        requires { LiesInside address 32 }
+        ensures { (memory : Bytes) (value : List ℕ) → ShowsMemory self.now.bytes memory →
+            bytes_at memory address 32 ≡ Some value → result ≡ value }
+    {
+        let at = place(address);
+        let mut value = [0; 32];
+        value.copy_from_slice(&self.bytes[at..at + 32]);
+        value
+    }
+
+    /// Writes a value.
+    pub fn put_value(&mut self, address: u64, value: &[u8; 32])
+        requires { LiesInside address 32 }
+        ensures { (memory : Bytes) → ShowsMemory self.old.bytes memory →
+            ShowsMemory self.new.bytes (stored memory address value.now) }
+    {
+        let at = place(address);
+        self.bytes[at..at + 32].copy_from_slice(value);
+    }
+}
+
+/// Where the byte at an address stands.
+fn place(address: u64) -> usize
+    requires { LiesInside address 16 }
+    ensures { result ≡ place address }
+{
+    if address < ARGUMENTS_START {
+        (address - FRAME_START) as usize
+    } else {
+        FRAME + (address - ARGUMENTS_START) as usize
+    }
+}
