@@ -1,0 +1,65 @@
+-- Pieces fed to a sink one after another.
+use Rattle.std.proofs.Common.{◌≡◌, ℕ, ◌+◌, ◌<◌, ◌≤◌, List, [], ◌∷◌, ◌++◌, length, take, get_or, map, refl, sym, ap, subst, ◌∙◌, append_assoc}
+use Rattle.std.specs.Prelude.{flat_map}
+use Rattle.std.proofs.lemmas.List.{append-nil, take_more, take_all}
+use Rattle.std.proofs.lemmas.Grind.{flat_map-append}
+use Rattle.std.proofs.lemmas.List.Concat.{flat_map-cons}
+use Rattle.service_core.specs.Sinks.{Feeds}
+
+module _ {S : Type 0} (holds : S → List ℕ → Type 0) where
+  pub fed_none : (s : S) → Feeds holds s s []
+  fed_none s = λ held h. subst (holds s) (sym (append-nil held)) h
+
+  pub fed_then : (a b c : S) (xs ys : List ℕ) → Feeds holds a b xs → Feeds holds b c ys → Feeds holds a c (xs ++ ys)
+  fed_then a b c xs ys first second = λ held h. subst (holds c) (append_assoc held xs ys) (second (held ++ xs) (first held h))
+
+  pub fed_same : (a b : S) (xs ys : List ℕ) → xs ≡ ys → Feeds holds a b xs → Feeds holds a b ys
+  fed_same a b xs ys e h = subst (Feeds holds a b) e h
+
+-- one item more of those whose pieces were fed
+pub flat_map_more : {X Y : Type 0} (f : X → List Y) (xs : List X) (i : ℕ) (d : X) → i < length xs → flat_map f (take (i + 1) xs) ≡ flat_map f (take i xs) ++ f (get_or xs i d)
+flat_map_more f xs i d h =
+    ap (flat_map f) (take_more xs i d h) ∙ flat_map-append f (take i xs) (get_or xs i d ∷ [])
+    ∙ ap (λ (ys : List _). flat_map f (take i xs) ++ ys) (append-nil (f (get_or xs i d)))
+
+-- Some pieces of a list were fed behind a head, and the others are left.
+pub record Put {S X : Type 0} (holds : S → List ℕ → Type 0) (first last : S) (head : List ℕ) (f : X → List ℕ) (left all : List X) : Type 0 where
+  pub done : List ℕ
+  pub fed : Feeds holds first last (head ++ done)
+  pub is : done ++ flat_map f left ≡ flat_map f all
+
+pub put_none : {S X : Type 0} (holds : S → List ℕ → Type 0) (first last : S) (head : List ℕ) (f : X → List ℕ) (left all : List X) → left ≡ all → Feeds holds first last head → Put holds first last head f left all
+put_none holds first last head f left all e h = record { done = []; fed = fed_same holds first last head (head ++ []) (sym (append-nil head)) h; is = ap (flat_map f) e }
+
+pub put_more : {S X : Type 0} (holds : S → List ℕ → Type 0) (first mid last : S) (head : List ℕ) (f : X → List ℕ) (before left all : List X) (x : X) → before ≡ x ∷ left
+    → Put holds first mid head f before all → Feeds holds mid last (f x) → Put holds first last head f left all
+put_more holds first mid last head f before left all x e h more = record {
+  done = h.done ++ f x;
+  fed = fed_same holds first last ((head ++ h.done) ++ f x) (head ++ (h.done ++ f x)) (append_assoc head h.done (f x)) (fed_then holds first mid last (head ++ h.done) (f x) h.fed more);
+  is = append_assoc h.done (f x) (flat_map f left) ∙ ap (λ (ys : List ℕ). h.done ++ ys) (sym (ap (flat_map f) e ∙ flat_map-cons f x left)) ∙ h.is;
+}
+
+pub put_all : {S X : Type 0} (holds : S → List ℕ → Type 0) (first last : S) (head : List ℕ) (f : X → List ℕ) (left all : List X) → left ≡ [] → Put holds first last head f left all
+    → Feeds holds first last (head ++ flat_map f all)
+put_all holds first last head f left all e h =
+    fed_same holds first last (head ++ h.done) (head ++ flat_map f all)
+    (ap (λ (ys : List ℕ). head ++ ys) (sym (append-nil h.done) ∙ ap (λ (xs : List _). h.done ++ flat_map f xs) (sym e) ∙ h.is)) h.fed
+
+-- pieces of what is read of a list
+pub flat_map-map : {X Y : Type 0} (f : Y → List ℕ) (r : X → Y) (xs : List X) → flat_map f (map r xs) ≡ flat_map (λ x. f (r x)) xs
+flat_map-map f r [] = refl
+flat_map-map f r (x ∷ xs) = flat_map-cons f (r x) (map r xs) ∙ ap (λ (ys : List ℕ). f (r x) ++ ys) (flat_map-map f r xs) ∙ sym (flat_map-cons (λ y. f (r y)) x xs)
+
+-- the same in a loop by index
+pub fed_more : {S X : Type 0} (holds : S → List ℕ → Type 0) (first mid last : S) (head : List ℕ) (f : X → List ℕ) (xs : List X) (i : ℕ) (x : X) → i < length xs → x ≡ get_or xs i x
+    → Feeds holds first mid (head ++ flat_map f (take i xs)) → Feeds holds mid last (f x) → Feeds holds first last (head ++ flat_map f (take (i + 1) xs))
+fed_more holds first mid last head f xs i x h is before more =
+    fed_same holds first last ((head ++ flat_map f (take i xs)) ++ f x) (head ++ flat_map f (take (i + 1) xs))
+    (append_assoc head (flat_map f (take i xs)) (f x)
+    ∙ ap (λ (ys : List ℕ). head ++ ys) (ap (λ (y : _). flat_map f (take i xs) ++ f y) is ∙ sym (flat_map_more f xs i x h)))
+    (fed_then holds first mid last (head ++ flat_map f (take i xs)) (f x) before more)
+
+pub fed_all : {S X : Type 0} (holds : S → List ℕ → Type 0) (first last : S) (head : List ℕ) (f : X → List ℕ) (xs : List X) (i : ℕ) → length xs ≤ i
+    → Feeds holds first last (head ++ flat_map f (take i xs)) → Feeds holds first last (head ++ flat_map f xs)
+fed_all holds first last head f xs i h all =
+    fed_same holds first last (head ++ flat_map f (take i xs)) (head ++ flat_map f xs) (ap (λ (ys : List _). head ++ flat_map f ys) (take_all i xs h)) all

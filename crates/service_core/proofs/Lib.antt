@@ -1,0 +1,10 @@
+pub mod Found
+pub mod Kept
+pub mod Fed
+pub mod Doing
+pub mod Places
+pub mod Taking
+pub mod Counting
+pub mod Whole
+pub mod Determined
+pub mod Soundness

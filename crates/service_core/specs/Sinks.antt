@@ -1,0 +1,6 @@
+-- What is fed to a sink.
+use Rattle.std.specs.Prelude.{ℕ, List, ◌++◌}
+
+-- Whatever the first one holds, the second holds that and then these bytes.
+abbrev pub Feeds : {S : Type 0} → (S → List ℕ → Type 0) → S → S → List ℕ → Type 0
+Feeds holds before after bytes = (held : List ℕ) → holds before held → holds after (held ++ bytes)

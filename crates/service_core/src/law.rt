@@ -1,0 +1,38 @@
+ghost use Rattle.std.specs.Prelude.{◌≡◌, Option, List, [], ◌∷◌, ◌++◌};
+ghost use Rattle.host_types.specs.declared.request.Request.{Request};
+ghost use Rattle.service_core.specs.declared.outcome.Outcome.{Outcome};
+ghost use Rattle.host_types.specs.Configuration.{Configuration};
+ghost use Rattle.service_core.specs.Parts.{Service, genesis_of};
+ghost use Rattle.service_core.specs.Steps.{IsStep, Serves};
+ghost use Rattle.service_core.specs.Sound.{IsSound, NoneGoesWrong};
+
+/// A step of the service has one outcome: the state and the request determine the state after it and
+/// what is answered.
+pub fn a_step_has_one_outcome()
+    ensures { (state : Service) (request : Option Request) (after after' : Service) (outcome outcome' : Outcome) →
+        IsStep state request after outcome → IsStep state request after' outcome' → (after ≡ after') × (outcome ≡ outcome') }
+{}
+
+/// Every procedure of a state that the service reaches is code that the verifier accepts, and every
+/// kept reply is one to a client of its tenant.
+pub fn states_are_sound()
+    ensures first { (config : Configuration) → IsSound (genesis_of config) }
+    ensures next { (state : Service) (request : Option Request) (after : Service) (outcome : Outcome) →
+        IsSound state → IsStep state request after outcome → IsSound after }
+{}
+
+/// A list of requests, taken from the beginning, has one outcome, and one step after it makes that of
+/// the list with one request more.
+pub fn requests_have_one_outcome()
+    ensures one { (config : Configuration) (requests : List (Option Request)) (after after' : Service) (outcomes outcomes' : List Outcome) →
+        Serves config requests after outcomes → Serves config requests after' outcomes' → (after ≡ after') × (outcomes ≡ outcomes') }
+    ensures more { (config : Configuration) (requests : List (Option Request)) (state : Service) (outcomes : List Outcome) (request : Option Request) (after : Service) (outcome : Outcome) →
+        Serves config requests state outcomes → IsStep state request after outcome → Serves config (requests ++ request ∷ []) after (outcomes ++ outcome ∷ []) }
+{}
+
+/// Whatever was asked for, no installed procedure goes wrong: its code was accepted, and so, with any
+/// arguments, for any client and over any map, it never gets stuck and ends within its bound.
+pub fn installed_procedures_cannot_go_wrong()
+    ensures { (config : Configuration) (requests : List (Option Request)) (after : Service) (outcomes : List Outcome) →
+        Serves config requests after outcomes → NoneGoesWrong after }
+{}

@@ -1,0 +1,21 @@
+//! The service that every replica runs: tenants install procedures and call them, each on a map of
+//! its own, and the last reply to each client is kept. It takes one request after another; what it
+//! then is, and what it answers, follow from the requests alone.
+#![tactic(auto)]
+
+mod law;
+mod operation;
+mod outcome;
+mod part;
+mod sink;
+mod spelling;
+mod state;
+#[cfg(test)]
+mod tests;
+
+pub use law::{
+    a_step_has_one_outcome, installed_procedures_cannot_go_wrong, requests_have_one_outcome,
+    states_are_sound,
+};
+pub use outcome::Outcome;
+pub use state::State;

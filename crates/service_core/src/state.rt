@@ -1,0 +1,220 @@
+ghost use Rattle.std.specs.Prelude.{◌≡◌, ◌+◌, ◌^◌, ◌<◌, ◌≤◌, ◌++◌, flat_map, IfOk, IsSome, is_some, OnOk, IfSome, length, map};
+ghost use Rattle.std.specs.List.{filter_map};
+ghost use Rattle.std.specs.Option.{option_copied, option_map};
+ghost use Rattle.std.specs.Arc.{arc_value};
+ghost use Rattle.sha2.specs.Sha256.{sha256};
+ghost use Rattle.host_types.specs.Configuration.{entry_of};
+ghost use Rattle.service_core.specs.Words.{four_bytes};
+ghost use Rattle.service_core.specs.Parts.{genesis_of, place_at, place_of, kept_of};
+ghost use Rattle.service_core.specs.Steps.{IsStep};
+ghost use Rattle.service_core.specs.Sinks.{Feeds};
+ghost use Rattle.service_core.specs.Spelling.{spelled, spelled_reply, spelled_part};
+
+use crate::outcome::Outcome;
+use crate::part::TenantPart;
+use crate::sink::Sink;
+use crate::spelling::{put_part, put_reply, put_u32, put_u64};
+use host_types::{ClientId, Config, Digest, Reply, Request, SeqNo, TenantId};
+use sha2::Sha256;
+use std::alloc::{AllocError, Global};
+use std::marker::Model;
+use std::sync::Arc;
+
+/// The version of a state's bytes.
+const VERSION: u8 = 1;
+
+/// The state of the service under a configuration: how many requests it has taken, and each tenant's
+/// procedures, map and last replies.
+#[derive(Drop)]
+pub struct State {
+    alloc: Global,
+    config: Arc<Config>,
+    number: u64,
+    parts: Vec<TenantPart>,
+}
+
+impl Model for State {
+    ghost use Rattle.std.specs.Prelude.{◌≡◌, map};
+    ghost use Rattle.std.specs.Arc.{arc_value};
+    ghost use Rattle.host_types.specs.Configuration.{tenants_of};
+    ghost use Rattle.service_core.specs.Parts.{Service};
+    ghost use Rattle.service_core.specs.Codes.{service_code};
+
+    ghost Value = { Service };
+
+    ghost coded = { service_code };
+
+    ghost view = { λ s. record { config = arc_value s.config; number = s.number; parts = s.parts.items } };
+
+    ghost invariant = { λ s. map (λ part. part.tenant) s.parts.items ≡ map (λ tenant. tenant.0) (tenants_of (arc_value s.config).clients) };
+}
+
+impl State {
+    /// The state before the first request: number 0, and each tenant of the configuration has
+    /// nothing. The state takes its memory from `alloc`.
+    pub fn genesis(alloc: Global, config: Arc<Config>) -> Result<State, AllocError>
+        ensures { IfOk result (λ state. state ≡ genesis_of (arc_value config)) }
+    {
+        let mut parts = Vec::new(alloc);
+        let tenants = config.tenant_ids();
+        let ids = tenants.as_slice();
+        for tenant in ids {
+            parts.push(TenantPart::new(alloc, *tenant))?;
+        }
+        Ok(State {
+            alloc,
+            config,
+            number: 0,
+            parts,
+        })
+    }
+
+    /// Takes the next request, or the null request, which raises the number and does nothing else. The
+    /// client has to be listed, and the number has to stay below 2^48. After a refusal for want of
+    /// memory the state is spent: nothing is promised of it.
+    pub fn apply(&mut self, request: Option<&Request>) -> Result<Outcome, AllocError>
+        requires number { self.old.number + 1 < 2 ^ 48 }
+        requires listed { IfSome (option_copied request) (λ taken. IsSome (entry_of self.old.config.clients taken.client.0)) }
+        ensures { IfOk result (λ outcome. IsStep self.old (option_copied request.entry) self.new outcome) }
+    {
+        let number = self.number + 1;
+        let Some(request) = request else {
+            self.number = number;
+            return Ok(Outcome {
+                number: SeqNo(number),
+                reply: None,
+                kept: false,
+            });
+        };
+        let Some(place) = self.place_of(request.client) else {
+            unreachable!()
+        };
+        let part = &mut self.parts[place];
+        let outcome = part.apply_at(SeqNo(number), request)?;
+        self.number = number;
+        Ok(outcome)
+    }
+
+    // Where the part of the client's tenant stands.
+    fn place_of(&self, client: ClientId) -> Option<usize>
+        ensures { result ≡ place_of self.now client.0 }
+    {
+        match self.config.client(client) {
+            Some(entry) => place_at(&self.parts, entry.tenant),
+            None => None,
+        }
+    }
+
+    /// Whether the client is listed, so that its requests can be taken. Takes no memory.
+    pub fn is_listed(&self, client: ClientId) -> bool
+        ensures { result ≡ is_some (entry_of self.now.config.clients client.0) }
+    {
+        self.config.client(client).is_some()
+    }
+
+    /// How many requests were taken, null ones counted.
+    pub fn number(&self) -> SeqNo
+        ensures { result.0 ≡ self.now.number }
+    {
+        SeqNo(self.number)
+    }
+
+    /// The last reply to a client, if it has one.
+    pub fn kept(&self, client: ClientId) -> Option<&Reply>
+        ensures value { option_copied result ≡ kept_of self.now client.0 }
+        ensures short { IfSome (option_copied result) (λ reply. length reply.result ≤ 265) }
+    {
+        match self.place_of(client) {
+            Some(place) => self.parts[place].kept(client),
+            None => None,
+        }
+    }
+
+    /// The time of the last reply to a client, if it has one.
+    pub fn last_time(&self, client: ClientId) -> Option<u64>
+        ensures { result ≡ option_map (λ reply. reply.time) (kept_of self.now client.0) }
+    {
+        match self.kept(client) {
+            Some(reply) => Some(reply.time),
+            None => None,
+        }
+    }
+
+    /// The bytes of the state, version 1, its one spelling. Their memory is from the state's allocator.
+    pub fn to_bytes(&self) -> Result<Vec<u8>, AllocError>
+        ensures { IfOk result (λ bytes. bytes.items ≡ spelled self.now) }
+    {
+        let mut bytes = Vec::new(self.alloc);
+        self.put(&mut bytes)?;
+        Ok(bytes)
+    }
+
+    /// The SHA-256 digest of the state's bytes. It takes no memory.
+    pub fn digest(&self) -> Digest
+        ensures { result.0 ≡ sha256 (spelled self.now) }
+    {
+        let mut hasher = <Sha256 as sha2::Digest>::new();
+        match self.put(&mut hasher) {
+            Ok(()) => Digest(sha2::Digest::finalize(hasher)),
+            Err(never) => match never {},
+        }
+    }
+
+    // Puts the state's bytes into a sink.
+    fn put<S: Sink>(&self, sink: &mut S) -> Result<(), S::Fault>
+        ensures { OnOk result (Feeds S.holds sink.old sink.new (spelled self.now)) }
+    {
+        sink.emit(&[VERSION])?;
+        put_u64(sink, self.number)?;
+        let all = self.config.client_ids();
+        let ids = all.as_slice();
+        put_u32(sink, self.kept_count(ids))?;
+        self.put_replies(sink, ids)?;
+        put_parts(sink, &self.parts)
+    }
+
+    // Puts the last replies of those clients into a sink that have one.
+    fn put_replies<S: Sink>(&self, sink: &mut S, ids: &[ClientId]) -> Result<(), S::Fault>
+        ensures { OnOk result (Feeds S.holds sink.old sink.new (flat_map spelled_reply (filter_map (λ id. kept_of self.now id.0) ids.now))) }
+    {
+        for id in ids {
+            if let Some(reply) = self.kept(*id) {
+                put_reply(sink, reply)?;
+            }
+        }
+        Ok(())
+    }
+
+    // How many of the clients have a reply.
+    fn kept_count(&self, ids: &[ClientId]) -> u32
+        requires { length ids.now ≤ 64 }
+        ensures { result ≡ length (filter_map (λ id. kept_of self.now id.0) ids.now) }
+    {
+        let mut count = 0;
+        for id in ids {
+            if self.kept(*id).is_some() {
+                count += 1;
+            }
+        }
+        count
+    }
+}
+
+// Where a tenant's part stands.
+fn place_at(parts: &[TenantPart], tenant: TenantId) -> Option<usize>
+    ensures { result ≡ place_at parts.now tenant.0 }
+{
+    parts.iter().position(|part| part.tenant.0 == tenant.0)
+}
+
+// Puts the tenants' parts into a sink, behind their count.
+fn put_parts<S: Sink>(sink: &mut S, parts: &[TenantPart]) -> Result<(), S::Fault>
+    requires { length parts.now ≤ 8 }
+    ensures { OnOk result (Feeds S.holds sink.old sink.new (four_bytes (length parts.now) ++ flat_map spelled_part parts.now)) }
+{
+    put_u32(sink, parts.len() as u32)?;
+    for part in parts {
+        put_part(sink, part)?;
+    }
+    Ok(())
+}
