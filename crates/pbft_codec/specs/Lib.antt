@@ -1,0 +1,5 @@
+pub mod FaultNumber
+pub mod Kinds
+pub mod Spelling
+pub mod Shape
+pub mod Reading

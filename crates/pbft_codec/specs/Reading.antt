@@ -1,0 +1,254 @@
+-- Reading from left to right, with the first fault that is met.
+--
+-- Each field is judged where it stands: first whether enough bytes are left in what holds it (the message, or a body
+-- within its length), and then the field's own value. A length is judged where it stands, before what it counts is
+-- looked at. At the end of a body, and of the message, no byte may be left.
+use Rattle.std.specs.Prelude.{◌≡◌, ℕ, zero, suc, ◌+◌, ◌^◌, List, [], ◌∷◌, length, take, drop, Option, Some, None, is_some, Result, Ok, Err, Bool, nat_lt, nat_le, ◌==◌, if◌then◌else◌}
+use Rattle.std.specs.Int.{Width, w32, w64, byte_len, from_be_bytes}
+use Rattle.host_types.specs.declared.ClientId.{ClientId}
+use Rattle.host_types.specs.declared.Digest.{Digest}
+use Rattle.host_types.specs.declared.SeqNo.{SeqNo}
+use Rattle.host_types.specs.declared.View.{View}
+use Rattle.pbft_codec.specs.declared.body.Body.{Body}
+use Rattle.pbft_codec.specs.declared.body.Body.TheVariants as bodies
+use Rattle.pbft_codec.specs.declared.body.Certificate.{Certificate}
+use Rattle.pbft_codec.specs.declared.body.Checkpoint.{Checkpoint}
+use Rattle.pbft_codec.specs.declared.body.Commit.{Commit}
+use Rattle.pbft_codec.specs.declared.body.Fetch.{Fetch}
+use Rattle.pbft_codec.specs.declared.body.Fetch.TheVariants as fetches
+use Rattle.pbft_codec.specs.declared.body.NewView.{NewView}
+use Rattle.pbft_codec.specs.declared.body.PrePrepare.{PrePrepare}
+use Rattle.pbft_codec.specs.declared.body.Prepare.{Prepare}
+use Rattle.pbft_codec.specs.declared.body.ReplyBody.{ReplyBody}
+use Rattle.pbft_codec.specs.declared.body.RequestBody.{RequestBody}
+use Rattle.pbft_codec.specs.declared.body.Snapshot.{Snapshot}
+use Rattle.pbft_codec.specs.declared.body.ViewChange.{ViewChange}
+use Rattle.pbft_codec.specs.declared.fault.CodecFault.{CodecFault}
+use Rattle.pbft_codec.specs.declared.fault.CodecFault.TheVariants.{Truncated, Trailing, BadKind, BadField, TooLong, NotAscending, Memory}
+use Rattle.pbft_codec.specs.declared.fault.ReadError.{ReadError}
+use Rattle.pbft_codec.specs.declared.fault.ReadError.TheVariants as errors
+use Rattle.pbft_codec.specs.declared.kind.Kind.{Kind}
+use Rattle.pbft_codec.specs.declared.kind.Kind.TheVariants as kinds
+use Rattle.pbft_codec.specs.declared.signed.Role.{Role}
+use Rattle.pbft_codec.specs.declared.signed.Role.TheVariants.{Replica, Client}
+use Rattle.pbft_codec.specs.declared.signed.Signed.{Signed}
+use Rattle.pbft_codec.specs.Kinds.{kind_byte, kind_of}
+use Rattle.pbft_codec.specs.Spelling.{most_bytes}
+
+infixl 10 ◌>>=◌
+abbrev pub ◌>>=◌ : {A B : Type 0} → Result A CodecFault → (A → Result B CodecFault) → Result B CodecFault
+(Ok x) >>= f = f x
+(Err e) >>= f = Err e
+
+-- What decoding answers is what reading gives, unless memory ran out.
+abbrev pub IsUnlessMemory : {A : Type 0} → Result A CodecFault → Result A CodecFault → Type 0
+IsUnlessMemory (Ok x) read = read ≡ Ok x
+IsUnlessMemory (Err Memory) read = Unit {0}
+IsUnlessMemory (Err e) read = read ≡ Err e
+
+-- What a function returned, seen by view, is what reading gives, unless memory ran out.
+abbrev pub Fails : {Y : Type 0} → ReadError → Result Y CodecFault → Type 0
+Fails errors.Memory read = Unit {0}
+Fails (errors.Fault f) read = read ≡ Err f
+
+abbrev pub Gives : {X Y : Type 0} → (X → Y) → Result X ReadError → Result Y CodecFault → Type 0
+Gives view (Ok x) read = read ≡ Ok (view x)
+Gives view (Err e) read = Fails e read
+
+-- ---- ways of reading
+
+-- A value and the bytes behind it, or a fault.
+abbrev pub Reading : Type 0 → Type 0
+Reading A = List ℕ → Result (A × List ℕ) CodecFault
+
+-- One field and then another.
+abbrev pub both : {A B : Type 0} → Reading A → Reading B → Reading (A × B)
+both first second bytes = do
+  a ← first bytes
+  b ← second a.1
+  Ok ((a.0, b.0), b.1)
+
+-- What is read, made into another value.
+abbrev pub made : {A B : Type 0} → (A → B) → Reading A → Reading B
+made make reading bytes = do
+  a ← reading bytes
+  Ok (make a.0, a.1)
+
+-- All of the bytes.
+abbrev pub whole : {A : Type 0} → Reading A → List ℕ → Result A CodecFault
+whole reading bytes = do
+  a ← reading bytes
+  if length a.1 == 0 then Ok a.0 else Err Trailing
+
+-- So many values, where the one before says from where the next may begin.
+unfoldable pub many_at : {A : Type 0} → (ℕ → Reading A) → (A → ℕ) → ℕ → ℕ → Reading (List A)
+many_at reading next zero low bytes = Ok ([], bytes)
+many_at reading next (suc n) low bytes = do
+  first ← reading low bytes
+  others ← many_at reading next n (next first.0) first.1
+  Ok (first.0 ∷ others.0, others.1)
+
+-- ---- fields
+
+abbrev pub number_at : Width → Reading ℕ
+number_at w bytes =
+    if nat_lt (length bytes) (byte_len w) then Err Truncated
+    else Ok (from_be_bytes w (take (byte_len w) bytes), drop (byte_len w) bytes)
+
+unfoldable pub view_at : Reading View
+view_at = made (λ n. record { 0 = n }) (number_at w32)
+
+unfoldable pub client_at : Reading ClientId
+client_at = made (λ n. record { 0 = n }) (number_at w32)
+
+-- A number that passes a test.
+abbrev pub number_unless : Width → (ℕ → Bool) → CodecFault → Reading ℕ
+number_unless w refused fault bytes = do
+  n ← number_at w bytes
+  if refused n.0 then Err fault else Ok n
+
+-- A sequence number: below 2^48.
+unfoldable pub sequence_number_at : Reading SeqNo
+sequence_number_at = made (λ n. record { 0 = n }) (number_unless w64 (λ n. nat_le (2 ^ 48) n) BadField)
+
+unfoldable pub digest_at : Reading Digest
+digest_at bytes = if nat_lt (length bytes) 32 then Err Truncated else Ok (record { 0 = take 32 bytes }, drop 32 bytes)
+
+-- A length, and so many bytes. A length that reaches past the end is judged at once.
+unfoldable pub counted_at : Reading (List ℕ)
+counted_at bytes = do
+  n ← number_at w32 bytes
+  if nat_lt (length n.1) n.0 then Err Truncated else Ok (take n.0 n.1, drop n.0 n.1)
+
+-- A count, at most this one.
+unfoldable pub count_at : ℕ → Reading ℕ
+count_at most = number_unless w32 (λ n. nat_lt most n) BadField
+
+unfoldable pub role_at : Reading Role
+role_at [] = Err Truncated
+role_at (b ∷ rest) = if b == 1 then Ok (Replica, rest) else if b == 2 then Ok (Client, rest) else Err BadField
+
+-- An id, at least this one.
+unfoldable pub id_at : ℕ → Reading ℕ
+id_at low = number_unless w32 (λ n. nat_lt n low) NotAscending
+
+-- A length, and so many bytes, which a value fills.
+unfoldable pub filling : {A : Type 0} → Reading A → Reading A
+filling reading bytes = do
+  inside ← counted_at bytes
+  value ← whole reading inside.0
+  Ok (value, inside.1)
+
+-- A signed body: the signer's role and id, the body, the signature.
+unfoldable pub signed_at : {B : Type 0} → Reading B → ℕ → Reading (Signed B)
+signed_at body low =
+    made (λ p. record { role = p.0; id = p.1.0; body = p.1.1.0; sig = p.1.1.1 })
+    (both role_at (both (id_at low) (both (filling body) counted_at)))
+
+-- A count, at most this one, and so many values.
+abbrev pub listed_at : {A : Type 0} → ℕ → (ℕ → Reading A) → (A → ℕ) → Reading (List A)
+listed_at most reading next bytes = do
+  n ← count_at most bytes
+  many_at reading next n.0 0 n.1
+
+-- Signed bodies with ids that ascend strictly.
+unfoldable pub ascending_at : {B : Type 0} → ℕ → Reading B → Reading (List (Signed B))
+ascending_at most body = listed_at most (signed_at body) (λ m. m.id + 1)
+
+-- Values in any order.
+unfoldable pub several_at : {A : Type 0} → ℕ → Reading A → Reading (List A)
+several_at most reading = listed_at most (λ _. reading) (λ _. 0)
+
+-- The bytes behind the byte of this kind.
+unfoldable pub behind : Kind → List ℕ → Result (List ℕ) CodecFault
+behind kind [] = Err Truncated
+behind kind (b ∷ rest) =
+    if b == kind_byte kind then Ok rest
+    else if is_some (kind_of b) then Err BadField
+    else Err BadKind
+
+-- The byte of this kind, and fields behind it.
+abbrev pub kind_at : {A : Type 0} → Kind → Reading A → Reading A
+kind_at kind fields bytes = do
+  rest ← behind kind bytes
+  fields rest
+
+-- ---- bodies, behind the byte of their kind
+
+unfoldable pub request_at : Reading RequestBody
+request_at = made (λ p. record { time = p.0; op = p.1 }) (both (number_at w64) counted_at)
+
+-- A view, a number and a digest.
+abbrev pub place_at : Reading (View × (SeqNo × Digest))
+place_at = both view_at (both sequence_number_at digest_at)
+
+unfoldable pub pre_prepare_at : Reading PrePrepare
+pre_prepare_at = made (λ p. record { view = p.0; number = p.1.0; digest = p.1.1 }) place_at
+
+unfoldable pub prepare_at : Reading Prepare
+prepare_at = made (λ p. record { view = p.0; number = p.1.0; digest = p.1.1 }) place_at
+
+unfoldable pub commit_at : Reading Commit
+commit_at = made (λ p. record { view = p.0; number = p.1.0; digest = p.1.1 }) place_at
+
+unfoldable pub reply_at : Reading ReplyBody
+reply_at =
+    made (λ p. record { view = p.0; client = p.1.0; time = p.1.1.0; number = p.1.1.1.0; result = p.1.1.1.1 })
+    (both view_at (both client_at (both (number_at w64) (both sequence_number_at counted_at))))
+
+unfoldable pub checkpoint_at : Reading Checkpoint
+checkpoint_at = made (λ p. record { number = p.0; digest = p.1 }) (both sequence_number_at digest_at)
+
+unfoldable pub certificate_at : Reading Certificate
+certificate_at =
+    made (λ p. record { pre_prepare = p.0; prepares = p.1 })
+    (both (signed_at (kind_at kinds.PrePrepare pre_prepare_at) 0) (ascending_at 10 (kind_at kinds.Prepare prepare_at)))
+
+unfoldable pub view_change_at : Reading ViewChange
+view_change_at =
+    made (λ p. record { view = p.0; low = p.1.0; checkpoints = p.1.1.0; certificates = p.1.1.1 })
+    (both view_at (both sequence_number_at
+    (both (ascending_at 10 (kind_at kinds.Checkpoint checkpoint_at)) (several_at 16 certificate_at))))
+
+unfoldable pub new_view_at : Reading NewView
+new_view_at =
+    made (λ p. record { view = p.0; changes = p.1.0; pre_prepares = p.1.1 })
+    (both view_at (both (ascending_at 10 (kind_at kinds.ViewChange view_change_at))
+    (several_at 16 (signed_at (kind_at kinds.PrePrepare pre_prepare_at) 0))))
+
+unfoldable pub fetch_at : Reading Fetch
+fetch_at [] = Err Truncated
+fetch_at (selector ∷ rest) =
+    if selector == 1 then made fetches.Request digest_at rest
+    else if selector == 2 then made fetches.State sequence_number_at rest
+    else Err BadField
+
+unfoldable pub snapshot_at : Reading Snapshot
+snapshot_at = made (λ p. record { number = p.0; state = p.1 }) (both sequence_number_at counted_at)
+
+-- ---- messages
+
+unfoldable pub fields_at : Kind → Reading Body
+fields_at kinds.Request = made bodies.Request request_at
+fields_at kinds.PrePrepare = made bodies.PrePrepare pre_prepare_at
+fields_at kinds.Prepare = made bodies.Prepare prepare_at
+fields_at kinds.Commit = made bodies.Commit commit_at
+fields_at kinds.Reply = made bodies.Reply reply_at
+fields_at kinds.Checkpoint = made bodies.Checkpoint checkpoint_at
+fields_at kinds.ViewChange = made bodies.ViewChange view_change_at
+fields_at kinds.NewView = made bodies.NewView new_view_at
+fields_at kinds.Fetch = made bodies.Fetch fetch_at
+fields_at kinds.Snapshot = made bodies.Snapshot snapshot_at
+
+abbrev pub known_at : Option Kind → Reading Body
+known_at None bytes = Err BadKind
+known_at (Some kind) bytes = fields_at kind bytes
+
+-- A body of any kind.
+unfoldable pub body_at : Reading Body
+body_at [] = Err Truncated
+body_at (b ∷ rest) = known_at (kind_of b) rest
+
+-- The message that the bytes spell, all of the bytes, or the first fault.
+unfoldable pub reading : List ℕ → Result (Signed Body) CodecFault
+reading bytes = if nat_lt most_bytes (length bytes) then Err TooLong else whole (signed_at body_at 0) bytes

@@ -1,0 +1,35 @@
+//! Messages of clients and replicas (Castro and Liskov 1999, sections 4.1 to 4.4, with signatures)
+//! and their one spelling in bytes.
+//!
+//! A message is a `Signed`: who signs, a body of one of ten kinds, a signature. Bodies nest three
+//! levels deep: a `NewView` holds signed `ViewChange`s, and these hold signed `Checkpoint`s and
+//! certificates. Contracts see each of these types as plain data: bytes and sequences as lists.
+#![tactic(auto)]
+
+mod bodies;
+mod body;
+mod content;
+mod fault;
+mod fields;
+mod kind;
+mod laws;
+mod lists;
+mod message;
+mod nested;
+mod sequence;
+mod signed;
+mod writing;
+
+pub use body::{
+    Body, Certificate, Certificates, Checkpoint, CheckpointList, Commit, Fetch, NewView,
+    PrePrepare, PrePrepares, Prepare, Prepares, ReplyBody, RequestBody, Snapshot, ViewChange,
+    ViewChanges,
+};
+pub use fault::CodecFault;
+pub use laws::{bytes_spell_one_message, signed_bytes_tell_signer_and_body};
+pub use message::{decode, encode, signed_bytes};
+pub use sequence::Sequence;
+pub use signed::{Role, Signed};
+
+#[cfg(test)]
+mod tests;

@@ -1,0 +1,175 @@
+//! Signed bodies and lists.
+
+ghost use Rattle.std.specs.Prelude.{◌≡◌, List, ℕ, ◌+◌, ◌++◌, Result, OnOk};
+ghost use Rattle.pbft_codec.specs.Reading.{Gives, whole, filling, signed_at, many_at, ascending_at, several_at};
+ghost use Rattle.std.specs.List.{AllByRecursion};
+ghost use Rattle.pbft_codec.specs.Shape.{SignedInRange};
+ghost use Rattle.pbft_codec.specs.Spelling.{signed, several};
+
+use crate::content::Content;
+use crate::fault::{CodecFault, ReadError};
+use crate::fields::{read_bytes, read_count, read_counted, read_id, read_role};
+use crate::sequence::Sequence;
+use crate::signed::Signed;
+use crate::writing::{put_counted, put_length, put_role, put_u32};
+use std::alloc::{AllocError, Global};
+
+/// A value that fills the bytes.
+pub fn read_whole<T: Content>(alloc: Global, bytes: &[u8]) -> Result<T, ReadError>
+    ensures { Gives (λ x. x) result (whole T.reading bytes.now) }
+{
+    let (value, rest) = T::read(alloc, bytes)?;
+    if !rest.is_empty() {
+        return Err(ReadError::Fault(CodecFault::Trailing));
+    }
+    Ok(value)
+}
+
+/// A length, and so many bytes, which a value fills.
+#[tactic(auto, unfolding(crate::specs::Reading::filling))]
+fn read_filling<T: Content>(alloc: Global, bytes: &[u8]) -> Result<(T, &[u8]), ReadError>
+    ensures { Gives (λ x. (x.0, x.1.now)) result (filling T.reading bytes.now) }
+{
+    let (inside, rest) = read_counted(bytes)?;
+    let value = read_whole(alloc, inside)?;
+    Ok((value, rest))
+}
+
+/// A signed body whose signer's id is at least this one.
+#[tactic(auto, unfolding(crate::specs::Reading::signed_at))]
+pub fn read_signed<B: Content>(
+    alloc: Global,
+    low: u64,
+    bytes: &[u8],
+) -> Result<(Signed<B>, &[u8]), ReadError>
+    ensures { Gives (λ x. (x.0, x.1.now)) result (signed_at B.reading low bytes.now) }
+{
+    let (role, rest) = read_role(bytes)?;
+    let (id, rest) = read_id(low, rest)?;
+    let (body, rest) = read_filling(alloc, rest)?;
+    let (sig, rest) = read_bytes(alloc, rest)?;
+    Ok((
+        Signed {
+            role,
+            id,
+            body,
+            sig,
+        },
+        rest,
+    ))
+}
+
+fn read_ascending_of<B: Content>(
+    alloc: Global,
+    count: u32,
+    bytes: &[u8],
+) -> Result<(Vec<Signed<B>>, &[u8]), ReadError>
+    ensures { Gives (λ x. (x.0.items, x.1.now)) result (many_at (signed_at B.reading) (λ m. m.id + 1) count 0 bytes.now) }
+{
+    let mut values = Vec::with_capacity(alloc, count as usize)?;
+    let mut rest = bytes;
+    let mut low = 0;
+    for _ in 0..count {
+        let (value, after) = read_signed(alloc, low, rest)?;
+        low = value.id as u64 + 1;
+        values.push(value)?;
+        rest = after;
+    }
+    Ok((values, rest))
+}
+
+/// A count, at most this one, and signed bodies with ids that ascend strictly.
+#[tactic(auto, unfolding(crate::specs::Reading::ascending_at))]
+pub fn read_ascending<B: Content>(
+    alloc: Global,
+    most: u32,
+    bytes: &[u8],
+) -> Result<(Sequence<Signed<B>>, &[u8]), ReadError>
+    ensures { Gives (λ x. (x.0, x.1.now)) result (ascending_at most B.reading bytes.now) }
+{
+    let (count, rest) = read_count(most, bytes)?;
+    let (values, rest) = read_ascending_of(alloc, count, rest)?;
+    Ok((Sequence::from_vec(values), rest))
+}
+
+fn read_several_of<T: Content>(
+    alloc: Global,
+    count: u32,
+    bytes: &[u8],
+) -> Result<(Vec<T>, &[u8]), ReadError>
+    ensures { Gives (λ x. (x.0.items, x.1.now)) result (many_at (λ _. T.reading) (λ _. 0) count 0 bytes.now) }
+{
+    let mut values = Vec::with_capacity(alloc, count as usize)?;
+    let mut rest = bytes;
+    for _ in 0..count {
+        let (value, after) = T::read(alloc, rest)?;
+        values.push(value)?;
+        rest = after;
+    }
+    Ok((values, rest))
+}
+
+/// A count, at most this one, and so many values.
+#[tactic(auto, unfolding(crate::specs::Reading::several_at))]
+pub fn read_several<T: Content>(
+    alloc: Global,
+    most: u32,
+    bytes: &[u8],
+) -> Result<(Sequence<T>, &[u8]), ReadError>
+    ensures { Gives (λ x. (x.0, x.1.now)) result (several_at most T.reading bytes.now) }
+{
+    let (count, rest) = read_count(most, bytes)?;
+    let (values, rest) = read_several_of(alloc, count, rest)?;
+    Ok((Sequence::from_vec(values), rest))
+}
+
+/// Writes a signed body.
+#[tactic(auto, unfolding(crate::specs::Spelling::signed))]
+pub fn put_signed<B: Content>(
+    alloc: Global,
+    out: &mut Vec<u8>,
+    message: &Signed<B>,
+) -> Result<(), AllocError>
+    ensures text { OnOk result (out.new.items ≡ out.old.items ++ signed B.spelled message.now) }
+    ensures fits { OnOk result (SignedInRange B.in_range message.now) }
+{
+    let mut inside = Vec::new(alloc);
+    message.body.put(alloc, &mut inside)?;
+    put_role(out, message.role)?;
+    put_u32(out, message.id)?;
+    put_counted(out, &inside)?;
+    put_counted(out, message.sig.as_slice())
+}
+
+/// Writes a count and the values.
+#[tactic(auto, unfolding(crate::specs::Spelling::several))]
+pub fn put_several<T: Content>(
+    alloc: Global,
+    out: &mut Vec<u8>,
+    values: &[T],
+) -> Result<(), AllocError>
+    ensures text { OnOk result (out.new.items ≡ out.old.items ++ several T.spelled values.now) }
+    ensures fits { OnOk result (AllByRecursion T.in_range values.now) }
+{
+    put_length(out, values.len())?;
+    for value in values {
+        value.put(alloc, out)?;
+    }
+    Ok(())
+}
+
+impl<B: Content> Content for Signed<B> {
+    ghost reading = { signed_at B.reading 0 };
+
+    ghost spelled = { signed B.spelled };
+
+    ghost in_range = { SignedInRange B.in_range };
+
+    fn read(alloc: Global, bytes: &[u8]) -> Result<(Signed<B>, &[u8]), ReadError> {
+        read_signed(alloc, 0, bytes)
+    }
+
+    fn put(&self, alloc: Global, out: &mut Vec<u8>) -> Result<(), AllocError> {
+        put_signed(alloc, out, self)
+    }
+}
