@@ -1,0 +1,5 @@
+pub mod Soundness
+pub mod Openings
+pub mod Pieces
+pub mod Children
+pub mod Wholes

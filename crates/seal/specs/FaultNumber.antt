@@ -1,0 +1,40 @@
+-- The number of each fault.
+use Rattle.std.specs.Prelude.{ℕ}
+use Rattle.pbft_codec.specs.declared.fault.CodecFault.{CodecFault}
+use Rattle.pbft_codec.specs.declared.fault.CodecFault.TheVariants as codec
+use Rattle.seal.specs.declared.fault.SealFault.{SealFault}
+use Rattle.seal.specs.declared.fault.SealFault.TheVariants.{Codec, UnknownSigner, BadSignature, WrongRole, Memory}
+
+abbrev pub number_of : SealFault → ℕ
+number_of (Codec fault) = 1
+number_of UnknownSigner = 2
+number_of BadSignature = 3
+number_of WrongRole = 4
+number_of Memory = 5
+
+-- The codec's want of memory is no fault of the bytes.
+abbrev pub from_codec : CodecFault → SealFault
+from_codec codec.Memory = Memory
+from_codec codec.Truncated = Codec codec.Truncated
+from_codec codec.Trailing = Codec codec.Trailing
+from_codec codec.BadKind = Codec codec.BadKind
+from_codec codec.BadField = Codec codec.BadField
+from_codec codec.TooLong = Codec codec.TooLong
+from_codec codec.NotAscending = Codec codec.NotAscending
+
+-- Want of memory is never told as a fault of the bytes.
+abbrev pub IsOfBytes : CodecFault → Type 0
+IsOfBytes codec.Memory = ⊥
+IsOfBytes codec.Truncated = Unit {0}
+IsOfBytes codec.Trailing = Unit {0}
+IsOfBytes codec.BadKind = Unit {0}
+IsOfBytes codec.BadField = Unit {0}
+IsOfBytes codec.TooLong = Unit {0}
+IsOfBytes codec.NotAscending = Unit {0}
+
+abbrev pub IsProper : SealFault → Type 0
+IsProper (Codec fault) = IsOfBytes fault
+IsProper UnknownSigner = Unit {0}
+IsProper BadSignature = Unit {0}
+IsProper WrongRole = Unit {0}
+IsProper Memory = Unit {0}

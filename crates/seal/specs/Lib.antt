@@ -1,0 +1,4 @@
+pub mod Parts
+pub mod Signers
+pub mod Opening
+pub mod FaultNumber

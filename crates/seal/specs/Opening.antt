@@ -1,0 +1,60 @@
+-- What opening bytes gives.
+use Rattle.std.specs.Prelude.{◌≡◌, ℕ, ◌+◌, ◌*◌, List, [], Option, Some, None, Result, Ok, Err}
+use Rattle.std.specs.List.{AllByRecursion}
+use Rattle.host_types.specs.Configuration.{Configuration}
+use Rattle.lms_tree.specs.declared.height.Height.{Height}
+use Rattle.lms_tree.specs.Signature.{levels_of, signature_at}
+use Rattle.lms_tree.specs.SigningState.{SigningState}
+use Rattle.pbft_codec.specs.declared.body.Body.{Body}
+use Rattle.pbft_codec.specs.declared.fault.CodecFault.{CodecFault}
+use Rattle.pbft_codec.specs.declared.signed.Role.{Role}
+use Rattle.pbft_codec.specs.declared.signed.Signed.{Signed}
+use Rattle.pbft_codec.specs.Reading.{reading}
+use Rattle.pbft_codec.specs.Shape.{Spells}
+use Rattle.pbft_codec.specs.Spelling.{signed_text, spelling}
+use Rattle.seal.specs.declared.fault.SealFault.{SealFault}
+use Rattle.seal.specs.declared.fault.SealFault.TheVariants.{Codec, Memory}
+use Rattle.seal.specs.Parts.{messages_in}
+use Rattle.seal.specs.Signers.{IsSound, first_fault}
+
+-- What a contract sees of a checked message.
+pub record CheckedMessage : Type 0 where
+  -- who takes part
+  pub config : Configuration
+  pub message : Signed Body
+
+-- A message of the grammar, within the limit of length, whose parts are all sound.
+pub record IsChecked (c : CheckedMessage) : Type 0 where
+  pub spells : Spells (spelling c.message) c.message
+  pub sound : AllByRecursion (IsSound c.config) (messages_in c.message)
+
+-- A message, unless it has a fault.
+abbrev pub unless_fault : Configuration → Signed Body → Option SealFault → Result CheckedMessage SealFault
+unless_fault c m None = Ok (record { config = c; message = m })
+unless_fault c m (Some fault) = Err fault
+
+abbrev pub judged : Configuration → Result (Signed Body) CodecFault → Result CheckedMessage SealFault
+judged c (Ok m) = unless_fault c m (first_fault c (messages_in m))
+judged c (Err fault) = Err (Codec fault)
+
+-- The message that the bytes spell if all its parts are sound, or the first fault: the codec's, else
+-- that of the first part that has one.
+unfoldable pub opening : Configuration → List ℕ → Result CheckedMessage SealFault
+opening c bytes = judged c (reading bytes)
+
+-- What a call answered is this, unless memory ran out.
+abbrev pub IsUnlessMemory : {A : Type 0} → Result A SealFault → Result A SealFault → Type 0
+IsUnlessMemory (Ok x) is = is ≡ Ok x
+IsUnlessMemory (Err Memory) is = Unit {0}
+IsUnlessMemory (Err fault) is = is ≡ Err fault
+
+-- What a signer makes of a body: its next leaf signs.
+abbrev pub sealed : SigningState → Role → ℕ → Body → Signed Body
+sealed s role id body =
+    let unsigned : Signed Body = record { role = role; id = id; body = body; sig = [] } in
+    record { role = role; id = id; body = body; sig = signature_at s.height s.id s.secret s.next_leaf (signed_text unsigned) }
+
+-- The bytes of a message beside its body: role, id, two lengths and the signature (RFC 8554, section
+-- 5.4: 2,348 bytes at height 5, 2,508 at height 10).
+abbrev pub around_body : Height → ℕ
+around_body height = 13 + (2188 + 32 * levels_of height)

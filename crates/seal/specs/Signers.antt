@@ -1,0 +1,82 @@
+-- Who may sign what, and what is wrong with a part.
+use Rattle.std.specs.Prelude.{◌≡◌, ℕ, ◌%◌, ◌==◌, not, Bool, true, false, IsTrue, List, [], ◌∷◌, Option, Some, None, is_some, slice_get, if◌then◌else◌}
+use Rattle.std.specs.Option.{option_map}
+use Rattle.host_types.specs.Configuration.{Configuration, entry_of, replicas_for}
+use Rattle.host_types.specs.declared.View.{View}
+use Rattle.lms_tree.specs.Signature.{signature_fault}
+use Rattle.pbft_codec.specs.declared.body.Body.{Body}
+use Rattle.pbft_codec.specs.declared.body.Body.TheVariants as bodies
+use Rattle.pbft_codec.specs.declared.signed.Role.{Role}
+use Rattle.pbft_codec.specs.declared.signed.Role.TheVariants.{Replica, Client}
+use Rattle.pbft_codec.specs.declared.signed.Signed.{Signed}
+use Rattle.pbft_codec.specs.Spelling.{signed_text}
+use Rattle.seal.specs.declared.fault.SealFault.{SealFault}
+use Rattle.seal.specs.declared.fault.SealFault.TheVariants.{UnknownSigner, BadSignature, WrongRole}
+
+-- The listed key of a replica or a client.
+abbrev pub key_of : Configuration → Role → ℕ → Option (List ℕ)
+key_of c Replica id = slice_get c.keys id
+key_of c Client id = option_map (λ entry. entry.key) (entry_of c.clients id)
+
+abbrev pub primary_of : Configuration → View → ℕ
+primary_of c view = view.0 % replicas_for c.f
+
+-- What a client may sign: Requests alone.
+abbrev pub client_may : Body → Bool
+client_may (bodies.Request r) = true
+client_may (bodies.PrePrepare p) = false
+client_may (bodies.Prepare p) = false
+client_may (bodies.Commit c) = false
+client_may (bodies.Reply r) = false
+client_may (bodies.Checkpoint c) = false
+client_may (bodies.ViewChange v) = false
+client_may (bodies.NewView n) = false
+client_may (bodies.Fetch f) = false
+client_may (bodies.Snapshot s) = false
+
+-- What a replica may sign: all but Requests. PrePrepares and NewViews come from their view's primary,
+-- Prepares from the others.
+abbrev pub replica_may : Configuration → ℕ → Body → Bool
+replica_may c id (bodies.Request r) = false
+replica_may c id (bodies.PrePrepare p) = primary_of c p.view == id
+replica_may c id (bodies.Prepare p) = not (primary_of c p.view == id)
+replica_may c id (bodies.Commit m) = true
+replica_may c id (bodies.Reply r) = true
+replica_may c id (bodies.Checkpoint m) = true
+replica_may c id (bodies.ViewChange v) = true
+replica_may c id (bodies.NewView n) = primary_of c n.view == id
+replica_may c id (bodies.Fetch f) = true
+replica_may c id (bodies.Snapshot s) = true
+
+abbrev pub may_sign : Configuration → Role → ℕ → Body → Bool
+may_sign c Replica id body = replica_may c id body
+may_sign c Client id body = client_may body
+
+-- A message whose signer is listed, may sign its body, and did.
+pub record IsSound (c : Configuration) (m : Signed Body) : Type 0 where
+  pub key : List ℕ
+  pub listed : key_of c m.role m.id ≡ Some key
+  pub role : IsTrue (may_sign c m.role m.id m.body)
+  pub signature : signature_fault key (signed_text m) m.sig ≡ None
+
+-- ---- the first fault
+
+abbrev pub fault_under : Configuration → Option (List ℕ) → Signed Body → Option SealFault
+fault_under c None m = Some UnknownSigner
+fault_under c (Some key) m =
+    if not (may_sign c m.role m.id m.body) then Some WrongRole
+    else if is_some (signature_fault key (signed_text m) m.sig) then Some BadSignature
+    else None
+
+-- What is wrong with a message itself, whatever is nested in it.
+unfoldable pub own_fault : Configuration → Signed Body → Option SealFault
+own_fault c m = fault_under c (key_of c m.role m.id) m
+
+abbrev pub or_later : Option SealFault → Option SealFault → Option SealFault
+or_later None later = later
+or_later (Some fault) later = Some fault
+
+-- The fault of the first message that has one.
+unfoldable pub first_fault : Configuration → List (Signed Body) → Option SealFault
+first_fault c [] = None
+first_fault c (m ∷ ms) = or_later (own_fault c m) (first_fault c ms)

@@ -1,0 +1,137 @@
+ghost use Rattle.std.specs.Prelude.{◌≡◌, ◌≤◌, length, IfOk};
+ghost use Rattle.std.specs.List.{AllByRecursion};
+ghost use Rattle.pbft_codec.specs.Shape.{BodyShape, Spells};
+ghost use Rattle.pbft_codec.specs.Spelling.{most_bytes, spelling};
+ghost use Rattle.seal.specs.Opening.{CheckedMessage, IsChecked};
+ghost use Rattle.seal.specs.Parts.{messages_in};
+ghost use Rattle.seal.specs.Signers.{IsSound};
+
+use host_types::{Bytes, Config};
+use pbft_codec::{Body, CodecFault, Role, Signed, encode};
+use std::alloc::{AllocError, Global};
+use std::marker::Model;
+use std::sync::Arc;
+
+/// What a `Checked` is a handle of.
+#[derive(Drop)]
+struct Content {
+    config: Arc<Config>,
+    message: Signed,
+    bytes: Bytes,
+}
+
+/// A message of the grammar, within the limit of length, whose parts all have a signer that a
+/// configuration lists, who may say what it says, and whose signature is valid. It is a handle: a copy
+/// of it copies no bytes. Contracts see the configuration and the message.
+#[derive(Drop)]
+pub struct Checked {
+    content: Arc<Content>,
+}
+
+impl Model for Checked {
+    ghost use Rattle.std.specs.Prelude.{◌≡◌};
+    ghost use Rattle.pbft_codec.specs.Spelling.{spelling};
+    ghost use Rattle.seal.specs.Opening.{CheckedMessage, IsChecked};
+
+    ghost Value = { CheckedMessage };
+
+    ghost view = { λ c. record { config = c.content.value.config.value; message = c.content.value.message } };
+
+    ghost invariant = { λ c. (c.content.value.bytes ≡ spelling c.content.value.message)
+        × IsChecked (record { config = c.content.value.config.value; message = c.content.value.message }) };
+}
+
+impl Checked {
+    pub(crate) fn new(
+        alloc: Global,
+        config: &Arc<Config>,
+        message: Signed,
+        bytes: Bytes,
+    ) -> Result<Checked, AllocError>
+        requires spelled { Spells bytes message }
+        requires sound { AllByRecursion (IsSound config.now.value) (messages_in message) }
+        ensures { IfOk result (λ c. c ≡ record { config = config.now.value; message = message }) }
+    {
+        let config = Arc::try_clone(config)?;
+        let content = Content {
+            config,
+            message,
+            bytes,
+        };
+        match Arc::new(alloc, content) {
+            Ok(content) => Ok(Checked { content }),
+            Err(_) => Err(AllocError),
+        }
+    }
+
+    /// A sound message of the grammar that keeps the limit of length.
+    pub(crate) fn encoded(
+        alloc: Global,
+        config: &Arc<Config>,
+        message: Signed,
+    ) -> Result<Checked, AllocError>
+        requires shape { BodyShape message.body }
+        requires within { length (spelling message) ≤ most_bytes }
+        requires sound { AllByRecursion (IsSound config.now.value) (messages_in message) }
+        ensures { IfOk result (λ c. c ≡ record { config = config.now.value; message = message }) }
+    {
+        match encode(alloc, &message) {
+            Ok(bytes) => Checked::new(alloc, config, message, Bytes::from_vec(bytes)),
+            Err(CodecFault::Memory) => Err(AllocError),
+            Err(_) => unreachable!(),
+        }
+    }
+
+    /// Who takes part.
+    pub fn config(&self) -> &Arc<Config>
+        ensures value { result.now.value ≡ self.now.config }
+        ensures checked { IsChecked self.now }
+    {
+        let content: &Content = &self.content;
+        &content.config
+    }
+
+    /// The signer of the whole message.
+    pub fn signer(&self) -> (Role, u32)
+        ensures value { result ≡ (self.now.message.role, self.now.message.id) }
+        ensures checked { IsChecked self.now }
+    {
+        let content: &Content = &self.content;
+        (content.message.role, content.message.id)
+    }
+
+    /// What the message says.
+    pub fn body(&self) -> &Body
+        ensures value { result.now ≡ self.now.message.body }
+        ensures checked { IsChecked self.now }
+    {
+        let content: &Content = &self.content;
+        &content.message.body
+    }
+
+    /// The message's one spelling.
+    pub fn bytes(&self) -> &[u8]
+        ensures value { result.now ≡ spelling self.now.message }
+        ensures checked { IsChecked self.now }
+    {
+        let content: &Content = &self.content;
+        content.bytes.as_slice()
+    }
+
+    /// One more handle of the same message. No bytes are copied; it is refused only where the count of
+    /// handles is full.
+    pub fn copy(&self) -> Result<Checked, AllocError>
+        ensures { IfOk result (λ c. c ≡ self.now) }
+    {
+        let content = Arc::try_clone(&self.content)?;
+        Ok(Checked { content })
+    }
+
+    pub(crate) fn message(&self) -> &Signed
+        ensures value { result.now ≡ self.now.message }
+        ensures checked { IsChecked self.now }
+    {
+        let content: &Content = &self.content;
+        &content.message
+    }
+}

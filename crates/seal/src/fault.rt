@@ -1,0 +1,80 @@
+ghost use Rattle.std.specs.Prelude.{◌≡◌};
+
+use pbft_codec::CodecFault;
+use std::alloc::{AllocError, AllocFailed};
+use thiserror::Error;
+
+/// Why bytes are no message that a configuration takes. Of several faults the codec's is told, else
+/// that of the first part that has one; of those of one part `UnknownSigner` before `WrongRole`, and
+/// `WrongRole` before `BadSignature`.
+#[derive(Clone, Copy, Debug, PartialEq, Eq, Error)]
+pub enum SealFault {
+    /// The bytes are no message. The fault is never the codec's `Memory`.
+    #[error("{0}")]
+    Codec(CodecFault),
+    /// No such replica or client is listed.
+    #[error("UnknownSigner")]
+    UnknownSigner,
+    /// The signature is not valid under the listed key.
+    #[error("BadSignature")]
+    BadSignature,
+    /// The signer doesn't send messages of this kind, or not in this view.
+    #[error("WrongRole")]
+    WrongRole,
+    /// Memory ran out.
+    #[error("Memory")]
+    Memory,
+}
+
+impl SealFault {
+    ghost use Rattle.seal.specs.FaultNumber.{number_of};
+
+    /// The fault's number.
+    pub fn number(&self) -> u8
+        ensures { result ≡ number_of self.now }
+    {
+        match self {
+            SealFault::Codec(_) => 1,
+            SealFault::UnknownSigner => 2,
+            SealFault::BadSignature => 3,
+            SealFault::WrongRole => 4,
+            SealFault::Memory => 5,
+        }
+    }
+}
+
+impl From<CodecFault> for SealFault {
+    ghost use Rattle.std.specs.Prelude.{◌≡◌};
+    ghost use Rattle.seal.specs.FaultNumber.{from_codec};
+
+    ghost from_gives = { λ fault gives. gives ≡ from_codec fault };
+
+    fn from(fault: CodecFault) -> SealFault {
+        match fault {
+            CodecFault::Memory => SealFault::Memory,
+            fault => SealFault::Codec(fault),
+        }
+    }
+}
+
+impl From<AllocError> for SealFault {
+    ghost use Rattle.std.specs.Prelude.{◌≡◌};
+    ghost use Rattle.seal.specs.declared.fault.SealFault.TheVariants.{Memory};
+
+    ghost from_gives = { λ _ gives. gives ≡ Memory };
+
+    fn from(_: AllocError) -> SealFault {
+        SealFault::Memory
+    }
+}
+
+impl<T: Drop> From<AllocFailed<T>> for SealFault {
+    ghost use Rattle.std.specs.Prelude.{◌≡◌};
+    ghost use Rattle.seal.specs.declared.fault.SealFault.TheVariants.{Memory};
+
+    ghost from_gives = { λ _ gives. gives ≡ Memory };
+
+    fn from(_: AllocFailed<T>) -> SealFault {
+        SealFault::Memory
+    }
+}

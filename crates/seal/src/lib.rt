@@ -1,0 +1,23 @@
+//! Messages whose signatures were verified, as values: a `Checked` is a message of the grammar whose
+//! parts all have a listed signer, who may say what it says and signed it (Castro and Liskov 1999,
+//! section 4, with signatures in place of authenticators). `open` makes one of bytes, `seal` of a body
+//! and a signer.
+#![tactic(auto)]
+
+mod checked;
+mod copying;
+mod fault;
+mod judging;
+mod kinds;
+mod opening;
+mod part;
+mod sealing;
+#[cfg(test)]
+mod tests;
+mod walking;
+
+pub use checked::Checked;
+pub use fault::SealFault;
+pub use opening::{nested, open, parts, request_digest};
+pub use part::Part;
+pub use sealing::seal;

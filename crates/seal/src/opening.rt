@@ -1,0 +1,119 @@
+ghost use Rattle.std.specs.Prelude.{◌≡◌, ◌∷◌, ◌++◌, IfOk, IfErr, Ok, map};
+ghost use Rattle.std.specs.List.{AllByRecursion, flat_map};
+ghost use Rattle.pbft_codec.specs.declared.body.Body.{Body};
+ghost use Rattle.pbft_codec.specs.declared.signed.Signed.{Signed};
+ghost use Rattle.pbft_codec.specs.Shape.{Spells};
+ghost use Rattle.pbft_codec.specs.Spelling.{signed_text};
+ghost use Rattle.sha2.specs.Sha256.{sha256};
+ghost use Rattle.seal.specs.FaultNumber.{IsProper};
+ghost use Rattle.seal.specs.Opening.{IsUnlessMemory, opening};
+ghost use Rattle.seal.specs.Parts.{messages_in, parts_of, part_of, children_of};
+ghost use Rattle.seal.specs.Signers.{IsSound};
+
+use crate::checked::Checked;
+use crate::copying::Copied;
+use crate::fault::SealFault;
+use crate::judging::judge_whole;
+use crate::part::Part;
+use crate::walking::{children, descendants};
+use host_types::{Bytes, Config, Digest};
+use pbft_codec::{Signed, decode};
+use sha2::{Digest as _, Sha256};
+use std::alloc::{AllocError, Global};
+use std::sync::Arc;
+
+/// The message that the bytes spell, where each part of it has a signer that `config` lists, who may
+/// say what it says and signed it. A refusal is the codec's, else that of the first part that has a
+/// fault, of a message before those nested in it: `UnknownSigner`, `WrongRole`, `BadSignature`, in this
+/// order. `Memory` comes where memory ran out, whatever the bytes.
+pub fn open(alloc: Global, config: &Arc<Config>, bytes: &[u8]) -> Result<Checked, SealFault>
+    // What is opened was spelled so, and is sound.
+    ensures found { IfOk result (λ c. Spells bytes.now c.message × (c.config ≡ config.now.value)
+        × AllByRecursion (IsSound config.now.value) (messages_in c.message)) }
+
+    // What is spelled so and sound is opened.
+    ensures only { (m : Signed Body) → Spells bytes.now m → AllByRecursion (IsSound config.now.value) (messages_in m) →
+        IsUnlessMemory result (Ok (record { config = config.now.value; message = m })) }
+
+    // Which fault it is; that of the codec is never its want of memory.
+    ensures exact { IsUnlessMemory result (opening config.now.value bytes.now) }
+    ensures proper { IfErr result IsProper }
+{
+    opened(alloc, config, bytes)
+}
+
+fn opened(alloc: Global, config: &Arc<Config>, bytes: &[u8]) -> Result<Checked, SealFault>
+    ensures found { IfOk result (λ c. Spells bytes.now c.message × (c.config ≡ config.now.value)
+        × AllByRecursion (IsSound config.now.value) (messages_in c.message)) }
+    ensures exact { IsUnlessMemory result (opening config.now.value bytes.now) }
+    ensures proper { IfErr result IsProper }
+{
+    let message = decode(alloc, bytes)?;
+    judge_whole(alloc, config, &message)?;
+    let copy = Vec::from_slice(alloc, bytes)?;
+    Ok(Checked::new(alloc, config, message, Bytes::from_vec(copy))?)
+}
+
+/// The parts of a message: its own, then those of its nested messages from left to right. It is refused
+/// only for want of memory.
+pub fn parts(alloc: Global, message: &Checked) -> Result<Vec<Part>, AllocError>
+    ensures { IfOk result (λ parts. parts.items ≡ parts_of message.now.message) }
+{
+    let whole = message.message();
+    let mut parts = Vec::new(alloc);
+    parts.push(Part {
+        role: whole.role,
+        id: whole.id,
+        body: whole.body.copied(alloc)?,
+    })?;
+    for inside in descendants(alloc, &whole.body)? {
+        let Signed { role, id, body, .. } = inside;
+        parts.push(Part { role, id, body })?;
+    }
+    Ok(parts)
+}
+
+/// The messages that a message holds itself, from left to right, under the same configuration. It is
+/// refused only for want of memory.
+pub fn nested(alloc: Global, message: &Checked) -> Result<Vec<Checked>, AllocError>
+    ensures messages { IfOk result (λ inside.
+        inside.items ≡ map (λ m. record { config = message.now.config; message = m }) (children_of message.now.message.body)) }
+
+    // The message's own part, and theirs, are all of its parts.
+    ensures parts { IfOk result (λ inside.
+        parts_of message.now.message ≡ part_of message.now.message ∷ flat_map (λ c. parts_of c.message) inside.items) }
+{
+    held(alloc, message)
+}
+
+fn held(alloc: Global, message: &Checked) -> Result<Vec<Checked>, AllocError>
+    ensures { IfOk result (λ inside.
+        inside.items ≡ map (λ m. record { config = message.now.config; message = m }) (children_of message.now.message.body)) }
+{
+    let mut nested = Vec::new(alloc);
+    for inside in children(alloc, message.body())? {
+        nested.push(Checked::encoded(alloc, message.config(), inside)?)?;
+    }
+    Ok(nested)
+}
+
+/// The SHA-256 digest (FIPS 180-4) of what is signed: role, id and body. It names a request. It takes
+/// no memory.
+pub fn request_digest(message: &Checked) -> Digest
+    ensures { result.0 ≡ sha256 (signed_text message.now.message) }
+{
+    let (signer, rest) = message.bytes().split_at(5);
+    let (_, rest) = rest.split_at(4);
+    let behind = 4 + message.message().sig.as_slice().len();
+    let (said, _) = rest.split_at(rest.len() - behind);
+    Digest(digest_of_both(signer, said))
+}
+
+fn digest_of_both(front: &[u8], back: &[u8]) -> [u8; 32]
+    ensures { result ≡ sha256 (front.now ++ back.now) }
+{
+    let mut hasher = Sha256::new();
+    hasher.update(front);
+    hasher.update(back);
+    hasher.finalize()
+}

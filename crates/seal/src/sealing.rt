@@ -1,0 +1,72 @@
+ghost use Rattle.std.specs.Prelude.{◌≡◌, ◌⊎◌, ◌↔◌, ◌+◌, ◌≤◌, [], IsTrue, IfOk, IsErrOf, Some, length};
+ghost use Rattle.std.specs.List.{AllByRecursion};
+ghost use Rattle.lms_tree.specs.declared.fault.SignFault.{SignFault};
+ghost use Rattle.lms_tree.specs.Signature.{public_key_of};
+ghost use Rattle.lms_tree.specs.SigningState.{leaf_count_of};
+ghost use Rattle.pbft_codec.specs.Shape.{BodyShape};
+ghost use Rattle.pbft_codec.specs.Spelling.{body as body_spelling, most_bytes};
+ghost use Rattle.seal.specs.Opening.{sealed, around_body};
+ghost use Rattle.seal.specs.Parts.{nested_in};
+ghost use Rattle.seal.specs.Signers.{IsSound, key_of, may_sign};
+
+use crate::checked::Checked;
+use host_types::{Bytes, Config};
+use lms_tree::{SignFault, Signer};
+use pbft_codec::{Body, Role, Signed, signed_bytes};
+use std::alloc::Global;
+use std::sync::Arc;
+
+/// A message of this body before it is signed.
+pub fn with_empty_signature(alloc: Global, role: Role, id: u32, body: Body) -> Signed
+    ensures { result ≡ record { role = role; id = id; body = body; sig = [] } }
+{
+    Signed {
+        role,
+        id,
+        body,
+        sig: Bytes::from_vec(Vec::new(alloc)),
+    }
+}
+
+/// The message of this body, signed by the signer's next leaf. The caller owes a signer whose key is
+/// listed for the role and the id, a body of the grammar that comes from that signer and fits in a
+/// message, and nested messages that are sound. `Exhausted` comes exactly where every leaf has signed,
+/// takes no memory, and leaves the signer as it was. After `Memory` the next leaf is the old one or one
+/// more.
+pub fn seal(
+    alloc: Global,
+    config: &Arc<Config>,
+    signer: &mut Signer,
+    role: Role,
+    id: u32,
+    body: Body,
+) -> Result<Checked, SignFault>
+    requires key { key_of config.now.value role id ≡ Some (public_key_of signer.old.height signer.old.id signer.old.secret) }
+    requires role { IsTrue (may_sign config.now.value role id body) }
+    requires shape { BodyShape body }
+    requires within { length (body_spelling body) + around_body signer.old.height ≤ most_bytes }
+    requires nested { AllByRecursion (IsSound config.now.value) (nested_in body) }
+    ensures signed { IfOk result (λ c. c ≡ record { config = config.now.value; message = sealed signer.old role id body }) }
+    ensures used { IfOk result (λ _. signer.new ≡ record signer.old { next_leaf = signer.old.next_leaf + 1 }) }
+    ensures exhausted { IsErrOf result SignFault.Exhausted ↔ (signer.old.next_leaf ≡ leaf_count_of signer.old.height) }
+    ensures unchanged { IsErrOf result SignFault.Exhausted → signer.new ≡ signer.old }
+    ensures memory { IsErrOf result SignFault.Memory →
+        (signer.new ≡ signer.old) ⊎ (signer.new ≡ record signer.old { next_leaf = signer.old.next_leaf + 1 }) }
+{
+    if signer.leaves_left() == 0 {
+        return Err(SignFault::Exhausted);
+    }
+    let unsigned = with_empty_signature(alloc, role, id, body);
+    let Ok(text) = signed_bytes(alloc, &unsigned) else {
+        return Err(SignFault::Memory);
+    };
+    let signature = signer.sign(&text)?;
+    let message = Signed {
+        sig: Bytes::from_vec(signature),
+        ..unsigned
+    };
+    match Checked::encoded(alloc, config, message) {
+        Ok(checked) => Ok(checked),
+        Err(_) => Err(SignFault::Memory),
+    }
+}
