@@ -17,7 +17,7 @@ use Rattle.bpf_model.specs.Helpers.{Access}
 use Rattle.bpf_model.specs.Ranges.{Range, hull, transfer}
 use Rattle.bpf_model.specs.State.{State, Edge, start_state, both, meet, joined, source_range, destination_range, with_range, alu_range, after_helper, edges}
 use Rattle.bpf_model.specs.Arrival.{edges_of, carried, arriving, state_at}
-use Rattle.bpf_model.proofs.Options.{some_is}
+use Rattle.bpf_model.proofs.Options.{some_is, bind_some}
 use Rattle.bpf_model.proofs.Places.{insn_at-is}
 use Rattle.bpf_model.proofs.RangeLaws.{Fits, transfer_fits}
 use Rattle.bpf_model.proofs.Meaning.{IsFit, IsFit-start, FitsSource, source_fits}
@@ -65,10 +65,6 @@ joined_fits [] s all e = absurd cc
 joined_fits (x ∷ xs) s all e = subst IsFit (some_is _ _ e) (fold_fits x xs all.0 all.1)
 
 -- ---- edges
-
-bind_some : {A B : Type 0} (o : Option A) (f : A → Option B) (y : B) → (o >>= f) ≡ Some y → (x : A) × (o ≡ Some x) × (f x ≡ Some y)
-bind_some None f y e = absurd cc
-bind_some (Some x) f y e = (x, refl, e)
 
 source_range_fits : (state : State) (src : Source) → IsFit state → FitsSource src → FitsOption (source_range state src)
 unfolding IsFit FitsSource

@@ -442,7 +442,8 @@ put_answers state m number is means values has inside there =
       values = put_values m.entries key.0 value.0 value.2 values;
     }
 
-kept_register : (registers : Registers) (r value : ℕ) → map.get (map.insert (map.retain_keys registers (λ r. nat_le 6 r)) 0 value) r ≡ cond (eqb r 0) (Some value) (cond (nat_le 6 r) (map.get registers r) None)
+-- the registers after a helper
+pub kept_register : (registers : Registers) (r value : ℕ) → map.get (map.insert (map.retain_keys registers (λ r. nat_le 6 r)) 0 value) r ≡ cond (eqb r 0) (Some value) (cond (nat_le 6 r) (map.get registers r) None)
 kept_register registers r value =
     map.get-insert nat_cmp_total (map.retain_keys registers (λ r. nat_le 6 r)) 0 value r
     ∙ ap (λ (b : Bool). cond b (Some value) (map.get (map.retain_keys registers (λ r. nat_le 6 r)) r)) (unsigned_tied r 0)

@@ -1,6 +1,7 @@
 -- Options, tests and elements of lists.
 use Rattle.std.proofs.Common.{◌≡◌, ℕ, Bool, true, false, ◌&&◌, not, cond, Option, Some, None, List, [], ◌∷◌, ◌++◌, refl, inl, inr}
 use Rattle.std.specs.Prelude.{IsSome}
+use Rattle.bpf_model.specs.Bind.{◌>>=◌}
 use Rattle.bpf_model.specs.State.{IsOneOf}
 
 pub some_of : {A : Type 0} (o : Option A) → IsSome o → (x : A) × (o ≡ Some x)
@@ -39,3 +40,8 @@ IsOneOf-right x (y ∷ xs) ys h = inr (IsOneOf-right x xs ys h)
 
 pub some_is : {A : Type 0} (x y : A) → Some x ≡ Some y → x ≡ y
 some_is x y e = cc
+
+-- what a chain of partial functions gives came from each of them
+pub bind_some : {A B : Type 0} (o : Option A) (f : A → Option B) (y : B) → (o >>= f) ≡ Some y → (x : A) × (o ≡ Some x) × (f x ≡ Some y)
+bind_some None f y e = absurd cc
+bind_some (Some x) f y e = (x, refl, e)

@@ -1,14 +1,15 @@
 -- The service's step has one outcome.
-use Rattle.std.proofs.Common.{◌≡◌, refl, ◌⊎◌, ℕ, zero, suc, ◌+◌, Bool, true, false, List, [], ◌∷◌, ◌++◌, length, Option, Some, None, sym, ap, subst, ◌∙◌, arith, inl, inr}
+use Rattle.std.proofs.Common.{◌≡◌, refl, ◌⊎◌, ℕ, ◌+◌, Bool, true, false, List, [], ◌∷◌, ◌++◌, length, Option, Some, None, sym, ap, subst, ◌∙◌, arith, inl, inr}
 use Rattle.std.specs.Prelude.{MatchBool, MatchOption, slice_get, nat_lt, nat_le, nat_eq}
 use Rattle.std.specs.FinMap as finite
 use Rattle.bpf_decode.specs.declared.insn.Insn.{Insn}
 use Rattle.bpf_decode.proofs.Spellings.{same_code}
 use Rattle.bpf_model.specs.Machine.{Machine, Call, start}
-use Rattle.bpf_model.specs.Step.{Goes, Ends, step}
+use Rattle.bpf_model.specs.Step.{Ends, step}
 use Rattle.bpf_model.specs.Run.{Run, Ending, EndsSo}
 use Rattle.bpf_model.specs.Verdict.{Accepts}
-use Rattle.bpf_model.proofs.Runs.{run_within}
+use Rattle.bpf_model.proofs.Options.{some_is}
+use Rattle.bpf_model.proofs.Runs.{run_within, same_run}
 use Rattle.tenant_maps.specs.Entries.{Entries}
 use Rattle.host_types.specs.declared.request.Request.{Request}
 use Rattle.host_types.specs.declared.request.Reply.{Reply}
@@ -17,18 +18,8 @@ use Rattle.service_core.specs.Operations.{Operation, Install, Call as CallOf, Ba
 use Rattle.service_core.specs.Parts.{Part, Service, with_part}
 use Rattle.service_core.specs.Steps.{reply_to, Executes, IsPartStep, IsStep, Follows}
 
-goes_is : (x y : Machine) → Some (Goes x) ≡ Some (Goes y) → x ≡ y
-goes_is x y e = cc
-
 ends_is : (x y : ℕ) → Some (Ends x) ≡ Some (Ends y) → x ≡ y
 ends_is x y e = cc
-
-some_is : {X : Type 0} (x y : X) → Some x ≡ Some y → x ≡ y
-some_is x y e = cc
-
-same_run : (code : List Insn) (first : Machine) (n : ℕ) (a b : Machine) → Run code first n a → Run code first n b → a ≡ b
-same_run code first zero a b ra rb = sym ra ∙ rb
-same_run code first (suc n) a b (ma, ra, sa) (mb, rb, sb) = goes_is a b (sym sa ∙ ap (step code) (same_run code first n ma mb ra rb) ∙ sb)
 
 -- a call ends in one way
 same_ending : (code : List Insn) (call : Call) (a b : Ending) → EndsSo code call a → EndsSo code call b → a ≡ b

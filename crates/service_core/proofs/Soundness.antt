@@ -12,6 +12,7 @@ use Rattle.host_types.specs.declared.request.Request.{Request}
 use Rattle.host_types.specs.declared.request.Reply.{Reply}
 use Rattle.host_types.specs.Configuration.{Configuration, tenants_of, entry_of}
 use Rattle.bpf_model.specs.Verdict.{Accepts}
+use Rattle.bpf_model.proofs.Options.{some_is}
 use Rattle.bpf_model.proofs.Safety.{safe}
 use Rattle.tenant_maps.specs.Entries.{Entries}
 use Rattle.service_core.specs.declared.outcome.Outcome.{Outcome}
@@ -19,9 +20,6 @@ use Rattle.service_core.specs.Operations.{Operation, Install, Call, Bad, operati
 use Rattle.service_core.specs.Parts.{Replies, Part, Service, empty_part, genesis_of, part_at, with_part}
 use Rattle.service_core.specs.Steps.{reply_to, Executes, IsPartStep, IsStep, Follows}
 use Rattle.service_core.specs.Sound.{IsAcceptedCode, IsSoundPart, IsSound, CannotGoWrong, NoneGoesWrong}
-
-some_is : {X : Type 0} (x y : X) → Some x ≡ Some y → x ≡ y
-some_is x y e = cc
 
 one_of_bool : (b : Bool) (P Q C : Type 0) → (P → C) → (Q → C) → MatchBool b P Q → C
 one_of_bool true P Q C one two h = one h
