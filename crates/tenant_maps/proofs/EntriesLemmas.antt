@@ -54,29 +54,34 @@ count_stays true room n m h lt few e = omega (arith, e, few)
 count_stays false true n m h lt few e = omega (arith, e, ltb-true n 4096 lt)
 count_stays false false n m h lt few e = absurd (true≢false (sym h))
 
--- The map with an entry that has a place.
+-- The map with an entry that there is room for.
 pub IsTenantMap-insert : (entries : Entries) (key value : List ℕ) → IsTenantMap entries
     → IsKey key → IsValue value
     → has_place entries key ≡ true → IsTenantMap (finite.insert entries key value)
-IsTenantMap-insert entries key value is k v place = record {
+IsTenantMap-insert entries key value is k v room = record {
   keys = subst (λ es. All IsKey (map (λ e. e.0) es)) (sym (finite.entries-insert nat_list_cmp_total entries key value)) (All-keys-put IsKey key value _ k is.keys);
   values = subst (λ es. All IsValue (map (λ e. e.1) es)) (sym (finite.entries-insert nat_list_cmp_total entries key value)) (All-values-put IsValue key value _ v is.values);
-  count = count_stays (finite.contains_key entries key) _ (finite.len entries) _ place refl is.count (finite.len-insert nat_list_cmp_total entries key value);
+  count = count_stays (finite.contains_key entries key) _ (finite.len entries) _ room refl is.count (finite.len-insert nat_list_cmp_total entries key value);
 }
+
+-- The values after an insertion.
+pub values_after_insert : (entries : Entries) (key value : List ℕ) → All IsValue (finite.values entries) → IsValue value → All IsValue (finite.values (finite.insert entries key value))
+values_after_insert entries key value all is =
+    subst (λ es. All IsValue (map (λ e. e.1) es)) (sym (finite.entries-insert nat_list_cmp_total entries key value)) (All-values-put IsValue key value _ is all)
 
 no_entries : {A : Type 0} (es : List A) → length es ≡ 0 → es ≡ []
 no_entries [] e = refl
 no_entries (x ∷ es) e = absurd (omega (arith, e))
 
-put_place : (b : Bool) (entries more : Entries) → IsTenantMap entries → (b ≡ true → IsTenantMap more) → IsTenantMap (cond b more entries)
-put_place true entries more is then = then refl
-put_place false entries more is then = is
+put_cases : (b : Bool) (entries more : Entries) → IsTenantMap entries → (b ≡ true → IsTenantMap more) → IsTenantMap (cond b more entries)
+put_cases true entries more is then = then refl
+put_cases false entries more is then = is
 
 -- A tenant's map stays one where a key and a value of their lengths are put.
 pub IsTenantMap-put : (entries : Entries) (key value : List ℕ) → IsTenantMap entries
     → IsKey key → IsValue value
     → IsTenantMap (put entries key value)
-IsTenantMap-put entries key value is k v = put_place (has_place entries key) _ _ is (IsTenantMap-insert entries key value is k v)
+IsTenantMap-put entries key value is k v = put_cases (has_place entries key) _ _ is (IsTenantMap-insert entries key value is k v)
 
 turned : {A : Type 0} (b : Bool) (x y : A) → cond (not b) x y ≡ cond b y x
 turned true x y = refl
@@ -120,16 +125,16 @@ IsTenantMap-empty =
       count = omega (arith, finite.len-empty order (List ℕ));
     }
 
--- What is read after a put of a key that has a place.
+-- What is read after a put of a key that there is room for.
 pub get-put : (entries : Entries) (key value other : List ℕ) → has_place entries key ≡ true
     → finite.get (put entries key value) other ≡ cond (eq_by_cmp order other key) (Some value) (finite.get entries other)
-get-put entries key value other place =
-    ap (λ b. finite.get (cond b (finite.insert entries key value) entries) other) place ∙ finite.get-insert nat_list_cmp_total entries key value other
+get-put entries key value other room =
+    ap (λ b. finite.get (cond b (finite.insert entries key value) entries) other) room ∙ finite.get-insert nat_list_cmp_total entries key value other
 
 -- A key is read as it was put.
 pub get-put_here : (entries : Entries) (key value : List ℕ) → has_place entries key ≡ true → finite.get (put entries key value) key ≡ Some value
-get-put_here entries key value place =
-    get-put entries key value key place ∙ ap (λ b. cond b (Some value) (finite.get entries key)) ((eq_by_cmp_equiv nat_list_cmp_total).refl key)
+get-put_here entries key value room =
+    get-put entries key value key room ∙ ap (λ b. cond b (Some value) (finite.get entries key)) ((eq_by_cmp_equiv nat_list_cmp_total).refl key)
 
 find_value : (P : List ℕ → Type 0) (q : List ℕ) (es : List (List ℕ × List ℕ)) → All P (map (λ e. e.1) es) → IfSome (finite.find order q es) P
 find_value P q [] all = tt
@@ -171,7 +176,7 @@ put_last key value (e ∷ es) below =
 pub entries-put_last : (entries : Entries) (key value : List ℕ) → All (λ other. order other key ≡ Less) (finite.keys entries) → finite.len entries < 4096
     → finite.entries (put entries key value) ≡ finite.entries entries ++ (key, value) ∷ []
 entries-put_last entries key value below few =
-    let place : has_place entries key ≡ true = ap (λ b. finite.contains_key entries key || b) (lt-ltb (finite.len entries) 4096 few) ∙ or_true (finite.contains_key entries key) in
-    ap (λ b. finite.entries (cond b (finite.insert entries key value) entries)) place
+    let room : has_place entries key ≡ true = ap (λ b. finite.contains_key entries key || b) (lt-ltb (finite.len entries) 4096 few) ∙ or_true (finite.contains_key entries key) in
+    ap (λ b. finite.entries (cond b (finite.insert entries key value) entries)) room
     ∙ finite.entries-insert nat_list_cmp_total entries key value
     ∙ put_last key value (finite.entries entries) below

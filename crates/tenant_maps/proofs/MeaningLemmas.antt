@@ -1,5 +1,5 @@
 -- What an ordered map means, and what its calls do to the meaning.
-use Rattle.std.proofs.Common.{◌≡◌, ℕ, Bool, true, false, cond, Some, None, List, [], ◌∷◌, length, get_or, map, find, option_map, slice_get, T, ◌&&◌, ◌||◌, nat_lt, ◌<◌, ◌≤◌, Result, Ok, Err, OnOk, OnErr, is_some, true≢false, refl, sym, ap, subst, ◌∙◌}
+use Rattle.std.proofs.Common.{◌≡◌, ℕ, Bool, true, false, cond, arith, All, Some, None, List, [], ◌∷◌, length, get_or, map, find, option_map, slice_get, T, ◌&&◌, ◌||◌, nat_lt, ◌<◌, ◌≤◌, Result, Ok, Err, OnOk, OnErr, is_some, true≢false, refl, sym, ap, subst, ◌∙◌}
 use Rattle.std.specs.Ordering.{is_lt, eq_by_cmp}
 use Rattle.std.specs.declared.cmp.Ordering.TheVariants.{Less}
 use Rattle.std.specs.List.{AllByRecursion, filter}
@@ -8,6 +8,7 @@ use Rattle.std.specs.Cmp.Lexicographic.{nat_list_cmp_total}
 use Rattle.std.proofs.lemmas.Bool.{ltb-true, lt-ltb, le-ltb}
 use Rattle.std.proofs.lemmas.Cmp.{eq_by_cmp_equiv}
 use Rattle.std.proofs.lemmas.List.Elements.{All-from_get_or}
+use Rattle.std.proofs.lemmas.List.{length-map}
 use Rattle.std.proofs.lemmas.Map.Keys.{sorted_head, sorted_tail}
 use Rattle.std.specs.Map.{keys_of, lookup}
 use Rattle.std.specs.BTreeMap as tree
@@ -18,7 +19,7 @@ use Rattle.std.specs.FinMap as finite
 use Rattle.std.specs.FinMap.Entries.{is_sorted, below_all}
 use Rattle.tenant_maps.specs.Entries.{Entries, IsKey, IsValue, IsTenantMap, has_place, put, next_key}
 use Rattle.tenant_maps.specs.TenantEntries.{meaning}
-use Rattle.tenant_maps.proofs.EntriesLemmas.{order, order_tells, or_true, IsTenantMap-empty, IsTenantMap-insert, IsTenantMap-remove}
+use Rattle.tenant_maps.proofs.EntriesLemmas.{order, order_tells, or_true, IsTenantMap-empty, IsTenantMap-insert, IsTenantMap-remove, values_after_insert}
 
 both : (a b : Bool) → T a → T b → T (a && b)
 both true b p q = q
@@ -91,45 +92,67 @@ or_false : (b : Bool) → (b || false) ≡ b
 or_false true = refl
 or_false false = refl
 
--- where there is room, each key has a place
+-- where the map isn't full, each key can be written
 pub has_place-room : (entries : Entries) (key : List ℕ) (n : ℕ) → n ≡ finite.len entries → n < 4096 → nat_lt n 4096 ≡ has_place entries key
 has_place-room entries key n e few =
-    let room : nat_lt n 4096 ≡ true = lt-ltb n 4096 few in
-    room ∙ sym (ap (λ b. finite.contains_key entries key || b) (ap (λ k. nat_lt k 4096) (sym e) ∙ room) ∙ or_true (finite.contains_key entries key))
+    let below : nat_lt n 4096 ≡ true = lt-ltb n 4096 few in
+    below ∙ sym (ap (λ b. finite.contains_key entries key || b) (ap (λ k. nat_lt k 4096) (sym e) ∙ below) ∙ or_true (finite.contains_key entries key))
 
--- where there is none, a key that is there has one
+pub can_insert : (entries : Entries) (key : List ℕ) (n : ℕ) → n ≡ finite.len entries → n < 4096 → has_place entries key ≡ true
+can_insert entries key n e few = sym (has_place-room entries key n e few) ∙ lt-ltb n 4096 few
+
+-- where it is full, a key that is there can be
 pub has_place-full : (entries : Entries) (key : List ℕ) (n : ℕ) → n ≡ finite.len entries → 4096 ≤ n → finite.contains_key entries key ≡ has_place entries key
 has_place-full entries key n e many =
     let full : nat_lt n 4096 ≡ false = le-ltb n 4096 many in
     sym (ap (λ b. finite.contains_key entries key || b) (ap (λ k. nat_lt k 4096) (sym e) ∙ full) ∙ or_false (finite.contains_key entries key))
 
--- an insertion of an entry that has a place keeps a tenant's map, also where memory ran out
+-- an insertion that there is room for keeps a tenant's map, also where memory ran out
 pub IsTenantMap-after_insert : {X E : Type 0} (m n : BTreeMap (List ℕ) (List ℕ)) (k v : List ℕ) (r : Result X E) → IsOrdered order m → IsOrdered order n
     → OnOk r (Updates order m n k (Some v)) → OnErr r (IsUnchanged m n)
     → IsTenantMap (meaning m) → IsKey k → IsValue v → has_place (meaning m) k ≡ true → IsTenantMap (meaning n)
-IsTenantMap-after_insert m n k v (Ok x) o p u same is key value place =
-    subst IsTenantMap (sym (meaning-insert m n k v o p u)) (IsTenantMap-insert (meaning m) k v is key value place)
-IsTenantMap-after_insert m n k v (Err x) o p u same is key value place =
+IsTenantMap-after_insert m n k v (Ok x) o p u same is key value room =
+    subst IsTenantMap (sym (meaning-insert m n k v o p u)) (IsTenantMap-insert (meaning m) k v is key value room)
+IsTenantMap-after_insert m n k v (Err x) o p u same is key value room =
     subst IsTenantMap (sym (meaning-unchanged m n same)) is
+
+-- a key that is there can be written
+pub has_place-stored : (entries : Entries) (key value : List ℕ) → finite.get entries key ≡ Some value → has_place entries key ≡ true
+has_place-stored entries key value e = ap (λ o. is_some o || nat_lt (finite.len entries) 4096) e
+
+-- a new key can't where the map is full
+pub has_place-new : (entries : Entries) (key : List ℕ) → finite.get entries key ≡ None → 4096 ≤ finite.len entries → has_place entries key ≡ false
+has_place-new entries key e many = ap (λ o. is_some o || nat_lt (finite.len entries) 4096) e ∙ le-ltb (finite.len entries) 4096 many
+
+-- a value written over another keeps a tenant's map
+pub IsTenantMap-after_overwrite : (m n : BTreeMap (List ℕ) (List ℕ)) (k v old : List ℕ) → IsOrdered order m → IsOrdered order n → Updates order m n k (Some v) → tree.keys n ≡ tree.keys m
+    → IsTenantMap (meaning m) → IsValue v → IsTenantMap (meaning n)
+IsTenantMap-after_overwrite m n k v old o p u same is value = record {
+  keys = subst (λ es. All IsKey (map (λ e. e.0) es)) (sym (entries-meaning n p)) (subst (All IsKey) (sym same) (subst (λ es. All IsKey (map (λ e. e.0) es)) (entries-meaning m o) is.keys));
+  values = subst (λ f. All IsValue (finite.values f)) (sym (meaning-insert m n k v o p u)) (values_after_insert (meaning m) k v is.values value);
+  count = omega (arith, is.count, len-meaning m o, len-meaning n p, same_length);
+} where
+  same_length : length n.entries ≡ length m.entries
+  same_length = sym (length-map n.entries (λ e. e.0)) ∙ ap length same ∙ length-map m.entries (λ e. e.0)
 
 -- what is so in any case is so of a refusal
 pub on_err : {X E : Type 0} (r : Result X E) (P : Type 0) → P → OnErr r P
 on_err (Ok x) P p = tt
 on_err (Err e) P p = p
 
-room_of_new : (there room : Bool) → (there || room) ≡ true → there ≡ false → room ≡ true
-room_of_new true room h new = absurd (true≢false new)
-room_of_new false room h new = h
+room_of_new : (there few : Bool) → (there || few) ≡ true → there ≡ false → few ≡ true
+room_of_new true few h new = absurd (true≢false new)
+room_of_new false few h new = h
 
--- a new key that has a place finds room
+-- room for a new key is room for one entry more
 pub room-has_place : (entries : Entries) (key : List ℕ) → has_place entries key ≡ true → finite.get entries key ≡ None → finite.len entries < 4096
-room-has_place entries key place new =
-    ltb-true (finite.len entries) 4096 (room_of_new (finite.contains_key entries key) _ place (ap is_some new))
+room-has_place entries key room new =
+    ltb-true (finite.len entries) 4096 (room_of_new (finite.contains_key entries key) _ room (ap is_some new))
 
 pub meaning-put : (m n : BTreeMap (List ℕ) (List ℕ)) (k v : List ℕ) → IsOrdered order m → IsOrdered order n → Updates order m n k (Some v)
     → has_place (meaning m) k ≡ true → meaning n ≡ put (meaning m) k v
-meaning-put m n k v o p u place =
-    meaning-insert m n k v o p u ∙ sym (ap (λ b. cond b (finite.insert (meaning m) k v) (meaning m)) place)
+meaning-put m n k v o p u room =
+    meaning-insert m n k v o p u ∙ sym (ap (λ b. cond b (finite.insert (meaning m) k v) (meaning m)) room)
 
 -- a removal keeps a tenant's map
 pub IsTenantMap-after_remove : (m n : BTreeMap (List ℕ) (List ℕ)) (k : List ℕ) → IsOrdered order m → IsOrdered order n → UpdatesBy order (order k) m n None

@@ -1,4 +1,4 @@
--- A tenant's map, and what reading and changing it gives.
+-- Statement: a tenant's map, and what reading and changing it gives.
 use Rattle.std.specs.Prelude.{ℕ, ◌<◌, ◌≤◌, ◌≡◌, Bool, ◌||◌, cond, nat_lt, List, length, All, Option, find}
 use Rattle.std.specs.Ordering.{nat_cmp, is_lt}
 use Rattle.std.specs.Cmp.Lexicographic.{slice_cmp}
@@ -26,7 +26,7 @@ pub record IsTenantMap (entries : Entries) : Type 0 where
 abbrev pub has_place : Entries → List ℕ → Bool
 has_place entries key = map.contains_key entries key || nat_lt (map.len entries) 4096
 
--- The map after the key was written: as it was, where there was no place.
+-- The map after the key was written: as it was, where there was no room.
 abbrev pub put : Entries → List ℕ → List ℕ → Entries
 put entries key value = cond (has_place entries key) (map.insert entries key value) entries
 

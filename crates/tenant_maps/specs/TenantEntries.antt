@@ -1,4 +1,4 @@
--- A map that is known to be one of a tenant.
+-- Internal: entries together with the fact that they are a tenant's map, which contracts see of a `TenantMap`.
 use Rattle.std.specs.Prelude.{ℕ, ◌≡◌, ◌<◌, List, length, All}
 use Rattle.std.specs.Coded.{Coded, coded_ℕ, coded_list, Coded-set, ×_prop, Π_prop, →_prop, le_prop}
 use Rattle.std.specs.FinMap as map
@@ -38,4 +38,4 @@ tenant_entries_code = coded_via (map.code (coded_list coded_ℕ) (coded_list cod
 
 -- What an ordered map of keys and values means.
 abbrev pub meaning : BTreeMap (List ℕ) (List ℕ) → Entries
-meaning kept = map.from_sorted kept.entries
+meaning m = map.from_sorted m.entries

@@ -3,7 +3,7 @@
 ghost use Rattle.std.specs.Prelude.{◌≡◌, ℕ, List};
 ghost use Rattle.std.specs.FinMap as map;
 ghost use Rattle.std.specs.Map.Iter.{ShowsInOrder, deref_pair};
-ghost use Rattle.tenant_maps.specs.Entries.{IsTenantMap, has_place};
+ghost use Rattle.tenant_maps.specs.Entries.{IsTenantMap, IsValue};
 ghost use Rattle.tenant_maps.specs.TenantEntries.{meaning, IsTenantMap-prop};
 
 use crate::port::{MapPort, Put};
@@ -14,7 +14,7 @@ use std::marker::Model;
 use std::ops::Bound;
 
 /// The most entries of a tenant's map.
-const MOST_ENTRIES: usize = 4096;
+const MAX_ENTRIES: usize = 4096;
 
 /// One tenant's map. Contracts see it as its entries, which are always a tenant's map.
 #[derive(Drop)]
@@ -55,13 +55,6 @@ impl TenantMap {
     {
         self.map.iter()
     }
-
-    // Whether an entry of this key can be written.
-    fn has_place(&self, key: &[u8; 16]) -> bool
-        ensures { result ≡ has_place self.now.entries key.now }
-    {
-        self.len() < MOST_ENTRIES || self.map.contains_key(key)
-    }
 }
 
 impl MapPort for TenantMap {
@@ -74,10 +67,14 @@ impl MapPort for TenantMap {
     }
 
     fn put(&mut self, key: [u8; 16], value: [u8; 32]) -> Result<Put, AllocError> {
-        if !self.has_place(&key) {
-            return Ok(Put::Full);
+        if self.len() < MAX_ENTRIES {
+            self.map.insert(key, value)?;
+            return Ok(Put::Stored);
         }
-        self.map.insert(key, value)?;
+        let Some(stored) = self.map.get_mut(&key) else {
+            return Ok(Put::Full);
+        };
+        overwrite(stored, &value);
         Ok(Put::Stored)
     }
 
@@ -96,4 +93,12 @@ impl MapPort for TenantMap {
     fn len(&self) -> usize {
         self.map.len()
     }
+}
+
+// Writes the value over the one that is stored.
+fn overwrite(stored: &mut [u8; 32], value: &[u8; 32])
+    ensures value { stored.new ≡ value.now }
+    ensures bytes { IsValue stored.new }
+{
+    stored.copy_from_slice(value);
 }

@@ -26,23 +26,23 @@ fn count<P: MapPort>(port: &P) -> u16
     port.len() as u16
 }
 
-// At the map itself.
+// At the tenant_map itself.
 fn written_in_map(
-    kept: &mut TenantMap,
+    tenant_map: &mut TenantMap,
     key: [u8; 16],
     value: [u8; 32],
 ) -> Result<Option<[u8; 32]>, AllocError>
-    ensures { IfOk result (λ found. has_place kept.old.entries key ≡ true → found ≡ Some value) }
+    ensures { IfOk result (λ found. has_place tenant_map.old.entries key ≡ true → found ≡ Some value) }
 {
-    written(kept, key, value)
+    written(tenant_map, key, value)
 }
 
 // All entries in order: keys and values, one after another.
-fn spell(alloc: Global, kept: &TenantMap) -> Result<Vec<u8>, AllocError>
-    ensures { IfOk result (λ bytes. bytes.items ≡ flat_map (λ e. e.0 ++ e.1) (map.entries kept.now.entries)) }
+fn encode(alloc: Global, tenant_map: &TenantMap) -> Result<Vec<u8>, AllocError>
+    ensures { IfOk result (λ bytes. bytes.items ≡ flat_map (λ e. e.0 ++ e.1) (map.entries tenant_map.now.entries)) }
 {
     let mut bytes = Vec::new(alloc);
-    for (key, value) in kept.entries() {
+    for (key, value) in tenant_map.entries() {
         bytes.extend_from_slice(key)?;
         bytes.extend_from_slice(value)?;
     }
@@ -64,50 +64,50 @@ fn value_of(number: u32) -> [u8; 32] {
 
 #[test]
 fn reads_writes_and_goes_through(rt: HostRuntime) -> Result<(), Fail> {
-    let mut kept = TenantMap::new(rt.alloc());
-    assert_eq!(rt; kept.len(), 0);
-    assert_eq!(rt; kept.get(&key_of(5)), None);
-    assert_eq!(rt; kept.next(&key_of(0)), None);
+    let mut tenant_map = TenantMap::new(rt.alloc());
+    assert_eq!(rt; tenant_map.len(), 0);
+    assert_eq!(rt; tenant_map.get(&key_of(5)), None);
+    assert_eq!(rt; tenant_map.next(&key_of(0)), None);
     assert_eq!(rt;
-        written_in_map(&mut kept, key_of(5), value_of(50))?,
+        written_in_map(&mut tenant_map, key_of(5), value_of(50))?,
         Some(value_of(50))
     );
     assert_eq!(rt;
-        written(&mut kept, key_of(3), value_of(30))?,
+        written(&mut tenant_map, key_of(3), value_of(30))?,
         Some(value_of(30))
     );
-    assert_eq!(rt; kept.put(key_of(5), value_of(51))?, Put::Stored);
-    assert_eq!(rt; count(&kept), 2);
-    assert_eq!(rt; kept.get(&key_of(5)), Some(value_of(51)));
-    assert_eq!(rt; kept.next(&key_of(0)), Some(key_of(3)));
-    assert_eq!(rt; kept.next(&key_of(3)), Some(key_of(5)));
-    assert_eq!(rt; kept.next(&key_of(5)), None);
-    let bytes = spell(rt.alloc(), &kept)?;
+    assert_eq!(rt; tenant_map.put(key_of(5), value_of(51))?, Put::Stored);
+    assert_eq!(rt; count(&tenant_map), 2);
+    assert_eq!(rt; tenant_map.get(&key_of(5)), Some(value_of(51)));
+    assert_eq!(rt; tenant_map.next(&key_of(0)), Some(key_of(3)));
+    assert_eq!(rt; tenant_map.next(&key_of(3)), Some(key_of(5)));
+    assert_eq!(rt; tenant_map.next(&key_of(5)), None);
+    let bytes = encode(rt.alloc(), &tenant_map)?;
     assert_eq!(rt; bytes.len(), 96);
     assert_eq!(rt; bytes[..16], *key_of(3).as_slice());
     assert_eq!(rt; bytes[64..], *value_of(51).as_slice());
-    assert!(rt; kept.del(&key_of(3)));
-    assert!(rt; !kept.del(&key_of(3)));
-    assert_eq!(rt; kept.len(), 1);
+    assert!(rt; tenant_map.del(&key_of(3)));
+    assert!(rt; !tenant_map.del(&key_of(3)));
+    assert_eq!(rt; tenant_map.len(), 1);
     Ok(())
 }
 
 #[test]
 fn full_at_4096_entries(rt: HostRuntime) -> Result<(), Fail> {
-    let mut kept = TenantMap::new(rt.alloc());
+    let mut tenant_map = TenantMap::new(rt.alloc());
     for number in 0..4096u32 {
         assert_eq!(rt;
-            kept.put(key_of(number), value_of(number))?,
+            tenant_map.put(key_of(number), value_of(number))?,
             Put::Stored,
             "at {number}"
         );
     }
-    assert_eq!(rt; kept.put(key_of(4096), value_of(1))?, Put::Full);
-    assert_eq!(rt; kept.get(&key_of(4096)), None);
-    assert_eq!(rt; kept.put(key_of(0), value_of(7))?, Put::Stored);
-    assert_eq!(rt; kept.get(&key_of(0)), Some(value_of(7)));
-    assert_eq!(rt; kept.len(), 4096);
-    assert!(rt; kept.del(&key_of(9)));
-    assert_eq!(rt; kept.put(key_of(4096), value_of(1))?, Put::Stored);
+    assert_eq!(rt; tenant_map.put(key_of(4096), value_of(1))?, Put::Full);
+    assert_eq!(rt; tenant_map.get(&key_of(4096)), None);
+    assert_eq!(rt; tenant_map.put(key_of(0), value_of(7))?, Put::Stored);
+    assert_eq!(rt; tenant_map.get(&key_of(0)), Some(value_of(7)));
+    assert_eq!(rt; tenant_map.len(), 4096);
+    assert!(rt; tenant_map.del(&key_of(9)));
+    assert_eq!(rt; tenant_map.put(key_of(4096), value_of(1))?, Put::Stored);
     Ok(())
 }
