@@ -15,8 +15,8 @@ use Rattle.host_types.specs.declared.request.Request.{Request}
 use Rattle.host_types.specs.declared.request.Reply.{Reply}
 use Rattle.service_core.specs.declared.outcome.Outcome.{Outcome}
 use Rattle.service_core.specs.Operations.{Operation, Install, Call as CallOf, Bad, operation_of, Installs, Calls, Runs, Does, installed, called, refused, no_procedure, too_many_procedures, arguments_too_long}
-use Rattle.service_core.specs.Parts.{Part, Service, with_part}
-use Rattle.service_core.specs.Steps.{reply_to, Executes, IsPartStep, IsStep, Follows}
+use Rattle.service_core.specs.TenantStates.{TenantState, Service, with_tenant}
+use Rattle.service_core.specs.Steps.{reply_to, Executes, IsTenantStep, IsStep, Follows}
 
 ends_is : (x y : ℕ) → Some (Ends x) ≡ Some (Ends y) → x ≡ y
 ends_is x y e = cc
@@ -42,36 +42,36 @@ same_runs client code arguments entries after after' result result' a b =
       a.result_is ∙ ap (λ (e : Ending). called e.value e.output) ending ∙ sym b.result_is,
     )
 
-both_bool : (b : Bool) (P P' Q Q' C : Type 0) → (P → P' → C) → (Q → Q' → C) → MatchBool b P Q → MatchBool b P' Q' → C
-both_bool true P P' Q Q' C one two h h' = one h h'
-both_bool false P P' Q Q' C one two h h' = two h h'
+zip_bool : (b : Bool) (P P' Q Q' C : Type 0) → (P → P' → C) → (Q → Q' → C) → MatchBool b P Q → MatchBool b P' Q' → C
+zip_bool true P P' Q Q' C one two h h' = one h h'
+zip_bool false P P' Q Q' C one two h h' = two h h'
 
-both_option : {X : Type 0} (o : Option X) (P P' C : Type 0) (Q Q' : X → Type 0) → (P → P' → C) → ((x : X) → Q x → Q' x → C) → MatchOption o P Q → MatchOption o P' Q' → C
-both_option None P P' C Q Q' one two h h' = one h h'
-both_option (Some x) P P' C Q Q' one two h h' = two x h h'
+zip_option : {X : Type 0} (o : Option X) (P P' C : Type 0) (Q Q' : X → Type 0) → (P → P' → C) → ((x : X) → Q x → Q' x → C) → MatchOption o P Q → MatchOption o P' Q' → C
+zip_option None P P' C Q Q' one two h h' = one h h'
+zip_option (Some x) P P' C Q Q' one two h h' = two x h h'
 
 same_calls : (client : ℕ) (procedures : List (List ℕ)) (id : ℕ) (arguments : List ℕ) (entries after after' : Entries) (result result' : List ℕ)
     → Calls client procedures id arguments entries after result → Calls client procedures id arguments entries after' result' → (after ≡ after') × (result ≡ result')
 same_calls client procedures id arguments entries after after' result result' a b =
-    both_option (slice_get procedures id) _ _ _ _ _
+    zip_option (slice_get procedures id) _ _ _ _ _
     (λ (x : (after ≡ entries) × (result ≡ no_procedure)) (y : (after' ≡ entries) × (result' ≡ no_procedure)). (x.0 ∙ sym y.0, x.1 ∙ sym y.1))
-    (λ code. both_bool (nat_lt 256 (length arguments)) _ _ _ _ _
+    (λ code. zip_bool (nat_lt 256 (length arguments)) _ _ _ _ _
     (λ (x : (after ≡ entries) × (result ≡ arguments_too_long)) (y : (after' ≡ entries) × (result' ≡ arguments_too_long)). (x.0 ∙ sym y.0, x.1 ∙ sym y.1))
     (same_runs client code arguments entries after after' result result')) a b
 
 same_installs : (procedures : List (List ℕ)) (code : List ℕ) (after after' : List (List ℕ)) (result result' : List ℕ)
     → Installs procedures code after result → Installs procedures code after' result' → (after ≡ after') × (result ≡ result')
 same_installs procedures code after after' result result' a b =
-    both_bool (nat_le 64 (length procedures)) _ _ _ _ _
+    zip_bool (nat_le 64 (length procedures)) _ _ _ _ _
     (λ (x : (after ≡ procedures) × (result ≡ too_many_procedures)) (y : (after' ≡ procedures) × (result' ≡ too_many_procedures)). (x.0 ∙ sym y.0, x.1 ∙ sym y.1))
-    judged a b where
-      judged : ((bound : ℕ) × Accepts code bound × (after ≡ procedures ++ code ∷ []) × (result ≡ installed (length procedures))) ⊎ (((bound : ℕ) → Accepts code bound → ⊥) × (after ≡ procedures) × (result ≡ refused))
+    cases a b where
+      cases : ((bound : ℕ) × Accepts code bound × (after ≡ procedures ++ code ∷ []) × (result ≡ installed (length procedures))) ⊎ (((bound : ℕ) → Accepts code bound → ⊥) × (after ≡ procedures) × (result ≡ refused))
           → ((bound : ℕ) × Accepts code bound × (after' ≡ procedures ++ code ∷ []) × (result' ≡ installed (length procedures))) ⊎ (((bound : ℕ) → Accepts code bound → ⊥) × (after' ≡ procedures) × (result' ≡ refused))
           → (after ≡ after') × (result ≡ result')
-      judged (inl p) (inl q) = (p.2 ∙ sym q.2, p.3 ∙ sym q.3)
-      judged (inl p) (inr q) = absurd (q.0 p.0 p.1)
-      judged (inr p) (inl q) = absurd (p.0 q.0 q.1)
-      judged (inr p) (inr q) = (p.1 ∙ sym q.1, p.2 ∙ sym q.2)
+      cases (inl p) (inl q) = (p.2 ∙ sym q.2, p.3 ∙ sym q.3)
+      cases (inl p) (inr q) = absurd (q.0 p.0 p.1)
+      cases (inr p) (inl q) = absurd (p.0 q.0 q.1)
+      cases (inr p) (inr q) = (p.1 ∙ sym q.1, p.2 ∙ sym q.2)
 
 same_does : (client : ℕ) (op : Operation) (procedures : List (List ℕ)) (entries : Entries) (p p' : List (List ℕ)) (e e' : Entries) (result result' : List ℕ)
     → Does client op procedures entries p e result → Does client op procedures entries p' e' result' → (p ≡ p') × (e ≡ e') × (result ≡ result')
@@ -83,24 +83,24 @@ same_does client (CallOf id arguments) procedures entries p p' e e' result resul
     (a.1 ∙ sym b.1, same.0, same.1)
 same_does client Bad procedures entries p p' e e' result result' a b = (a.0 ∙ sym b.0, a.1 ∙ sym b.1, a.2 ∙ sym b.2)
 
-same_executes : (number : ℕ) (part : Part) (request : Request) (after after' : Part) (reply reply' : Option Reply) (kept kept' : Bool)
+same_executes : (number : ℕ) (part : TenantState) (request : Request) (after after' : TenantState) (reply reply' : Option Reply) (kept kept' : Bool)
     → Executes number part request after reply kept → Executes number part request after' reply' kept' → (after ≡ after') × (reply ≡ reply') × (kept ≡ kept')
 same_executes number part request after after' reply reply' kept kept' a b =
     let same = same_does request.client.0 (operation_of request.op) part.procedures part.entries a.procedures b.procedures a.entries b.entries a.result b.result a.does b.does in
-    let made : (ps : List (List ℕ)) (es : Entries) (r : List ℕ) → Part = λ ps es r. record { tenant = part.tenant; procedures = ps; entries = es; kept = finite.insert part.kept request.client.0 (reply_to request number r) } in (
+    let made : (ps : List (List ℕ)) (es : Entries) (r : List ℕ) → TenantState = λ ps es r. record { tenant = part.tenant; procedures = ps; entries = es; last_replies = finite.insert part.last_replies request.client.0 (reply_to request number r) } in (
       a.part_is ∙ (λ i. made (same.0 i) (same.1 i) (same.2 i)) ∙ sym b.part_is,
       a.reply_is ∙ ap (λ (r : List ℕ). Some (reply_to request number r)) same.2 ∙ sym b.reply_is,
       a.is_new ∙ sym b.is_new,
     )
 
-same_part_step : (number : ℕ) (part : Part) (request : Request) (after after' : Part) (reply reply' : Option Reply) (kept kept' : Bool)
-    → IsPartStep number part request after reply kept → IsPartStep number part request after' reply' kept' → (after ≡ after') × (reply ≡ reply') × (kept ≡ kept')
-same_part_step number part request after after' reply reply' kept kept' a b =
+same_tenant_step : (number : ℕ) (part : TenantState) (request : Request) (after after' : TenantState) (reply reply' : Option Reply) (kept kept' : Bool)
+    → IsTenantStep number part request after reply kept → IsTenantStep number part request after' reply' kept' → (after ≡ after') × (reply ≡ reply') × (kept ≡ kept')
+same_tenant_step number part request after after' reply reply' kept kept' a b =
     let same = same_executes number part request after after' reply reply' kept kept' in
-    both_option (finite.get part.kept request.client.0) _ _ _ _ _ same
-    (λ last. both_bool (nat_lt request.time last.time) _ _ _ _ _
+    zip_option (finite.get part.last_replies request.client.0) _ _ _ _ _ same
+    (λ last. zip_bool (nat_lt request.time last.time) _ _ _ _ _
     (λ (x : (after ≡ part) × (reply ≡ None) × (kept ≡ false)) (y : (after' ≡ part) × (reply' ≡ None) × (kept' ≡ false)). (x.0 ∙ sym y.0, x.1 ∙ sym y.1, x.2 ∙ sym y.2))
-    (both_bool (nat_eq request.time last.time) _ _ _ _ _
+    (zip_bool (nat_eq request.time last.time) _ _ _ _ _
     (λ (x : (after ≡ part) × (reply ≡ Some last) × (kept ≡ true)) (y : (after' ≡ part) × (reply' ≡ Some last) × (kept' ≡ true)). (x.0 ∙ sym y.0, x.1 ∙ sym y.1, x.2 ∙ sym y.2))
     same)) a b
 
@@ -109,10 +109,10 @@ pub same_step : (state : Service) (request : Option Request) (after after' : Ser
 same_step state None after after' outcome outcome' a b = (a.0 ∙ sym b.0, a.1 ∙ sym b.1)
 same_step state (Some request) after after' outcome outcome' a b =
     let part : a.part ≡ b.part = some_is a.part b.part (sym a.is_part ∙ b.is_part) in
-    let same = same_part_step (state.number + 1) b.part request a.changed b.changed outcome.reply outcome'.reply outcome.kept outcome'.kept
-    (subst (λ (p : Part). IsPartStep (state.number + 1) p request a.changed outcome.reply outcome.kept) part a.step) b.step in
+    let same = same_tenant_step (state.number + 1) b.part request a.changed b.changed outcome.reply outcome'.reply outcome.kept outcome'.kept
+    (subst (λ (p : TenantState). IsTenantStep (state.number + 1) p request a.changed outcome.reply outcome.kept) part a.step) b.step in
     let number : outcome.number.0 ≡ outcome'.number.0 = a.number_is ∙ sym b.number_is in (
-      a.state_is ∙ ap (λ (p : Part). let s : Service = record { config = state.config; number = state.number + 1; parts = with_part p state.parts } in s) same.0 ∙ sym b.state_is,
+      a.state_is ∙ ap (λ (p : TenantState). let s : Service = record { config = state.config; number = state.number + 1; tenants = with_tenant p state.tenants } in s) same.0 ∙ sym b.state_is,
       λ i. record { number = record { 0 = number i }; reply = same.1 i; kept = same.2 i },
     )
 

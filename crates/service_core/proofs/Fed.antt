@@ -1,17 +1,19 @@
 -- Pieces fed to a sink one after another.
-use Rattle.std.proofs.Common.{◌≡◌, ℕ, ◌+◌, ◌<◌, ◌≤◌, List, [], ◌∷◌, ◌++◌, length, take, get_or, map, refl, sym, ap, subst, ◌∙◌, append_assoc}
+use Rattle.std.proofs.Common.{◌≡◌, ℕ, ◌+◌, ◌<◌, ◌≤◌, List, [], ◌∷◌, ◌++◌, length, take, drop, arith, get_or, map, refl, sym, ap, subst, ◌∙◌, append_assoc}
 use Rattle.std.specs.Prelude.{flat_map}
-use Rattle.std.proofs.lemmas.List.{append-nil, take_more, take_all}
+use Rattle.std.proofs.lemmas.List.{append-nil, take_more, take_all, drop_all}
+use Rattle.std.proofs.Math.Seq.{take-append_seam, drop-append_seam}
+use borrow.Rule.Slice.PartMut.{put_mid}
 use Rattle.std.proofs.lemmas.Grind.{flat_map-append}
 use Rattle.std.proofs.lemmas.List.Concat.{flat_map-cons}
 use Rattle.service_core.specs.Sinks.{Feeds}
 
 module _ {S : Type 0} (holds : S → List ℕ → Type 0) where
   pub fed_none : (s : S) → Feeds holds s s []
-  fed_none s = λ held h. subst (holds s) (sym (append-nil held)) h
+  fed_none s = λ before h. subst (holds s) (sym (append-nil before)) h
 
   pub fed_then : (a b c : S) (xs ys : List ℕ) → Feeds holds a b xs → Feeds holds b c ys → Feeds holds a c (xs ++ ys)
-  fed_then a b c xs ys first second = λ held h. subst (holds c) (append_assoc held xs ys) (second (held ++ xs) (first held h))
+  fed_then a b c xs ys first second = λ before h. subst (holds c) (append_assoc before xs ys) (second (before ++ xs) (first before h))
 
   pub fed_same : (a b : S) (xs ys : List ℕ) → xs ≡ ys → Feeds holds a b xs → Feeds holds a b ys
   fed_same a b xs ys e h = subst (Feeds holds a b) e h
@@ -63,3 +65,17 @@ pub fed_all : {S X : Type 0} (holds : S → List ℕ → Type 0) (first last : S
     → Feeds holds first last (head ++ flat_map f (take i xs)) → Feeds holds first last (head ++ flat_map f xs)
 fed_all holds first last head f xs i h all =
     fed_same holds first last (head ++ flat_map f (take i xs)) (head ++ flat_map f xs) (ap (λ (ys : List _). head ++ flat_map f ys) (take_all i xs h)) all
+
+-- a key and a value in one piece
+pub one_piece : (room key value key' value' : List ℕ) → length room ≡ 32 → length key ≡ 16 → length value ≡ 32 → key' ≡ key → value' ≡ value → put_mid 16 32 (key' ++ room) value' ≡ key ++ value
+one_piece room key value key' value' r k v is_key is_value =
+    ap (λ (x : List ℕ). put_mid 16 32 (x ++ room) value') is_key
+    ∙ ap (put_mid 16 32 (key ++ room)) is_value
+    ∙ ap (λ (x : List ℕ). take 16 (key ++ room) ++ (value ++ x)) (ap (drop 32) (drop_key 16 key room k) ∙ drop_all 32 room (omega (arith, r)))
+    ∙ ap (λ (x : List ℕ). x ++ (value ++ [])) (take_key 16 key room k)
+    ∙ ap (λ (x : List ℕ). key ++ x) (append-nil value) where
+      take_key : (n : ℕ) (xs ys : List ℕ) → length xs ≡ n → take n (xs ++ ys) ≡ xs
+      take_key n xs ys e = subst (λ (i : ℕ). take i (xs ++ ys) ≡ xs) e (take-append_seam xs ys)
+
+      drop_key : (n : ℕ) (xs ys : List ℕ) → length xs ≡ n → drop n (xs ++ ys) ≡ ys
+      drop_key n xs ys e = subst (λ (i : ℕ). drop i (xs ++ ys) ≡ ys) e (drop-append_seam xs ys)

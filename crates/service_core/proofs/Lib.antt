@@ -1,8 +1,8 @@
 pub mod Found
-pub mod Kept
+pub mod LastReplies
 pub mod Fed
 pub mod Doing
-pub mod Places
+pub mod TenantIndexes
 pub mod Taking
 pub mod Counting
 pub mod Whole

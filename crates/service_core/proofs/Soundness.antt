@@ -17,9 +17,9 @@ use Rattle.bpf_model.proofs.Safety.{safe}
 use Rattle.tenant_maps.specs.Entries.{Entries}
 use Rattle.service_core.specs.declared.outcome.Outcome.{Outcome}
 use Rattle.service_core.specs.Operations.{Operation, Install, Call, Bad, operation_of, Installs, Does, installed, refused, too_many_procedures}
-use Rattle.service_core.specs.Parts.{Replies, Part, Service, empty_part, genesis_of, part_at, with_part}
-use Rattle.service_core.specs.Steps.{reply_to, Executes, IsPartStep, IsStep, Follows}
-use Rattle.service_core.specs.Sound.{IsAcceptedCode, IsSoundPart, IsSound, CannotGoWrong, NoneGoesWrong}
+use Rattle.service_core.specs.TenantStates.{Replies, TenantState, Service, empty_tenant, genesis_of, tenant_at, with_tenant}
+use Rattle.service_core.specs.Steps.{reply_to, Executes, IsTenantStep, IsStep, Follows}
+use Rattle.service_core.specs.Sound.{IsAcceptedCode, IsSoundTenant, IsSound, CannotGoWrong, NoneGoesWrong}
 
 one_of_bool : (b : Bool) (P Q C : Type 0) → (P → C) → (Q → C) → MatchBool b P Q → C
 one_of_bool true P Q C one two h = one h
@@ -37,22 +37,22 @@ found_one {X} P p (y ∷ ys) x all e = cases (p y) refl (found_one P p ys x (All
   cases true passes rest e = let same : y ≡ x = some_is y x e in (subst P same (All-head P y ys all), ap p (sym same) ∙ passes)
   cases false passes rest e = rest e
 
-all_with_part : (P : Part → Type 0) (changed : Part) (parts : List Part) → P changed → All P parts → All P (with_part changed parts)
-all_with_part P changed [] new all = all
-all_with_part P changed (part ∷ parts) new all = cases (eqb part.tenant changed.tenant) (all_with_part P changed parts new (All-tail P part parts all)) where
-  cases : (b : Bool) → All P (with_part changed parts) → All P (cond b (changed ∷ parts) (part ∷ with_part changed parts))
+all_with_tenant : (P : TenantState → Type 0) (changed : TenantState) (parts : List TenantState) → P changed → All P parts → All P (with_tenant changed parts)
+all_with_tenant P changed [] new all = all
+all_with_tenant P changed (part ∷ parts) new all = cases (eqb part.tenant changed.tenant) (all_with_tenant P changed parts new (All-tail P part parts all)) where
+  cases : (b : Bool) → All P (with_tenant changed parts) → All P (cond b (changed ∷ parts) (part ∷ with_tenant changed parts))
   cases true rest = All-cons P changed parts new (All-tail P part parts all)
-  cases false rest = All-cons P part (with_part changed parts) (All-head P part parts all) rest
+  cases false rest = All-cons P part (with_tenant changed parts) (All-head P part parts all) rest
 
 -- the procedures after an installation
 installs_accepted : (procedures : List (List ℕ)) (code : List ℕ) (after : List (List ℕ)) (result : List ℕ) → All IsAcceptedCode procedures → Installs procedures code after result → All IsAcceptedCode after
 installs_accepted procedures code after result all h =
     one_of_bool (nat_le 64 (length procedures)) _ _ _
     (λ (x : (after ≡ procedures) × (result ≡ too_many_procedures)). subst (All IsAcceptedCode) (sym x.0) all)
-    judged h where
-      judged : ((bound : ℕ) × Accepts code bound × (after ≡ procedures ++ code ∷ []) × (result ≡ installed (length procedures))) ⊎ (((bound : ℕ) → Accepts code bound → ⊥) × (after ≡ procedures) × (result ≡ refused)) → All IsAcceptedCode after
-      judged (inl x) = subst (All IsAcceptedCode) (sym x.2) (All-push IsAcceptedCode procedures code all (x.0, x.1))
-      judged (inr x) = subst (All IsAcceptedCode) (sym x.1) all
+    cases h where
+      cases : ((bound : ℕ) × Accepts code bound × (after ≡ procedures ++ code ∷ []) × (result ≡ installed (length procedures))) ⊎ (((bound : ℕ) → Accepts code bound → ⊥) × (after ≡ procedures) × (result ≡ refused)) → All IsAcceptedCode after
+      cases (inl x) = subst (All IsAcceptedCode) (sym x.2) (All-push IsAcceptedCode procedures code all (x.0, x.1))
+      cases (inr x) = subst (All IsAcceptedCode) (sym x.1) all
 
 does_accepted : (client : ℕ) (op : Operation) (procedures : List (List ℕ)) (entries : Entries) (procedures' : List (List ℕ)) (entries' : Entries) (result : List ℕ) → All IsAcceptedCode procedures
     → Does client op procedures entries procedures' entries' result → All IsAcceptedCode procedures'
@@ -60,52 +60,52 @@ does_accepted client (Install code) procedures entries procedures' entries' resu
 does_accepted client (Call id arguments) procedures entries procedures' entries' result all h = subst (All IsAcceptedCode) (sym h.1) all
 does_accepted client Bad procedures entries procedures' entries' result all h = subst (All IsAcceptedCode) (sym h.0) all
 
-executes_sound : (clients : List ClientEntry) (number : ℕ) (part : Part) (request : Request) (after : Part) (reply : Option Reply) (kept : Bool)
-    → IsSomeAnd (entry_of clients request.client.0) (λ entry. entry.tenant.0 ≡ part.tenant) → IsSoundPart clients part → Executes number part request after reply kept → IsSoundPart clients after
-executes_sound clients number part request after reply kept listed sound e = subst (IsSoundPart clients) (sym e.part_is) (record {
+executes_sound : (clients : List ClientEntry) (number : ℕ) (part : TenantState) (request : Request) (after : TenantState) (reply : Option Reply) (kept : Bool)
+    → IsSomeAnd (entry_of clients request.client.0) (λ entry. entry.tenant.0 ≡ part.tenant) → IsSoundTenant clients part → Executes number part request after reply kept → IsSoundTenant clients after
+executes_sound clients number part request after reply kept listed sound e = subst (IsSoundTenant clients) (sym e.part_is) (record {
   accepted = does_accepted request.client.0 (operation_of request.op) part.procedures part.entries e.procedures e.entries e.result sound.accepted e.does;
   own = own;
 }) where
   new : Replies
-  new = finite.insert part.kept request.client.0 (reply_to request number e.result)
+  new = finite.insert part.last_replies request.client.0 (reply_to request number e.result)
 
-  at : (q : ℕ) (b : Bool) → eq_by_cmp nat_cmp q request.client.0 ≡ b → IsSome (cond b (Some (reply_to request number e.result)) (finite.get part.kept q)) → IsSomeAnd (entry_of clients q) (λ entry. entry.tenant.0 ≡ part.tenant)
+  at : (q : ℕ) (b : Bool) → eq_by_cmp nat_cmp q request.client.0 ≡ b → IsSome (cond b (Some (reply_to request number e.result)) (finite.get part.last_replies q)) → IsSomeAnd (entry_of clients q) (λ entry. entry.tenant.0 ≡ part.tenant)
   at q true is some = subst (λ (k : ℕ). IsSomeAnd (entry_of clients k) (λ entry. entry.tenant.0 ≡ part.tenant)) (sym (eqb-true q request.client.0 (sym (unsigned_tied q request.client.0) ∙ is))) listed
   at q false is some = sound.own q some
 
   own : (q : ℕ) → IsSome (finite.get new q) → IsSomeAnd (entry_of clients q) (λ entry. entry.tenant.0 ≡ part.tenant)
-  own q some = at q (eq_by_cmp nat_cmp q request.client.0) refl (subst IsSome (finite.get-insert nat_cmp_total part.kept request.client.0 (reply_to request number e.result) q) some)
+  own q some = at q (eq_by_cmp nat_cmp q request.client.0) refl (subst IsSome (finite.get-insert nat_cmp_total part.last_replies request.client.0 (reply_to request number e.result) q) some)
 
-part_step_sound : (clients : List ClientEntry) (number : ℕ) (part : Part) (request : Request) (after : Part) (reply : Option Reply) (kept : Bool)
-    → IsSomeAnd (entry_of clients request.client.0) (λ entry. entry.tenant.0 ≡ part.tenant) → IsSoundPart clients part → IsPartStep number part request after reply kept → IsSoundPart clients after
-part_step_sound clients number part request after reply kept listed sound h =
+tenant_step_sound : (clients : List ClientEntry) (number : ℕ) (part : TenantState) (request : Request) (after : TenantState) (reply : Option Reply) (kept : Bool)
+    → IsSomeAnd (entry_of clients request.client.0) (λ entry. entry.tenant.0 ≡ part.tenant) → IsSoundTenant clients part → IsTenantStep number part request after reply kept → IsSoundTenant clients after
+tenant_step_sound clients number part request after reply kept listed sound h =
     let done = executes_sound clients number part request after reply kept listed sound in
-    one_of_option (finite.get part.kept request.client.0) _ _ _ done
+    one_of_option (finite.get part.last_replies request.client.0) _ _ _ done
     (λ last. one_of_bool (nat_lt request.time last.time) _ _ _
-    (λ (x : (after ≡ part) × (reply ≡ None) × (kept ≡ false)). subst (IsSoundPart clients) (sym x.0) sound)
+    (λ (x : (after ≡ part) × (reply ≡ None) × (kept ≡ false)). subst (IsSoundTenant clients) (sym x.0) sound)
     (one_of_bool (nat_eq request.time last.time) _ _ _
-    (λ (x : (after ≡ part) × (reply ≡ Some last) × (kept ≡ true)). subst (IsSoundPart clients) (sym x.0) sound)
+    (λ (x : (after ≡ part) × (reply ≡ Some last) × (kept ≡ true)). subst (IsSoundTenant clients) (sym x.0) sound)
     done)) h
 
 -- the part of a listed client is its tenant's
-part_for_sound : (clients : List ClientEntry) (parts : List Part) (entry : Option ClientEntry) (part : Part) → All (IsSoundPart clients) parts → option_and_then (λ e. part_at parts e.tenant.0) entry ≡ Some part
-    → IsSoundPart clients part × IsSomeAnd entry (λ e. e.tenant.0 ≡ part.tenant)
-part_for_sound clients parts None part all e = absurd (cc)
-part_for_sound clients parts (Some entry) part all e =
-    let found = found_one (IsSoundPart clients) (λ (p : Part). eqb p.tenant entry.tenant.0) parts part all e in
+tenant_for_sound : (clients : List ClientEntry) (parts : List TenantState) (entry : Option ClientEntry) (part : TenantState) → All (IsSoundTenant clients) parts → option_and_then (λ e. tenant_at parts e.tenant.0) entry ≡ Some part
+    → IsSoundTenant clients part × IsSomeAnd entry (λ e. e.tenant.0 ≡ part.tenant)
+tenant_for_sound clients parts None part all e = absurd (cc)
+tenant_for_sound clients parts (Some entry) part all e =
+    let found = found_one (IsSoundTenant clients) (λ (p : TenantState). eqb p.tenant entry.tenant.0) parts part all e in
     (found.0, sym (eqb-true _ _ found.1))
 
 pub step_sound : (state : Service) (request : Option Request) (after : Service) (outcome : Outcome) → IsSound state → IsStep state request after outcome → IsSound after
 step_sound state None after outcome sound h = subst IsSound (sym h.0) sound
 step_sound state (Some request) after outcome sound h =
-    let mine = part_for_sound state.config.clients state.parts (entry_of state.config.clients request.client.0) h.part sound h.is_part in
-    let changed = part_step_sound state.config.clients (state.number + 1) h.part request h.changed outcome.reply outcome.kept mine.1 mine.0 h.step in
-    subst IsSound (sym h.state_is) (all_with_part (IsSoundPart state.config.clients) h.changed state.parts changed sound)
+    let mine = tenant_for_sound state.config.clients state.tenants (entry_of state.config.clients request.client.0) h.part sound h.is_part in
+    let changed = tenant_step_sound state.config.clients (state.number + 1) h.part request h.changed outcome.reply outcome.kept mine.1 mine.0 h.step in
+    subst IsSound (sym h.state_is) (all_with_tenant (IsSoundTenant state.config.clients) h.changed state.tenants changed sound)
 
-empty_sound : (clients : List ClientEntry) (tenants : List TenantId) → All (IsSoundPart clients) (map (λ tenant. empty_part tenant.0) tenants)
-empty_sound clients [] = All-nil (IsSoundPart clients)
+empty_sound : (clients : List ClientEntry) (tenants : List TenantId) → All (IsSoundTenant clients) (map (λ tenant. empty_tenant tenant.0) tenants)
+empty_sound clients [] = All-nil (IsSoundTenant clients)
 empty_sound clients (tenant ∷ tenants) =
-    All-cons (IsSoundPart clients) (empty_part tenant.0) (map (λ t. empty_part t.0) tenants)
+    All-cons (IsSoundTenant clients) (empty_tenant tenant.0) (map (λ t. empty_tenant t.0) tenants)
     (record { accepted = All-nil IsAcceptedCode; own = λ q some. absurd (nothing q some) }) (empty_sound clients tenants) where
       nothing : (q : ℕ) → IsSome (finite.get (finite.empty {X = Reply} {R = nat_cmp}) q) → ⊥
       nothing q some = none (finite.get (finite.empty {X = Reply} {R = nat_cmp}) q) (finite.get-empty nat_cmp q) some where

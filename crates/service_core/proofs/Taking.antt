@@ -9,58 +9,58 @@ use Rattle.host_types.specs.declared.request.Reply.{Reply}
 use Rattle.host_types.specs.Configuration.{Configuration, entry_of}
 use Rattle.tenant_maps.specs.Entries.{Entries}
 use Rattle.service_core.specs.declared.outcome.Outcome.{Outcome}
-use Rattle.service_core.specs.Operations.{operation_of, Does}
-use Rattle.service_core.specs.Parts.{Replies, Part, Service, with_part}
-use Rattle.service_core.specs.Steps.{reply_to, Executes, IsPartStep, TakesRequest}
-use Rattle.service_core.proofs.Found.{with_part_at}
-use Rattle.service_core.proofs.Places.{place_for, part_for_place}
+use Rattle.service_core.specs.Operations.{Operation, operation_of, Does}
+use Rattle.service_core.specs.TenantStates.{Replies, TenantState, Service, with_tenant}
+use Rattle.service_core.specs.Steps.{reply_to, Executes, IsTenantStep, TakesRequest}
+use Rattle.service_core.proofs.Found.{with_tenant_at}
+use Rattle.service_core.proofs.TenantIndexes.{index_for, tenant_for_index}
 use Rattle.service_core.proofs.Doing.{match_true, match_false, match_none, match_some}
 
-pub executed : (number tenant : ℕ) (procedures procedures' : List (List ℕ)) (entries entries' : Entries) (kept kept' : Replies) (request : Request) (op result bytes : List ℕ) (copy : Reply)
-    → op ≡ request.op → bytes ≡ result → Does request.client.0 (operation_of op) procedures entries procedures' entries' result
+pub executed : (number tenant : ℕ) (procedures procedures' : List (List ℕ)) (entries entries' : Entries) (kept kept' : Replies) (request : Request) (op : Operation) (result bytes : List ℕ) (copy : Reply)
+    → op ≡ operation_of request.op → bytes ≡ result → Does request.client.0 op procedures entries procedures' entries' result
     → kept' ≡ finite.insert kept request.client.0 (reply_to request number bytes) → copy ≡ reply_to request number bytes
-    → Executes number (record { tenant = tenant; procedures = procedures; entries = entries; kept = kept }) request
-    (record { tenant = tenant; procedures = procedures'; entries = entries'; kept = kept' }) (Some copy) false
+    → Executes number (record { tenant = tenant; procedures = procedures; entries = entries; last_replies = kept }) request
+    (record { tenant = tenant; procedures = procedures'; entries = entries'; last_replies = kept' }) (Some copy) false
 executed number tenant procedures procedures' entries entries' kept kept' request op result bytes copy is_op is does keeps copies = record {
   procedures = procedures';
   entries = entries';
   result = result;
-  does = subst (λ (o : List ℕ). Does request.client.0 (operation_of o) procedures entries procedures' entries' result) is_op does;
-  part_is = ap (λ (k : Replies). let p : Part = record { tenant = tenant; procedures = procedures'; entries = entries'; kept = k } in p) (keeps ∙ ap (λ (r : List ℕ). finite.insert kept request.client.0 (reply_to request number r)) is);
+  does = subst (λ (o : Operation). Does request.client.0 o procedures entries procedures' entries' result) is_op does;
+  part_is = ap (λ (k : Replies). let p : TenantState = record { tenant = tenant; procedures = procedures'; entries = entries'; last_replies = k } in p) (keeps ∙ ap (λ (r : List ℕ). finite.insert kept request.client.0 (reply_to request number r)) is);
   reply_is = ap Some (copies ∙ ap (reply_to request number) is);
   is_new = refl;
 }
 
-module _ (number : ℕ) (part : Part) (request : Request) (after : Part) (reply : Option Reply) (kept : Bool) where
-  pub step_first : finite.get part.kept request.client.0 ≡ None → Executes number part request after reply kept → IsPartStep number part request after reply kept
+module _ (number : ℕ) (part : TenantState) (request : Request) (after : TenantState) (reply : Option Reply) (kept : Bool) where
+  pub step_first : finite.get part.last_replies request.client.0 ≡ None → Executes number part request after reply kept → IsTenantStep number part request after reply kept
   step_first e h = match_none _ _ _ e h
 
-  pub step_older : (last : Reply) → finite.get part.kept request.client.0 ≡ Some last → request.time < last.time → after ≡ part → reply ≡ None → kept ≡ false → IsPartStep number part request after reply kept
+  pub step_older : (last : Reply) → finite.get part.last_replies request.client.0 ≡ Some last → request.time < last.time → after ≡ part → reply ≡ None → kept ≡ false → IsTenantStep number part request after reply kept
   step_older last e lt a r k = match_some _ last _ _ e (match_true _ _ _ (lt-ltb request.time last.time lt) (a, r, k))
 
-  pub step_again : (last : Reply) → finite.get part.kept request.client.0 ≡ Some last → request.time ≡ last.time → after ≡ part → reply ≡ Some last → kept ≡ true → IsPartStep number part request after reply kept
+  pub step_again : (last : Reply) → finite.get part.last_replies request.client.0 ≡ Some last → request.time ≡ last.time → after ≡ part → reply ≡ Some last → kept ≡ true → IsTenantStep number part request after reply kept
   step_again last e same a r k = match_some _ last _ _ e (match_false _ _ _ (le-ltb request.time last.time (omega arith)) (match_true _ _ _ (eq-eqb request.time last.time same) (a, r, k)))
 
-  pub step_later : (last : Reply) → finite.get part.kept request.client.0 ≡ Some last → last.time ≤ request.time → (request.time ≡ last.time → ⊥) → Executes number part request after reply kept → IsPartStep number part request after reply kept
+  pub step_later : (last : Reply) → finite.get part.last_replies request.client.0 ≡ Some last → last.time ≤ request.time → (request.time ≡ last.time → ⊥) → Executes number part request after reply kept → IsTenantStep number part request after reply kept
   step_later last e le apart h = match_some _ last _ _ e (match_false _ _ _ (le-ltb request.time last.time le) (match_false _ _ _ (ne_eqb request.time last.time apart) h))
 
--- a part that is changed in its place
-changes : (parts : List Part) (entry : Option ClientEntry) (place : ℕ) (part changed : Part) → place_for parts entry ≡ Some place → part ≡ get_or parts place part → changed.tenant ≡ part.tenant
-    → set parts place changed ≡ with_part changed parts
-changes parts None place part changed e is same = absurd (cc)
-changes parts (Some entry) place part changed e is same =
-    let found = position-Some (λ (p : Part). eqb p.tenant entry.tenant.0) parts place part e in
-    sym (with_part_at parts entry.tenant.0 place changed e (same ∙ ap (λ (p : Part). p.tenant) is ∙ eqb-true _ _ found.1))
+-- a part that is changed in its index
+changes : (parts : List TenantState) (entry : Option ClientEntry) (index : ℕ) (part changed : TenantState) → index_for parts entry ≡ Some index → part ≡ get_or parts index part → changed.tenant ≡ part.tenant
+    → set parts index changed ≡ with_tenant changed parts
+changes parts None index part changed e is same = absurd (cc)
+changes parts (Some entry) index part changed e is same =
+    let found = position-Some (λ (p : TenantState). eqb p.tenant entry.tenant.0) parts index part e in
+    sym (with_tenant_at parts entry.tenant.0 index changed e (same ∙ ap (λ (p : TenantState). p.tenant) is ∙ eqb-true _ _ found.1))
 
-pub taken : (config : Configuration) (number : ℕ) (parts : List Part) (request : Request) (place : ℕ) (part changed : Part) (outcome : Outcome)
-    → place_for parts (entry_of config.clients request.client.0) ≡ Some place → part ≡ get_or parts place part
-    → IsPartStep (number + 1) part request changed outcome.reply outcome.kept → changed.tenant ≡ part.tenant → outcome.number.0 ≡ number + 1
-    → TakesRequest (record { config = config; number = number; parts = parts }) request (record { config = config; number = number + 1; parts = set parts place changed }) outcome
-taken config number parts request place part changed outcome e is step same counted = record {
+pub taken : (config : Configuration) (number : ℕ) (parts : List TenantState) (request : Request) (index : ℕ) (part changed : TenantState) (outcome : Outcome)
+    → index_for parts (entry_of config.clients request.client.0) ≡ Some index → part ≡ get_or parts index part
+    → IsTenantStep (number + 1) part request changed outcome.reply outcome.kept → changed.tenant ≡ part.tenant → outcome.number.0 ≡ number + 1
+    → TakesRequest (record { config = config; number = number; tenants = parts }) request (record { config = config; number = number + 1; tenants = set parts index changed }) outcome
+taken config number parts request index part changed outcome e is step same counted = record {
   part = part;
-  is_part = part_for_place parts (entry_of config.clients request.client.0) place part e ∙ ap Some (sym is);
+  is_part = tenant_for_index parts (entry_of config.clients request.client.0) index part e ∙ ap Some (sym is);
   changed = changed;
   step = step;
-  state_is = ap (λ (ps : List Part). let s : Service = record { config = config; number = number + 1; parts = ps } in s) (changes parts (entry_of config.clients request.client.0) place part changed e is same);
+  state_is = ap (λ (ps : List TenantState). let s : Service = record { config = config; number = number + 1; tenants = ps } in s) (changes parts (entry_of config.clients request.client.0) index part changed e is same);
   number_is = counted;
 }

@@ -5,22 +5,22 @@ use Rattle.std.specs.List.{filter_map}
 use Rattle.host_types.specs.declared.ClientId.{ClientId}
 use Rattle.host_types.specs.Configuration.{client_ids_of}
 use Rattle.service_core.specs.Words.{four_bytes, eight_bytes}
-use Rattle.service_core.specs.Parts.{Part, Service, kept_of}
-use Rattle.service_core.specs.Spelling.{spelled, spelled_reply, spelled_part, kept_replies}
+use Rattle.service_core.specs.TenantStates.{TenantState, Service, last_reply_of}
+use Rattle.service_core.specs.Encoding.{encoded, encoded_reply, encoded_tenant, last_replies_of}
 
 regrouped : (a b c d e : List ℕ) → ((a ++ b) ++ c) ++ (d ++ e) ≡ ((a ++ (b ++ c)) ++ d) ++ e
 regrouped a b c d e = simp append_assoc
 
 -- the replies of these clients
 abbrev pub replies_to : Service → List ClientId → List ℕ
-replies_to state ids = flat_map spelled_reply (filter_map (λ id. kept_of state id.0) ids)
+replies_to state ids = flat_map encoded_reply (filter_map (λ id. last_reply_of state id.0) ids)
 
-pub pieces : (state : Service) (number count : ℕ) (ids : List ClientId) (parts : List Part) → number ≡ state.number → ids ≡ client_ids_of state.config.clients
-    → count ≡ length (filter_map (λ id. kept_of state id.0) ids) → parts ≡ state.parts
-    → (((1 ∷ [] ++ eight_bytes number) ++ four_bytes count) ++ replies_to state ids) ++ (four_bytes (length parts) ++ flat_map spelled_part parts) ≡ spelled state
+pub pieces : (state : Service) (number count : ℕ) (ids : List ClientId) (parts : List TenantState) → number ≡ state.number → ids ≡ client_ids_of state.config.clients
+    → count ≡ length (filter_map (λ id. last_reply_of state id.0) ids) → parts ≡ state.tenants
+    → (((1 ∷ [] ++ eight_bytes number) ++ four_bytes count) ++ replies_to state ids) ++ (four_bytes (length parts) ++ flat_map encoded_tenant parts) ≡ encoded state
 pieces state number count ids parts n is c p =
-    ap (λ (k : ℕ). (((1 ∷ [] ++ eight_bytes k) ++ four_bytes count) ++ replies_to state ids) ++ (four_bytes (length parts) ++ flat_map spelled_part parts)) n
-    ∙ ap (λ (k : ℕ). (((1 ∷ [] ++ eight_bytes state.number) ++ four_bytes k) ++ replies_to state ids) ++ (four_bytes (length parts) ++ flat_map spelled_part parts)) (c ∙ ap (λ (xs : List ClientId). length (filter_map (λ id. kept_of state id.0) xs)) is)
-    ∙ ap (λ (xs : List ClientId). (((1 ∷ [] ++ eight_bytes state.number) ++ four_bytes (length (kept_replies state))) ++ replies_to state xs) ++ (four_bytes (length parts) ++ flat_map spelled_part parts)) is
-    ∙ ap (λ (ps : List Part). (((1 ∷ [] ++ eight_bytes state.number) ++ four_bytes (length (kept_replies state))) ++ flat_map spelled_reply (kept_replies state)) ++ (four_bytes (length ps) ++ flat_map spelled_part ps)) p
-    ∙ regrouped (1 ∷ [] ++ eight_bytes state.number) (four_bytes (length (kept_replies state))) (flat_map spelled_reply (kept_replies state)) (four_bytes (length state.parts)) (flat_map spelled_part state.parts)
+    ap (λ (k : ℕ). (((1 ∷ [] ++ eight_bytes k) ++ four_bytes count) ++ replies_to state ids) ++ (four_bytes (length parts) ++ flat_map encoded_tenant parts)) n
+    ∙ ap (λ (k : ℕ). (((1 ∷ [] ++ eight_bytes state.number) ++ four_bytes k) ++ replies_to state ids) ++ (four_bytes (length parts) ++ flat_map encoded_tenant parts)) (c ∙ ap (λ (xs : List ClientId). length (filter_map (λ id. last_reply_of state id.0) xs)) is)
+    ∙ ap (λ (xs : List ClientId). (((1 ∷ [] ++ eight_bytes state.number) ++ four_bytes (length (last_replies_of state))) ++ replies_to state xs) ++ (four_bytes (length parts) ++ flat_map encoded_tenant parts)) is
+    ∙ ap (λ (ps : List TenantState). (((1 ∷ [] ++ eight_bytes state.number) ++ four_bytes (length (last_replies_of state))) ++ flat_map encoded_reply (last_replies_of state)) ++ (four_bytes (length ps) ++ flat_map encoded_tenant ps)) p
+    ∙ regrouped (1 ∷ [] ++ eight_bytes state.number) (four_bytes (length (last_replies_of state))) (flat_map encoded_reply (last_replies_of state)) (four_bytes (length state.tenants)) (flat_map encoded_tenant state.tenants)

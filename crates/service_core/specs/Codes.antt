@@ -6,7 +6,7 @@ use Rattle.host_types.specs.declared.request.Reply.{Reply}
 use Rattle.host_types.specs.declared.config.ClientEntry.{ClientEntry}
 use Rattle.host_types.specs.Configuration.{Configuration}
 use Rattle.tenant_maps.specs.Entries.{Entries}
-use Rattle.service_core.specs.Parts.{Replies, Part, Service}
+use Rattle.service_core.specs.TenantStates.{Replies, TenantState, Service}
 
 abbrev pub reply_code : Coded Reply
 reply_code =
@@ -14,12 +14,12 @@ reply_code =
     (λ r. (r.client.0, (r.time, (r.number.0, r.result))))
     (λ p. record { client = record { 0 = p.0 }; time = p.1.0; number = record { 0 = p.1.1.0 }; result = p.1.1.1 }) (λ _. refl)
 
-abbrev pub part_code : Coded Part
-part_code =
+abbrev pub tenant_code : Coded TenantState
+tenant_code =
     code_by (ℕ × (List (List ℕ) × (Entries × Replies)))
     (coded× coded_ℕ (coded× (coded_list (coded_list coded_ℕ)) (coded× (finite.code (coded_list coded_ℕ) (coded_list coded_ℕ)) (finite.code coded_ℕ reply_code))))
-    (λ p. (p.tenant, (p.procedures, (p.entries, p.kept))))
-    (λ p. record { tenant = p.0; procedures = p.1.0; entries = p.1.1.0; kept = p.1.1.1 }) (λ _. refl)
+    (λ p. (p.tenant, (p.procedures, (p.entries, p.last_replies))))
+    (λ p. record { tenant = p.0; procedures = p.1.0; entries = p.1.1.0; last_replies = p.1.1.1 }) (λ _. refl)
 
 abbrev pub client_entry_code : Coded ClientEntry
 client_entry_code =
@@ -34,5 +34,5 @@ configuration_code =
 
 abbrev pub service_code : Coded Service
 service_code =
-    code_by (Configuration × (ℕ × List Part)) (coded× configuration_code (coded× coded_ℕ (coded_list part_code)))
-    (λ s. (s.config, (s.number, s.parts))) (λ p. record { config = p.0; number = p.1.0; parts = p.1.1 }) (λ _. refl)
+    code_by (Configuration × (ℕ × List TenantState)) (coded× configuration_code (coded× coded_ℕ (coded_list tenant_code)))
+    (λ s. (s.config, (s.number, s.tenants))) (λ p. record { config = p.0; number = p.1.0; tenants = p.1.1 }) (λ _. refl)

@@ -1,8 +1,9 @@
 pub mod Words
 pub mod Operations
-pub mod Parts
+pub mod ReadOperations
+pub mod TenantStates
 pub mod Codes
 pub mod Steps
-pub mod Spelling
+pub mod Encoding
 pub mod Sinks
 pub mod Sound

@@ -7,19 +7,19 @@ use Rattle.bpf_decode.specs.declared.insn.Insn.{Insn}
 use Rattle.bpf_decode.specs.Faults.{IsCode}
 use Rattle.bpf_model.specs.Run.{IsSafe}
 use Rattle.bpf_model.specs.Verdict.{Accepts, IsAccepted}
-use Rattle.service_core.specs.Parts.{Part, Service}
+use Rattle.service_core.specs.TenantStates.{TenantState, Service}
 
 -- the verifier accepts the code
 abbrev pub IsAcceptedCode : List ℕ → Type 0
 IsAcceptedCode code = (bound : ℕ) × Accepts code bound
 
 -- Each procedure is accepted code, and each kept reply is one to a client of the tenant.
-pub record IsSoundPart (clients : List ClientEntry) (part : Part) : Type 0 where
+pub record IsSoundTenant (clients : List ClientEntry) (part : TenantState) : Type 0 where
   pub accepted : All IsAcceptedCode part.procedures
-  pub own : (client : ℕ) → IsSome (finite.get part.kept client) → IsSomeAnd (entry_of clients client) (λ entry. entry.tenant.0 ≡ part.tenant)
+  pub own : (client : ℕ) → IsSome (finite.get part.last_replies client) → IsSomeAnd (entry_of clients client) (λ entry. entry.tenant.0 ≡ part.tenant)
 
 abbrev pub IsSound : Service → Type 0
-IsSound state = All (IsSoundPart state.config.clients) state.parts
+IsSound state = All (IsSoundTenant state.config.clients) state.tenants
 
 -- Code that is accepted with a bound and cannot go wrong: whatever it is called with, it never gets stuck and ends
 -- within that many steps.
@@ -31,4 +31,4 @@ pub record CannotGoWrong (code : List ℕ) : Type 0 where
   pub safe : IsSafe insns bound
 
 abbrev pub NoneGoesWrong : Service → Type 0
-NoneGoesWrong state = All (λ part. All CannotGoWrong part.procedures) state.parts
+NoneGoesWrong state = All (λ part. All CannotGoWrong part.procedures) state.tenants

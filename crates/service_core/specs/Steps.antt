@@ -7,7 +7,7 @@ use Rattle.host_types.specs.Configuration.{Configuration}
 use Rattle.tenant_maps.specs.Entries.{Entries}
 use Rattle.service_core.specs.declared.outcome.Outcome.{Outcome}
 use Rattle.service_core.specs.Operations.{operation_of, Does}
-use Rattle.service_core.specs.Parts.{Part, Service, genesis_of, part_of, with_part}
+use Rattle.service_core.specs.TenantStates.{TenantState, Service, genesis_of, tenant_of, with_tenant}
 
 -- the reply to a request that was done as this number
 abbrev pub reply_to : Request → ℕ → List ℕ → Reply
@@ -15,20 +15,20 @@ reply_to request number result =
     record { client = request.client; time = request.time; number = record { 0 = number }; result = result }
 
 -- The operation of the request is done, and its reply is kept.
-pub record Executes (number : ℕ) (part : Part) (request : Request) (after : Part) (reply : Option Reply) (kept : Bool) : Type 0 where
+pub record Executes (number : ℕ) (part : TenantState) (request : Request) (after : TenantState) (reply : Option Reply) (kept : Bool) : Type 0 where
   pub procedures : List (List ℕ)
   pub entries : Entries
   pub result : List ℕ
   pub does : Does request.client.0 (operation_of request.op) part.procedures part.entries procedures entries result
-  pub part_is : after ≡ record { tenant = part.tenant; procedures = procedures; entries = entries; kept = finite.insert part.kept request.client.0 (reply_to request number result) }
+  pub part_is : after ≡ record { tenant = part.tenant; procedures = procedures; entries = entries; last_replies = finite.insert part.last_replies request.client.0 (reply_to request number result) }
   pub reply_is : reply ≡ Some (reply_to request number result)
   pub is_new : kept ≡ false
 
 -- What a request, taken as this number, does to its tenant's part, and what is answered. A time below the client's
 -- last gives no reply; that time again gives the kept reply as it is; else the operation is done.
-abbrev pub IsPartStep : ℕ → Part → Request → Part → Option Reply → Bool → Type 0
-IsPartStep number part request after reply kept =
-    MatchOption (finite.get part.kept request.client.0)
+abbrev pub IsTenantStep : ℕ → TenantState → Request → TenantState → Option Reply → Bool → Type 0
+IsTenantStep number part request after reply kept =
+    MatchOption (finite.get part.last_replies request.client.0)
     (Executes number part request after reply kept)
     (λ last. MatchBool (nat_lt request.time last.time)
     ((after ≡ part) × (reply ≡ None) × (kept ≡ false))
@@ -39,17 +39,17 @@ IsPartStep number part request after reply kept =
 -- A request changes the number and the part of its client's tenant alone, and what comes of it follows from the
 -- number and that part.
 pub record TakesRequest (state : Service) (request : Request) (after : Service) (outcome : Outcome) : Type 0 where
-  pub part : Part
-  pub is_part : part_of state request.client.0 ≡ Some part
-  pub changed : Part
-  pub step : IsPartStep (state.number + 1) part request changed outcome.reply outcome.kept
-  pub state_is : after ≡ record { config = state.config; number = state.number + 1; parts = with_part changed state.parts }
+  pub part : TenantState
+  pub is_part : tenant_of state request.client.0 ≡ Some part
+  pub changed : TenantState
+  pub step : IsTenantStep (state.number + 1) part request changed outcome.reply outcome.kept
+  pub state_is : after ≡ record { config = state.config; number = state.number + 1; tenants = with_tenant changed state.tenants }
   pub number_is : outcome.number.0 ≡ state.number + 1
 
 -- One step of the service. The null request raises the number and does nothing else.
 abbrev pub IsStep : Service → Option Request → Service → Outcome → Type 0
 IsStep state None after outcome =
-    (after ≡ record { config = state.config; number = state.number + 1; parts = state.parts })
+    (after ≡ record { config = state.config; number = state.number + 1; tenants = state.tenants })
     × (outcome ≡ record { number = record { 0 = state.number + 1 }; reply = None; kept = false })
 IsStep state (Some request) after outcome = TakesRequest state request after outcome
 

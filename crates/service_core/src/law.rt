@@ -1,8 +1,10 @@
+//! Laws of the service, each on a function with an empty body.
+
 ghost use Rattle.std.specs.Prelude.{◌≡◌, Option, List, [], ◌∷◌, ◌++◌};
 ghost use Rattle.host_types.specs.declared.request.Request.{Request};
 ghost use Rattle.service_core.specs.declared.outcome.Outcome.{Outcome};
 ghost use Rattle.host_types.specs.Configuration.{Configuration};
-ghost use Rattle.service_core.specs.Parts.{Service, genesis_of};
+ghost use Rattle.service_core.specs.TenantStates.{Service, genesis_of};
 ghost use Rattle.service_core.specs.Steps.{IsStep, Serves};
 ghost use Rattle.service_core.specs.Sound.{IsSound, NoneGoesWrong};
 

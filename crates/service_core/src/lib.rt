@@ -3,13 +3,13 @@
 //! then is, and what it answers, follow from the requests alone.
 #![tactic(auto)]
 
+mod encoding;
 mod law;
 mod operation;
 mod outcome;
-mod part;
 mod sink;
-mod spelling;
 mod state;
+mod tenant_part;
 #[cfg(test)]
 mod tests;
 

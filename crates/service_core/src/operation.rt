@@ -1,6 +1,8 @@
-ghost use Rattle.std.specs.Prelude.{◌≡◌, ◌≤◌, ◌++◌, [], ◌∷◌, map, length, IfOk, List, drop, take};
-ghost use Rattle.service_core.specs.Words.{four_bytes};
-ghost use Rattle.service_core.specs.Operations.{Installs, Calls, Does, Install, Call, Bad, operation_of, installed, called};
+//! What a client asks for: to install code, or to call a procedure; and doing it.
+
+ghost use Rattle.std.specs.Prelude.{◌≡◌, ◌≤◌, [], ◌∷◌, map, length, IfOk};
+ghost use Rattle.service_core.specs.Operations.{Installs, Calls, Does, operation_of, installed, called};
+ghost use Rattle.service_core.specs.ReadOperations.{meaning_of, result_byte};
 
 use bpf_machine::{Finished, run};
 use bpf_verifier::{Procedure, VerifyFault, verify};
@@ -9,62 +11,86 @@ use std::alloc::{AllocError, Global};
 use tenant_maps::TenantMap;
 
 /// The most procedures of a tenant.
-const MOST_PROCEDURES: usize = 64;
+const MAX_PROCEDURES: usize = 64;
 
 /// The most argument bytes of a call.
-const MOST_ARGUMENTS: usize = 256;
+const MAX_ARGUMENTS: usize = 256;
 
-// The first byte of an operation.
+/// The first byte of an installation.
 const INSTALL: u8 = 1;
 
+/// The first byte of a call.
 const CALL: u8 = 2;
 
-// The first byte of a result.
-const DONE: u8 = 0;
+/// What a client asks for.
+#[derive(Clone, Copy)]
+pub(crate) enum Operation<'a> {
+    /// To install this code.
+    Install(&'a [u8]),
+    /// To call the procedure of this id with these arguments.
+    Call(u32, &'a [u8]),
+    /// Nothing that this service knows.
+    Bad,
+}
 
-const BAD_OPERATION: u8 = 1;
+impl<'a> Operation<'a> {
+    /// Reads the bytes of an operation.
+    pub(crate) fn read(bytes: &'a [u8]) -> Operation<'a>
+        ensures { meaning_of result ≡ operation_of bytes.now }
+    {
+        let Some((kind, rest)) = bytes.split_first() else {
+            return Operation::Bad;
+        };
+        if *kind == INSTALL {
+            return Operation::Install(rest);
+        }
+        if *kind == CALL && rest.len() >= 4 {
+            let procedure = u32::from_be_bytes([rest[0], rest[1], rest[2], rest[3]]);
+            return Operation::Call(procedure, &rest[4..]);
+        }
+        Operation::Bad
+    }
+}
 
-const REFUSED: u8 = 2;
+/// The first byte of a result; all but `Done` stand alone.
+#[derive(Clone, Copy)]
+enum ResultCode {
+    Done = 0,
+    BadOperation = 1,
+    Refused = 2,
+    NoProcedure = 3,
+    TooManyProcedures = 4,
+    ArgumentsTooLong = 5,
+}
 
-const NO_PROCEDURE: u8 = 3;
-
-const TOO_MANY_PROCEDURES: u8 = 4;
-
-const ARGUMENTS_TOO_LONG: u8 = 5;
-
-// Does an operation, and gives its result.
+/// Does an operation, and returns its result.
 pub(crate) fn perform(
     alloc: Global,
     procedures: &mut Vec<Procedure>,
     entries: &mut TenantMap,
     client: ClientId,
-    op: &[u8],
+    operation: Operation<'_>,
 ) -> Result<Vec<u8>, AllocError>
-    ensures does { IfOk result (λ bytes. Does client.0 (operation_of op.now) (map (λ p. p.bytes) procedures.old.items) entries.old.entries (map (λ p. p.bytes) procedures.new.items) entries.new.entries bytes.items) }
+    ensures does { IfOk result (λ bytes. Does client.0 (meaning_of operation.entry) (map (λ p. p.bytes) procedures.old.items) entries.old.entries (map (λ p. p.bytes) procedures.new.items) entries.new.entries bytes.items) }
     ensures few { length procedures.old.items ≤ 64 → length procedures.new.items ≤ 64 }
     ensures short { IfOk result (λ bytes. length bytes.items ≤ 265) }
 {
-    let Some((kind, rest)) = op.split_first() else {
-        return told(alloc, BAD_OPERATION);
-    };
-    if *kind == INSTALL {
-        return install(alloc, procedures, rest);
+    match operation {
+        Operation::Install(code) => install(alloc, procedures, code),
+        Operation::Call(procedure, arguments) => call(
+            alloc, procedures, entries, client, procedure, arguments,
+        ),
+        Operation::Bad => code_alone(alloc, ResultCode::BadOperation),
     }
-    if *kind == CALL && rest.len() >= 4 {
-        let id = u32::from_be_bytes([rest[0], rest[1], rest[2], rest[3]]);
-        return call(alloc, procedures, entries, client, id, &rest[4..]);
-    }
-    told(alloc, BAD_OPERATION)
 }
 
-// A result of one byte.
-fn told(alloc: Global, code: u8) -> Result<Vec<u8>, AllocError>
-    ensures { IfOk result (λ bytes. bytes.items ≡ code ∷ []) }
+/// A result of one byte.
+fn code_alone(alloc: Global, code: ResultCode) -> Result<Vec<u8>, AllocError>
+    ensures { IfOk result (λ bytes. bytes.items ≡ result_byte code ∷ []) }
 {
-    [code].to_vec(alloc)
+    [code as u8].to_vec(alloc)
 }
-
-// Puts code that is accepted behind the tenant's procedures.
+/// Installs code that the verifier accepts as the tenant's next procedure.
 fn install(
     alloc: Global,
     procedures: &mut Vec<Procedure>,
@@ -75,8 +101,8 @@ fn install(
     ensures short { IfOk result (λ bytes. length bytes.items ≤ 265) }
 {
     let id = procedures.len();
-    if id >= MOST_PROCEDURES {
-        return told(alloc, TOO_MANY_PROCEDURES);
+    if id >= MAX_PROCEDURES {
+        return code_alone(alloc, ResultCode::TooManyProcedures);
     }
     match verify(alloc, code) {
         Ok(procedure) => {
@@ -85,23 +111,23 @@ fn install(
         }
         Err(refusal) => match refusal.fault {
             VerifyFault::Memory => Err(AllocError),
-            _ => told(alloc, REFUSED),
+            _ => code_alone(alloc, ResultCode::Refused),
         },
     }
 }
 
-// The result of an installation.
+/// The result of an installation.
 #[tactic(auto, unfolding(crate::specs::Words::four_bytes))]
 fn installed(alloc: Global, id: u32) -> Result<Vec<u8>, AllocError>
     ensures value { IfOk result (λ bytes. bytes.items ≡ installed id) }
     ensures short { IfOk result (λ bytes. length bytes.items ≤ 265) }
 {
-    let mut bytes = told(alloc, DONE)?;
+    let mut bytes = code_alone(alloc, ResultCode::Done)?;
     bytes.extend_from_slice(&id.to_be_bytes())?;
     Ok(bytes)
 }
 
-// Runs the procedure of this id, called by a client.
+/// Runs the procedure of this id, called by a client.
 fn call(
     alloc: Global,
     procedures: &[Procedure],
@@ -115,23 +141,23 @@ fn call(
 {
     let id = id as usize;
     if id >= procedures.len() {
-        return told(alloc, NO_PROCEDURE);
+        return code_alone(alloc, ResultCode::NoProcedure);
     }
-    if args.len() > MOST_ARGUMENTS {
-        return told(alloc, ARGUMENTS_TOO_LONG);
+    if args.len() > MAX_ARGUMENTS {
+        return code_alone(alloc, ResultCode::ArgumentsTooLong);
     }
     let procedure = &procedures[id];
     let finished = run(procedure, args, client, entries)?;
     returned(alloc, &finished)
 }
 
-// The result of a call.
+/// The result of a call.
 #[tactic(auto, unfolding(crate::specs::Words::eight_bytes))]
 fn returned(alloc: Global, finished: &Finished) -> Result<Vec<u8>, AllocError>
     ensures value { IfOk result (λ bytes. bytes.items ≡ called finished.now.result finished.now.out.items) }
     ensures short { IfOk result (λ bytes. length bytes.items ≤ 265) }
 {
-    let mut bytes = told(alloc, DONE)?;
+    let mut bytes = code_alone(alloc, ResultCode::Done)?;
     bytes.extend_from_slice(&finished.result.to_be_bytes())?;
     bytes.extend_from_slice(finished.out.as_slice())?;
     Ok(bytes)

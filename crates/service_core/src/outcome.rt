@@ -1,3 +1,5 @@
+//! What the service answers to a request.
+
 use host_types::{Reply, SeqNo};
 
 /// What came of a request. `number` is the state's new number. There is no reply to the null request,

@@ -1,3 +1,5 @@
+//! Where bytes go, one piece after another: a vector, or a hash.
+
 ghost use Rattle.std.specs.Prelude.{◌≡◌, ℕ, List, OnOk};
 ghost use Rattle.sha2.specs.Hashers.{Holds256};
 ghost use Rattle.service_core.specs.Sinks.{Feeds};
@@ -6,7 +8,7 @@ use sha2::{Digest, Sha256};
 use std::alloc::AllocError;
 use std::convert::Infallible;
 
-// Where bytes go, one piece after another.
+/// Where bytes go, one piece after another.
 pub(crate) trait Sink {
     type Fault: Drop;
 
@@ -19,7 +21,7 @@ pub(crate) trait Sink {
 impl Sink for Vec<u8> {
     type Fault = AllocError;
 
-    ghost holds = { λ vector held. vector.items ≡ held };
+    ghost holds = { λ vector before. vector.items ≡ before };
 
     fn emit(&mut self, bytes: &[u8]) -> Result<(), AllocError> {
         self.extend_from_slice(bytes)

@@ -1,3 +1,5 @@
+//! The state of the service, and what the next request makes of it.
+
 ghost use Rattle.std.specs.Prelude.{◌≡◌, ◌+◌, ◌^◌, ◌<◌, ◌≤◌, ◌++◌, flat_map, IfOk, IsSome, is_some, OnOk, IfSome, length, map};
 ghost use Rattle.std.specs.List.{filter_map};
 ghost use Rattle.std.specs.Option.{option_copied, option_map};
@@ -5,15 +7,15 @@ ghost use Rattle.std.specs.Arc.{arc_value};
 ghost use Rattle.sha2.specs.Sha256.{sha256};
 ghost use Rattle.host_types.specs.Configuration.{entry_of};
 ghost use Rattle.service_core.specs.Words.{four_bytes};
-ghost use Rattle.service_core.specs.Parts.{genesis_of, place_at, place_of, kept_of};
+ghost use Rattle.service_core.specs.TenantStates.{genesis_of, tenant_index, client_index, last_reply_of};
 ghost use Rattle.service_core.specs.Steps.{IsStep};
 ghost use Rattle.service_core.specs.Sinks.{Feeds};
-ghost use Rattle.service_core.specs.Spelling.{spelled, spelled_reply, spelled_part};
+ghost use Rattle.service_core.specs.Encoding.{encoded, encoded_reply, encoded_tenant};
 
+use crate::encoding::{put_reply, put_tenant, put_u32, put_u64};
 use crate::outcome::Outcome;
-use crate::part::TenantPart;
 use crate::sink::Sink;
-use crate::spelling::{put_part, put_reply, put_u32, put_u64};
+use crate::tenant_part::TenantPart;
 use host_types::{ClientId, Config, Digest, Reply, Request, SeqNo, TenantId};
 use sha2::Sha256;
 use std::alloc::{AllocError, Global};
@@ -30,23 +32,23 @@ pub struct State {
     alloc: Global,
     config: Arc<Config>,
     number: u64,
-    parts: Vec<TenantPart>,
+    tenants: Vec<TenantPart>,
 }
 
 impl Model for State {
     ghost use Rattle.std.specs.Prelude.{◌≡◌, map};
     ghost use Rattle.std.specs.Arc.{arc_value};
     ghost use Rattle.host_types.specs.Configuration.{tenants_of};
-    ghost use Rattle.service_core.specs.Parts.{Service};
+    ghost use Rattle.service_core.specs.TenantStates.{Service};
     ghost use Rattle.service_core.specs.Codes.{service_code};
 
     ghost Value = { Service };
 
     ghost coded = { service_code };
 
-    ghost view = { λ s. record { config = arc_value s.config; number = s.number; parts = s.parts.items } };
+    ghost view = { λ s. record { config = arc_value s.config; number = s.number; tenants = s.tenants.items } };
 
-    ghost invariant = { λ s. map (λ part. part.tenant) s.parts.items ≡ map (λ tenant. tenant.0) (tenants_of (arc_value s.config).clients) };
+    ghost invariant = { λ s. map (λ part. part.tenant) s.tenants.items ≡ map (λ tenant. tenant.0) (tenants_of (arc_value s.config).clients) };
 }
 
 impl State {
@@ -55,23 +57,23 @@ impl State {
     pub fn genesis(alloc: Global, config: Arc<Config>) -> Result<State, AllocError>
         ensures { IfOk result (λ state. state ≡ genesis_of (arc_value config)) }
     {
-        let mut parts = Vec::new(alloc);
-        let tenants = config.tenant_ids();
-        let ids = tenants.as_slice();
+        let mut tenants = Vec::new(alloc);
+        let all = config.tenant_ids();
+        let ids = all.as_slice();
         for tenant in ids {
-            parts.push(TenantPart::new(alloc, *tenant))?;
+            tenants.push(TenantPart::new(alloc, *tenant))?;
         }
         Ok(State {
             alloc,
             config,
             number: 0,
-            parts,
+            tenants,
         })
     }
 
     /// Takes the next request, or the null request, which raises the number and does nothing else. The
-    /// client has to be listed, and the number has to stay below 2^48. After a refusal for want of
-    /// memory the state is spent: nothing is promised of it.
+    /// client has to be listed, and the number has to stay below 2^48. When it runs out of memory the
+    /// state is unusable: nothing is promised of it.
     pub fn apply(&mut self, request: Option<&Request>) -> Result<Outcome, AllocError>
         requires number { self.old.number + 1 < 2 ^ 48 }
         requires listed { IfSome (option_copied request) (λ taken. IsSome (entry_of self.old.config.clients taken.client.0)) }
@@ -86,21 +88,21 @@ impl State {
                 kept: false,
             });
         };
-        let Some(place) = self.place_of(request.client) else {
+        let Some(index) = self.client_index(request.client) else {
             unreachable!()
         };
-        let part = &mut self.parts[place];
-        let outcome = part.apply_at(SeqNo(number), request)?;
+        let tenant = &mut self.tenants[index];
+        let outcome = tenant.apply_at(SeqNo(number), request)?;
         self.number = number;
         Ok(outcome)
     }
 
-    // Where the part of the client's tenant stands.
-    fn place_of(&self, client: ClientId) -> Option<usize>
-        ensures { result ≡ place_of self.now client.0 }
+    /// The index of the client's tenant.
+    fn client_index(&self, client: ClientId) -> Option<usize>
+        ensures { result ≡ client_index self.now client.0 }
     {
         match self.config.client(client) {
-            Some(entry) => place_at(&self.parts, entry.tenant),
+            Some(entry) => tenant_index(&self.tenants, entry.tenant),
             None => None,
         }
     }
@@ -120,29 +122,29 @@ impl State {
     }
 
     /// The last reply to a client, if it has one.
-    pub fn kept(&self, client: ClientId) -> Option<&Reply>
-        ensures value { option_copied result ≡ kept_of self.now client.0 }
+    pub fn last_reply(&self, client: ClientId) -> Option<&Reply>
+        ensures value { option_copied result ≡ last_reply_of self.now client.0 }
         ensures short { IfSome (option_copied result) (λ reply. length reply.result ≤ 265) }
     {
-        match self.place_of(client) {
-            Some(place) => self.parts[place].kept(client),
+        match self.client_index(client) {
+            Some(index) => self.tenants[index].last_reply(client),
             None => None,
         }
     }
 
     /// The time of the last reply to a client, if it has one.
     pub fn last_time(&self, client: ClientId) -> Option<u64>
-        ensures { result ≡ option_map (λ reply. reply.time) (kept_of self.now client.0) }
+        ensures { result ≡ option_map (λ reply. reply.time) (last_reply_of self.now client.0) }
     {
-        match self.kept(client) {
+        match self.last_reply(client) {
             Some(reply) => Some(reply.time),
             None => None,
         }
     }
 
-    /// The bytes of the state, version 1, its one spelling. Their memory is from the state's allocator.
+    /// The canonical encoding of the state, version 1. Its memory is from the state's allocator.
     pub fn to_bytes(&self) -> Result<Vec<u8>, AllocError>
-        ensures { IfOk result (λ bytes. bytes.items ≡ spelled self.now) }
+        ensures { IfOk result (λ bytes. bytes.items ≡ encoded self.now) }
     {
         let mut bytes = Vec::new(self.alloc);
         self.put(&mut bytes)?;
@@ -151,7 +153,7 @@ impl State {
 
     /// The SHA-256 digest of the state's bytes. It takes no memory.
     pub fn digest(&self) -> Digest
-        ensures { result.0 ≡ sha256 (spelled self.now) }
+        ensures { result.0 ≡ sha256 (encoded self.now) }
     {
         let mut hasher = <Sha256 as sha2::Digest>::new();
         match self.put(&mut hasher) {
@@ -160,39 +162,39 @@ impl State {
         }
     }
 
-    // Puts the state's bytes into a sink.
+    /// Puts the state's bytes into a sink.
     fn put<S: Sink>(&self, sink: &mut S) -> Result<(), S::Fault>
-        ensures { OnOk result (Feeds S.holds sink.old sink.new (spelled self.now)) }
+        ensures { OnOk result (Feeds S.holds sink.old sink.new (encoded self.now)) }
     {
         sink.emit(&[VERSION])?;
         put_u64(sink, self.number)?;
         let all = self.config.client_ids();
         let ids = all.as_slice();
-        put_u32(sink, self.kept_count(ids))?;
+        put_u32(sink, self.reply_count(ids))?;
         self.put_replies(sink, ids)?;
-        put_parts(sink, &self.parts)
+        put_tenants(sink, &self.tenants)
     }
 
-    // Puts the last replies of those clients into a sink that have one.
+    /// Puts the last replies of those clients into a sink that have one.
     fn put_replies<S: Sink>(&self, sink: &mut S, ids: &[ClientId]) -> Result<(), S::Fault>
-        ensures { OnOk result (Feeds S.holds sink.old sink.new (flat_map spelled_reply (filter_map (λ id. kept_of self.now id.0) ids.now))) }
+        ensures { OnOk result (Feeds S.holds sink.old sink.new (flat_map encoded_reply (filter_map (λ id. last_reply_of self.now id.0) ids.now))) }
     {
         for id in ids {
-            if let Some(reply) = self.kept(*id) {
+            if let Some(reply) = self.last_reply(*id) {
                 put_reply(sink, reply)?;
             }
         }
         Ok(())
     }
 
-    // How many of the clients have a reply.
-    fn kept_count(&self, ids: &[ClientId]) -> u32
+    /// How many of the clients have a reply.
+    fn reply_count(&self, ids: &[ClientId]) -> u32
         requires { length ids.now ≤ 64 }
-        ensures { result ≡ length (filter_map (λ id. kept_of self.now id.0) ids.now) }
+        ensures { result ≡ length (filter_map (λ id. last_reply_of self.now id.0) ids.now) }
     {
         let mut count = 0;
         for id in ids {
-            if self.kept(*id).is_some() {
+            if self.last_reply(*id).is_some() {
                 count += 1;
             }
         }
@@ -200,21 +202,21 @@ impl State {
     }
 }
 
-// Where a tenant's part stands.
-fn place_at(parts: &[TenantPart], tenant: TenantId) -> Option<usize>
-    ensures { result ≡ place_at parts.now tenant.0 }
+/// The index of a tenant.
+fn tenant_index(tenants: &[TenantPart], tenant: TenantId) -> Option<usize>
+    ensures { result ≡ tenant_index tenants.now tenant.0 }
 {
-    parts.iter().position(|part| part.tenant.0 == tenant.0)
+    tenants.iter().position(|part| part.tenant.0 == tenant.0)
 }
 
-// Puts the tenants' parts into a sink, behind their count.
-fn put_parts<S: Sink>(sink: &mut S, parts: &[TenantPart]) -> Result<(), S::Fault>
-    requires { length parts.now ≤ 8 }
-    ensures { OnOk result (Feeds S.holds sink.old sink.new (four_bytes (length parts.now) ++ flat_map spelled_part parts.now)) }
+/// Puts the tenants' parts into a sink, after their count.
+fn put_tenants<S: Sink>(sink: &mut S, tenants: &[TenantPart]) -> Result<(), S::Fault>
+    requires { length tenants.now ≤ 8 }
+    ensures { OnOk result (Feeds S.holds sink.old sink.new (four_bytes (length tenants.now) ++ flat_map encoded_tenant tenants.now)) }
 {
-    put_u32(sink, parts.len() as u32)?;
-    for part in parts {
-        put_part(sink, part)?;
+    put_u32(sink, tenants.len() as u32)?;
+    for tenant in tenants {
+        put_tenant(sink, tenant)?;
     }
     Ok(())
 }

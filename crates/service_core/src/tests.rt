@@ -13,8 +13,8 @@ const SEVEN: &[u8] = &[0xb7, 0, 0, 0, 7, 0, 0, 0, 0x95, 0, 0, 0, 0, 0, 0, 0];
 // A configuration of four replicas, with a client for each pair of an id and a tenant.
 fn config(alloc: Global, pairs: &[(u32, u32)]) -> Result<Arc<Config>, Fail> {
     let mut keys = Vec::new(alloc);
-    for place in 0..4u8 {
-        keys.push([place; 56])?;
+    for index in 0..4u8 {
+        keys.push([index; 56])?;
     }
     let mut clients = Vec::new(alloc);
     for (id, tenant) in pairs {
@@ -96,7 +96,7 @@ fn a_time_is_answered_once(rt: HostRuntime) -> Result<(), Fail> {
 }
 
 #[test]
-fn operations_are_told_apart(rt: HostRuntime) -> Result<(), Fail> {
+fn operations_have_their_results(rt: HostRuntime) -> Result<(), Fail> {
     let alloc = rt.alloc();
     let mut state = State::genesis(alloc, config(alloc, &[(100, 1)])?)?;
     let falls_off = [0xb7, 0, 0, 0, 0, 0, 0, 0];
@@ -179,7 +179,10 @@ fn each_tenant_has_its_own(rt: HostRuntime) -> Result<(), Fail> {
         same.reply.ok_or("no reply")?.result.as_slice(),
         [0, 0, 0, 0, 1].as_slice()
     );
-    assert_eq!(rt; state.kept(ClientId(300)).ok_or("not kept")?.number.0, 2);
+    assert_eq!(rt;
+        state.last_reply(ClientId(300)).ok_or("not kept")?.number.0,
+        2
+    );
     let bytes = state.to_bytes()?;
     assert_eq!(rt; bytes.len(), 188);
     Ok(())

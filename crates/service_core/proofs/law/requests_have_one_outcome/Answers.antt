@@ -1,4 +1,4 @@
-use Rattle.service_core.specs.Parts.{genesis_of}
+use Rattle.service_core.specs.TenantStates.{genesis_of}
 use Rattle.service_core.proofs.Determined.{same_follows, follows_more}
 use Rattle.service_core.proofs.law.requests_have_one_outcome.Goals as goal
 

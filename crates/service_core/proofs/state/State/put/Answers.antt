@@ -3,8 +3,8 @@ use Rattle.std.specs.Prelude.{flat_map}
 use Rattle.std.proofs.lemmas.Result.{on_ok_weaker}
 use Rattle.host_types.specs.Configuration.{Configuration, client_ids_of}
 use Rattle.service_core.specs.Words.{four_bytes, eight_bytes}
-use Rattle.service_core.specs.Parts.{Service}
-use Rattle.service_core.specs.Spelling.{spelled, spelled_part}
+use Rattle.service_core.specs.TenantStates.{Service}
+use Rattle.service_core.specs.Encoding.{encoded, encoded_tenant}
 use Rattle.service_core.proofs.Fed.{fed_same, fed_then}
 use Rattle.service_core.proofs.Whole.{pieces, replies_to}
 use Rattle.service_core.proofs.state.State.put.Goals as goal
@@ -15,17 +15,17 @@ returns g c =
     let start = c.args.sink.now in
     let version : List ℕ = 1 ∷ [] in
     let number = eight_bytes c.self.inside.number in
-    let count = four_bytes c.kept_count.result in
+    let count = four_bytes c.reply_count.result in
     let replies = replies_to c.args.self.now c.as_slice-ids.result.now in
-    let parts = four_bytes (length c.deref-2.result.now) ++ flat_map spelled_part c.deref-2.result.now in
+    let tenants = four_bytes (length c.deref-2.result.now) ++ flat_map encoded_tenant c.deref-2.result.now in
     let one = fed_then h start c.emit.new.self c.put_u64.new.sink version number c.in_ok-emit.ensures c.in_ok-put_u64.ensures in
     let two = fed_then h start c.put_u64.new.sink c.put_u32.new.sink (version ++ number) count one c.in_ok-put_u32.ensures in
     let three = fed_then h start c.put_u32.new.sink c.put_replies.new.sink (version ++ number ++ count) replies two c.in_ok-put_replies.ensures in
-    on_ok_weaker c.put_parts.result (λ last.
-    fed_same h start c.put_parts.new.sink ((version ++ number ++ count ++ replies) ++ parts) (spelled c.args.self.now)
-    (pieces c.args.self.now c.self.inside.number c.kept_count.result c.as_slice-ids.result.now c.deref-2.result.now
+    on_ok_weaker c.put_tenants.result (λ last.
+    fed_same h start c.put_tenants.new.sink ((version ++ number ++ count ++ replies) ++ tenants) (encoded c.args.self.now)
+    (pieces c.args.self.now c.self.inside.number c.reply_count.result c.as_slice-ids.result.now c.deref-2.result.now
     (ap (λ (s : Service). s.number) c.self.view_is)
     (c.as_slice-ids.ensures.value ∙ c.client_ids-all.ensures.value ∙ ap (λ (k : Configuration). client_ids_of k.clients) c.deref.ensures ∙ ap (λ (s : Service). client_ids_of s.config.clients) c.self.view_is)
-    c.kept_count.ensures
-    (c.deref-2.ensures.value ∙ ap (λ (s : Service). s.parts) c.self.view_is))
-    (fed_then h start c.put_replies.new.sink c.put_parts.new.sink (version ++ number ++ count ++ replies) parts three last)) c.put_parts.ensures
+    c.reply_count.ensures
+    (c.deref-2.ensures.value ∙ ap (λ (s : Service). s.tenants) c.self.view_is))
+    (fed_then h start c.put_replies.new.sink c.put_tenants.new.sink (version ++ number ++ count ++ replies) tenants three last)) c.put_tenants.ensures

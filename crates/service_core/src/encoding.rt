@@ -1,0 +1,90 @@
+//! The canonical encoding of a state, piece by piece into a sink.
+
+ghost use Rattle.std.specs.Prelude.{◌≡◌, ◌≤◌, ◌<◌, ◌^◌, ◌++◌, ℕ, length, map, OnOk, flat_map, All};
+ghost use Rattle.service_core.specs.Words.{four_bytes, eight_bytes};
+ghost use Rattle.service_core.specs.Sinks.{Feeds};
+ghost use Rattle.service_core.specs.Encoding.{length_prefixed, encoded_reply, encoded_procedures, encoded_entries, encoded_tenant};
+
+use crate::sink::Sink;
+use crate::tenant_part::TenantPart;
+use bpf_verifier::Procedure;
+use host_types::Reply;
+use tenant_maps::{MapPort, TenantMap};
+
+/// A number in four bytes.
+#[tactic(auto, unfolding(crate::specs::Words::four_bytes))]
+pub(crate) fn put_u32<S: Sink>(sink: &mut S, number: u32) -> Result<(), S::Fault>
+    ensures { OnOk result (Feeds S.holds sink.old sink.new (four_bytes number)) }
+{
+    sink.emit(&number.to_be_bytes())
+}
+
+/// A number in eight bytes.
+#[tactic(auto, unfolding(crate::specs::Words::eight_bytes))]
+pub(crate) fn put_u64<S: Sink>(sink: &mut S, number: u64) -> Result<(), S::Fault>
+    ensures { OnOk result (Feeds S.holds sink.old sink.new (eight_bytes number)) }
+{
+    sink.emit(&number.to_be_bytes())
+}
+
+/// Bytes after their length.
+fn put_length_prefixed<S: Sink>(sink: &mut S, bytes: &[u8]) -> Result<(), S::Fault>
+    requires { length bytes.now < 2 ^ 32 }
+    ensures { OnOk result (Feeds S.holds sink.old sink.new (length_prefixed bytes.now)) }
+{
+    put_u32(sink, bytes.len() as u32)?;
+    sink.emit(bytes)
+}
+
+/// A client's last reply.
+pub(crate) fn put_reply<S: Sink>(sink: &mut S, reply: &Reply) -> Result<(), S::Fault>
+    requires { length reply.now.result < 2 ^ 32 }
+    ensures { OnOk result (Feeds S.holds sink.old sink.new (encoded_reply reply.now)) }
+{
+    put_u32(sink, reply.client.0)?;
+    put_u64(sink, reply.time)?;
+    put_u64(sink, reply.number.0)?;
+    put_length_prefixed(sink, reply.result.as_slice())
+}
+
+/// A tenant's procedures.
+fn put_procedures<S: Sink>(sink: &mut S, procedures: &[Procedure]) -> Result<(), S::Fault>
+    requires { length procedures.now ≤ 64 }
+    ensures { OnOk result (Feeds S.holds sink.old sink.new (encoded_procedures (map (λ p. p.bytes) procedures.now))) }
+{
+    put_u32(sink, procedures.len() as u32)?;
+    for procedure in procedures {
+        put_length_prefixed(sink, procedure.code())?;
+    }
+    Ok(())
+}
+
+/// A tenant's entries.
+fn put_entries<S: Sink>(sink: &mut S, entries: &TenantMap) -> Result<(), S::Fault>
+    ensures { OnOk result (Feeds S.holds sink.old sink.new (encoded_entries entries.now.entries)) }
+{
+    put_u32(sink, entries.len() as u32)?;
+    for (key, value) in entries.entries() {
+        sink.emit(&entry_bytes(key, value))?;
+    }
+    Ok(())
+}
+
+/// An entry in one piece: a hash takes one piece of 48 bytes faster than two.
+fn entry_bytes(key: &[u8; 16], value: &[u8; 32]) -> [u8; 48]
+    ensures { result ≡ key.now ++ value.now }
+{
+    let mut entry = [0; 48];
+    entry[..16].copy_from_slice(key);
+    entry[16..].copy_from_slice(value);
+    entry
+}
+
+/// A tenant's part without its clients' replies.
+pub(crate) fn put_tenant<S: Sink>(sink: &mut S, part: &TenantPart) -> Result<(), S::Fault>
+    ensures { OnOk result (Feeds S.holds sink.old sink.new (encoded_tenant part.now)) }
+{
+    put_u32(sink, part.tenant.0)?;
+    put_procedures(sink, &part.procedures)?;
+    put_entries(sink, &part.entries)
+}
