@@ -40,10 +40,10 @@ legal c f1 f3 keys k1 k8 few different =
     let a = or_parts (ltb 64 (length c.clients)) (ltb 8 (length (tenants_of c.clients)) || list_any (λ client. ltb client.id.0 16) c.clients) few in
     let b = or_parts (ltb 8 (length (tenants_of c.clients))) (list_any (λ client. ltb client.id.0 16) c.clients) a.1 in
     record {
-      some_faulty = f1;
-      few_faulty = f3;
-      some_between = k1;
-      few_between = k8;
+      min_faulty = f1;
+      max_faulty = f3;
+      min_interval = k1;
+      max_interval = k8;
       a_key_each = keys;
       clients = ltb-false _ _ a.0;
       tenants = ltb-false _ _ b.0;

@@ -1,4 +1,4 @@
-pub mod MarkLemmas
+pub mod BitLemmas
 pub mod ClientLemmas
-pub mod Placed
+pub mod InsertSorted
 pub mod AscendingLemmas

@@ -18,18 +18,18 @@ abbrev pub replicas_for : ℕ → ℕ
 replicas_for f = 3 * f + 1
 
 -- x in its place among ascending ones, once
-abbrev pub placed : {X : Type 0} → (X → ℕ) → X → List X → List X
-placed number x [] = x ∷ []
-placed number x (y ∷ ys) =
-    if nat_lt (number x) (number y) then x ∷ y ∷ ys else (if number x == number y then y ∷ ys else y ∷ placed number x ys)
+abbrev pub insert_sorted : {X : Type 0} → (X → ℕ) → X → List X → List X
+insert_sorted number x [] = x ∷ []
+insert_sorted number x (y ∷ ys) =
+    if nat_lt (number x) (number y) then x ∷ y ∷ ys else (if number x == number y then y ∷ ys else y ∷ insert_sorted number x ys)
 
 -- the different tenants of the clients, ascending
 abbrev pub tenants_of : List ClientEntry → List TenantId
-tenants_of clients = fold (λ tenants client. placed (λ tenant. tenant.0) client.tenant tenants) [] clients
+tenants_of clients = fold (λ tenants client. insert_sorted (λ tenant. tenant.0) client.tenant tenants) [] clients
 
 -- the clients' ids, ascending
 abbrev pub client_ids_of : List ClientEntry → List ClientId
-client_ids_of clients = fold (λ ids client. placed (λ id. id.0) client.id ids) [] clients
+client_ids_of clients = fold (λ ids client. insert_sorted (λ id. id.0) client.id ids) [] clients
 
 -- each tenant's number is below all later ones
 abbrev pub IsAscending : List TenantId → Type 0
@@ -57,10 +57,10 @@ fault_of c =
 
 -- what holds of every configuration
 pub record IsConfiguration (c : Configuration) : Type 0 where
-  pub some_faulty : 1 ≤ c.f
-  pub few_faulty : c.f ≤ 3
-  pub some_between : 1 ≤ c.k
-  pub few_between : c.k ≤ 8
+  pub min_faulty : 1 ≤ c.f
+  pub max_faulty : c.f ≤ 3
+  pub min_interval : 1 ≤ c.k
+  pub max_interval : c.k ≤ 8
   pub a_key_each : length c.keys ≡ replicas_for c.f
   pub clients : length c.clients ≤ 64
   pub tenants : length (tenants_of c.clients) ≤ 8

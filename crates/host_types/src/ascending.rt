@@ -1,5 +1,5 @@
 ghost use Rattle.std.specs.Prelude.{◌≡◌, ◌≢◌, ◌<◌, ℕ, MatchBool, length, slice_index_or, take_while, nat_lt};
-ghost use Rattle.host_types.specs.Configuration.{placed};
+ghost use Rattle.host_types.specs.Configuration.{insert_sorted};
 
 use crate::{ClientId, TenantId};
 use arrayvec::ArrayVec;
@@ -29,7 +29,7 @@ impl Numbered for ClientId {
 }
 
 // How many of the ascending ones stand before the place of this one.
-fn place_of<T: Numbered>(all: &[T], one: T) -> usize
+fn index_of<T: Numbered>(all: &[T], one: T) -> usize
     ensures { result ≡ length (take_while (λ held. nat_lt (T.number held) (T.number one)) all.now) }
 {
     all.iter()
@@ -45,10 +45,10 @@ fn is_at<T: Numbered>(all: &[T], at: usize, one: T) -> bool
 }
 
 // Puts this one in its place among ascending ones, unless it is there; false where there is no room.
-pub(crate) fn put<T: Numbered, const N: usize>(all: &mut ArrayVec<T, N>, one: T) -> bool
-    ensures { MatchBool result (all.new.items ≡ placed T.number one all.old.items) (N < length (placed T.number one all.old.items)) }
+pub(crate) fn insert_sorted<T: Numbered, const N: usize>(all: &mut ArrayVec<T, N>, one: T) -> bool
+    ensures { MatchBool result (all.new.items ≡ insert_sorted T.number one all.old.items) (N < length (insert_sorted T.number one all.old.items)) }
 {
-    let at = place_of(all.as_slice(), one);
+    let at = index_of(all.as_slice(), one);
     if is_at(all.as_slice(), at, one) {
         return true;
     }

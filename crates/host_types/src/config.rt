@@ -4,23 +4,23 @@ ghost use Rattle.std.specs.Option.{option_copied};
 ghost use Rattle.arrayvec.specs.ArrayVec.{array_vec_len};
 ghost use Rattle.host_types.specs.Configuration.{Configuration, IsConfiguration, IsAscending, replicas_for, client_ids_of, tenants_of, too_many, some_client_twice, fault_of, entry_of, number_of};
 
-use crate::ascending::put;
+use crate::ascending::insert_sorted;
 use crate::{ClientId, ReplicaId, TenantId, View};
 use arrayvec::ArrayVec;
 use std::marker::Model;
 use thiserror::Error;
 
 /// The most replicas that may be faulty.
-const MOST_FAULTY: u8 = 3;
+const MAX_FAULTY: u8 = 3;
 
 /// The greatest distance between checkpoints.
-const MOST_BETWEEN: u8 = 8;
+const MAX_CHECKPOINT_INTERVAL: u8 = 8;
 
 /// The most clients of a configuration.
-const MOST_CLIENTS: usize = 64;
+const MAX_CLIENTS: usize = 64;
 
 /// Client ids below this one are none.
-const LEAST_CLIENT: u32 = 16;
+const MIN_CLIENT: u32 = 16;
 
 /// A client: its name, the tenant whose procedures it calls, and the key that its requests verify
 /// under.
@@ -94,13 +94,13 @@ impl Config {
         ensures { let given : Configuration = record { f = f; k = k; keys = keys.items; clients = clients.items } in
             MatchResult result (λ config. (fault_of given ≡ None) × (config ≡ given)) (λ fault. fault_of given ≡ Some fault) }
     {
-        if f < 1 || f > MOST_FAULTY {
+        if f < 1 || f > MAX_FAULTY {
             return Err(ConfigFault::BadF);
         }
         if keys.len() != 3 * usize::from(f) + 1 {
             return Err(ConfigFault::WrongReplicaCount);
         }
-        if k < 1 || k > MOST_BETWEEN {
+        if k < 1 || k > MAX_CHECKPOINT_INTERVAL {
             return Err(ConfigFault::BadInterval);
         }
         if has_too_many(&clients) {
@@ -199,7 +199,7 @@ impl Config {
 fn has_too_many(clients: &[ClientEntry]) -> bool
     ensures { result ≡ too_many clients.now }
 {
-    if clients.len() > MOST_CLIENTS {
+    if clients.len() > MAX_CLIENTS {
         return true;
     }
     if tenants(clients).is_none() {
@@ -212,7 +212,7 @@ fn has_too_many(clients: &[ClientEntry]) -> bool
 fn has_small_id(clients: &[ClientEntry]) -> bool
     ensures { result ≡ list_any (λ client. nat_lt client.id.0 16) clients.now }
 {
-    clients.iter().any(|client| client.id.0 < LEAST_CLIENT)
+    clients.iter().any(|client| client.id.0 < MIN_CLIENT)
 }
 
 // Whether a client is listed again.
@@ -240,7 +240,7 @@ fn tenants(clients: &[ClientEntry]) -> Option<ArrayVec<TenantId, 8>>
 {
     let mut tenants = ArrayVec::new();
     for client in clients {
-        if !put(&mut tenants, client.tenant) {
+        if !insert_sorted(&mut tenants, client.tenant) {
             return None;
         }
     }
@@ -248,12 +248,12 @@ fn tenants(clients: &[ClientEntry]) -> Option<ArrayVec<TenantId, 8>>
 }
 
 // The ids of the clients, ascending, unless there are more than 64.
-fn client_ids(clients: &[ClientEntry]) -> Option<ArrayVec<ClientId, MOST_CLIENTS>>
+fn client_ids(clients: &[ClientEntry]) -> Option<ArrayVec<ClientId, MAX_CLIENTS>>
     ensures { MatchOption result (64 < length (client_ids_of clients.now)) (λ ids. ids.items ≡ client_ids_of clients.now) }
 {
     let mut ids = ArrayVec::new();
     for client in clients {
-        if !put(&mut ids, client.id) {
+        if !insert_sorted(&mut ids, client.id) {
             return None;
         }
     }

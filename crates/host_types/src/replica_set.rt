@@ -1,7 +1,7 @@
 ghost use Rattle.std.specs.Prelude.{◌≡◌, not};
 ghost use Rattle.std.specs.Ordering.{nat_cmp};
 ghost use Rattle.std.specs.FinSet as set;
-ghost use Rattle.host_types.specs.Marks.{is_marked};
+ghost use Rattle.host_types.specs.Bits.{has_bit};
 
 use crate::ReplicaId;
 use std::marker::Model;
@@ -18,13 +18,13 @@ impl Model for ReplicaSet {
     ghost use Rattle.std.specs.Ordering.{nat_cmp};
     ghost use Rattle.std.specs.FinSet as set;
     ghost use Rattle.std.specs.Coded.{coded_ℕ};
-    ghost use Rattle.host_types.specs.Marks.{marked_below};
+    ghost use Rattle.host_types.specs.Bits.{bits_below};
 
     ghost Value = { set.FinSet nat_cmp };
 
     ghost coded = { set.code coded_ℕ };
 
-    ghost view = { λ s. marked_below s.words 256 };
+    ghost view = { λ s. bits_below s.words 256 };
 }
 
 impl ReplicaSet {
@@ -42,7 +42,7 @@ impl ReplicaSet {
     {
         let word = usize::from(id.0 / 64);
         let bit = u32::from(id.0 % 64);
-        let is_new = !has_mark(&self.words, id.0);
+        let is_new = !has_bit(&self.words, id.0);
         self.words[word] |= 1 << bit;
         is_new
     }
@@ -51,7 +51,7 @@ impl ReplicaSet {
     pub fn contains(&self, id: ReplicaId) -> bool
         ensures { result ≡ set.contains self.now id.0 }
     {
-        has_mark(&self.words, id.0)
+        has_bit(&self.words, id.0)
     }
 
     /// How many replicas are in the set.
@@ -60,7 +60,7 @@ impl ReplicaSet {
     {
         let mut count = 0;
         for id in 0..256u16 {
-            if has_mark(&self.words, id as u8) {
+            if has_bit(&self.words, id as u8) {
                 count += 1;
             }
         }
@@ -69,8 +69,8 @@ impl ReplicaSet {
 }
 
 // Whether the words mark this number.
-fn has_mark(words: &[u64; 4], id: u8) -> bool
-    ensures { result ≡ is_marked words.now id }
+fn has_bit(words: &[u64; 4], id: u8) -> bool
+    ensures { result ≡ has_bit words.now id }
 {
     words[usize::from(id / 64)] >> u32::from(id % 64) & 1 == 1
 }

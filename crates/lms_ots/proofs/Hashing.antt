@@ -3,17 +3,17 @@ use Rattle.std.proofs.Common.{◌≡◌, ℕ, ◌+◌, List, ◌++◌, sym, ◌�
 use Rattle.std.proofs.lemmas.List.{append-nil}
 use Rattle.sha2.specs.Hashers.{Holds256}
 use Rattle.sha2.specs.declared.Sha256.{Sha256}
-use Rattle.lms_ots.specs.Ots.{joined}
-use Rattle.lms_ots.proofs.Joined.{joined-none, joined_push}
+use Rattle.lms_ots.specs.Ots.{concatenation}
+use Rattle.lms_ots.proofs.Concatenation.{concatenation-none, joined_push}
 
 pub Holds_same : (s : Sha256) (m n : List ℕ) → m ≡ n → Holds256 s m → Holds256 s n
 Holds_same s m n e h = let P : List ℕ → Type 0 = λ t. Holds256 s t in subst P e h
 
 -- no piece of a joining yet
-pub Holds-none : (s : Sha256) (p : List ℕ) (f : ℕ → List ℕ) → Holds256 s p → Holds256 s (p ++ joined f 0)
-Holds-none s p f h = Holds_same s p _ (sym (ap (λ t. p ++ t) (joined-none f) ∙ append-nil p)) h
+pub Holds-none : (s : Sha256) (p : List ℕ) (f : ℕ → List ℕ) → Holds256 s p → Holds256 s (p ++ concatenation f 0)
+Holds-none s p f h = Holds_same s p _ (sym (ap (λ t. p ++ t) (concatenation-none f) ∙ append-nil p)) h
 
 -- one piece more
 pub Holds-more : (s : Sha256) (p : List ℕ) (f : ℕ → List ℕ) (n : ℕ) (x : List ℕ) → x ≡ f n
-    → Holds256 s (p ++ joined f n ++ x) → Holds256 s (p ++ joined f (n + 1))
-Holds-more s p f n x e h = Holds_same s _ _ (ap (λ t. p ++ joined f n ++ t) e ∙ joined_push p f n) h
+    → Holds256 s (p ++ concatenation f n ++ x) → Holds256 s (p ++ concatenation f (n + 1))
+Holds-more s p f n x e h = Holds_same s _ _ (ap (λ t. p ++ concatenation f n ++ t) e ∙ joined_push p f n) h

@@ -1,5 +1,5 @@
-pub mod Pieces
-pub mod Joined
+pub mod BufferLemmas
+pub mod Concatenation
 pub mod Chains
 pub mod Law
 pub mod Hashing

@@ -20,9 +20,9 @@ abbrev pub coef : List ℕ → ℕ → ℕ
 coef s i = slice_index s (i / 2) / 2 ^ (4 - 4 * (i % 2)) % 16
 
 -- f 0 || f 1 || .. || f (n - 1)
-unfoldable pub joined : (ℕ → List ℕ) → ℕ → List ℕ
-joined f zero = []
-joined f (suc n) = joined f n ++ f n
+unfoldable pub concatenation : (ℕ → List ℕ) → ℕ → List ℕ
+concatenation f zero = []
+concatenation f (suc n) = concatenation f n ++ f n
 
 -- ---- hashes
 
@@ -51,7 +51,7 @@ chain id leaf i from (suc steps) value =
 
 -- H (I || u32str (q) || u16str (D_PBLC) || z[0] || .. || z[66]), over the ends of the chains (4.3, step 5)
 abbrev pub hash_of_ends : List ℕ → ℕ → (ℕ → List ℕ) → List ℕ
-hash_of_ends id leaf end_of = tagged_hash id leaf 0x8080 (joined end_of 67)
+hash_of_ends id leaf end_of = tagged_hash id leaf 0x8080 (concatenation end_of 67)
 
 -- Q: H (I || u32str (q) || u16str (D_MESG) || C || message) (4.5, step 3)
 abbrev pub message_hash : List ℕ → ℕ → List ℕ → List ℕ → List ℕ
@@ -83,7 +83,7 @@ abbrev pub signature_of : List ℕ → ℕ → List ℕ → List ℕ → List �
 signature_of id leaf secret message =
     let c = randomizer id leaf secret in
     let q = message_hash id leaf c message in
-    u32str 3 ++ c ++ joined (λ i. chain id leaf i 0 (digit q i) (chain_start id leaf secret i)) 67
+    u32str 3 ++ c ++ concatenation (λ i. chain id leaf i 0 (digit q i) (chain_start id leaf secret i)) 67
 
 -- C, as it stands in a signature (4.6, step 2)
 abbrev pub randomizer_in : List ℕ → List ℕ

@@ -26,7 +26,7 @@ const CHAIN_COUNT: usize = 67;
 const CHAIN_END: u8 = 15;
 
 /// The word LMOTS_SHA256_N32_W4 of RFC 8554, section 4.1.
-const TYPE: u32 = 3;
+const TYPECODE: u32 = 3;
 
 /// D_PBLC of RFC 8554, section 4.3.
 const PUBLIC_TAG: u16 = 0x8080;
@@ -133,7 +133,7 @@ pub fn ots_sign(id: &[u8; 16], leaf: u32, secret: &[u8; 32], message: &[u8]) -> 
     let randomizer = randomizer(id, leaf, secret);
     let digits = digits(&message_hash(id, leaf, &randomizer, message));
     let mut signature = [0u8; 2180];
-    put(&mut signature, 0, &u32str(TYPE));
+    put(&mut signature, 0, &u32str(TYPECODE));
     put(&mut signature, 4, &randomizer);
     'chains: for i in 0..CHAIN_COUNT {
         let start = chain_start(id, leaf, secret, i as u16);

@@ -6,15 +6,15 @@ use Rattle.std.proofs.lemmas.Bool.{and_from, cond-false, cond-true, eq-eqb, lt-l
 use Rattle.std.proofs.lemmas.List.{append_assoc, drop-drop, drop_at, get_or-append-add, take_all, take_at}
 use Rattle.std.proofs.lemmas.Nat.{div_below, from_be_bytes-to_be_bytes_4, le-div, pow_pos}
 use Rattle.std.proofs.lemmas.Slice.Eq.{bytes_eq-Decides}
-use Rattle.lms_ots.specs.Ots.{candidate_of, chain_start, digit, joined, message_hash, public_value, randomizer, signature_of, u32str}
+use Rattle.lms_ots.specs.Ots.{candidate_of, chain_start, digit, concatenation, message_hash, public_value, randomizer, signature_of, u32str}
 use Rattle.lms_ots.proofs.Chains.{length-chain, length-tagged_hash, length-u32str}
-use Rattle.lms_ots.proofs.Joined.{length-joined, piece-joined}
+use Rattle.lms_ots.proofs.Concatenation.{length-concatenation, piece-concatenation}
 use Rattle.lms_ots.proofs.Law.{candidate-signature}
 use Rattle.lms_tree.specs.declared.height.Height.{Height}
 use Rattle.lms_tree.specs.declared.height.Height.TheVariants.{H5, H10}
-use Rattle.lms_tree.specs.Signature.{candidate_root, fault_under, height_named, key_height, key_id, key_root, levels_of, ots_in, path_in, public_key_of, signature_at, signature_fault, type_of, word_at}
-use Rattle.lms_tree.specs.Tree.{climbed, leaf_node, path_node, tree_node}
-use Rattle.lms_tree.proofs.TreeLemmas.{climbed-tree, length-tree_node, node-leaf}
+use Rattle.lms_tree.specs.Signature.{candidate_root, fault_under, height_of_typecode, key_height, key_id, key_root, levels_of, ots_in, path_in, public_key_of, signature_at, signature_fault, typecode_of, word_at}
+use Rattle.lms_tree.specs.Tree.{root_from_path, leaf_node, path_node, tree_node}
+use Rattle.lms_tree.proofs.TreeLemmas.{root_from_path-tree, length-tree_node, node-leaf}
 
 -- ---- words
 
@@ -37,13 +37,13 @@ unfolding word_at u32str
 word-head n t h = from_be_bytes-to_be_bytes_4 n h
 
 -- a number that is spelled behind a list
-pub word-spelled : (p : List ℕ) (n : ℕ) (t : List ℕ) (at : ℕ) → length p ≡ at → n < 2 ^ 32 → word_at (p ++ u32str n ++ t) at ≡ n
-word-spelled p n t at e h =
+pub word-encoded : (p : List ℕ) (n : ℕ) (t : List ℕ) (at : ℕ) → length p ≡ at → n < 2 ^ 32 → word_at (p ++ u32str n ++ t) at ≡ n
+word-encoded p n t at e h =
     ap (λ s. word_at s at) (append_assoc p (u32str n) t) ∙ (word-behind p (u32str n ++ t) at e ∙ word-head n t h)
 
 -- ---- lengths
 
-type-lt : (height : Height) → type_of height < 2 ^ 32
+type-lt : (height : Height) → typecode_of height < 2 ^ 32
 type-lt H5 = omega arith
 type-lt H10 = omega arith
 
@@ -57,28 +57,28 @@ length-signature_of id leaf secret message =
     let q : List ℕ = message_hash id leaf c message in
     let f : ℕ → List ℕ = λ i. Rattle.lms_ots.specs.Ots.chain id leaf i 0 (digit q i) (chain_start id leaf secret i) in
     let each : (i : ℕ) → length (f i) ≡ 32 = λ i. length-chain id leaf i 0 (digit q i) _ (length-tagged_hash id leaf i _) in
-    omega (arith, length-append (u32str 3 ++ c) (joined f 67), length-append (u32str 3) c, length-u32str 3, length-tagged_hash id leaf 0xfffd (0xff ∷ secret), length-joined f 32 67 each)
+    omega (arith, length-append (u32str 3 ++ c) (concatenation f 67), length-append (u32str 3) c, length-u32str 3, length-tagged_hash id leaf 0xfffd (0xff ∷ secret), length-concatenation f 32 67 each)
 
 -- ---- the parts of a key
 
-height_named-type : (height : Height) → height_named (type_of height) ≡ Some height
-height_named-type H5 = refl
-height_named-type H10 = refl
+height_of_typecode-type : (height : Height) → height_of_typecode (typecode_of height) ≡ Some height
+height_of_typecode-type H5 = refl
+height_of_typecode-type H10 = refl
 
 -- the types of a signer's key are known
 pub key_height-public_key : (height : Height) (id secret : List ℕ) → key_height (public_key_of height id secret) ≡ Some height
 key_height-public_key height id secret =
-    let t : List ℕ = u32str (type_of height) in
+    let t : List ℕ = u32str (typecode_of height) in
     let o : List ℕ = u32str 3 in
     let root : List ℕ = tree_node (levels_of height) id secret 1 in
     let key : List ℕ = t ++ o ++ id ++ root in
     let fourth : word_at key 4 ≡ 3 =
-    ap (λ s. word_at s 4) (append_assoc (t ++ o) id root) ∙ word-spelled t 3 (id ++ root) 4 (length-u32str _) (omega arith) in
-    let first : word_at key 0 ≡ type_of height =
+    ap (λ s. word_at s 4) (append_assoc (t ++ o) id root) ∙ word-encoded t 3 (id ++ root) 4 (length-u32str _) (omega arith) in
+    let first : word_at key 0 ≡ typecode_of height =
     ap (λ s. word_at s 0) (append_assoc (t ++ o) id root ∙ append_assoc t o (id ++ root))
-    ∙ word-head (type_of height) (o ++ (id ++ root)) (type-lt height) in
-    cond-true (nat_eq (word_at key 4) 3) (height_named (word_at key 0)) None (eq-eqb (word_at key 4) 3 fourth)
-    ∙ (ap height_named first ∙ height_named-type height)
+    ∙ word-head (typecode_of height) (o ++ (id ++ root)) (type-lt height) in
+    cond-true (nat_eq (word_at key 4) 3) (height_of_typecode (word_at key 0)) None (eq-eqb (word_at key 4) 3 fourth)
+    ∙ (ap height_of_typecode first ∙ height_of_typecode-type height)
 
 part_id : (t o id root : List ℕ) → length t ≡ 4 → length o ≡ 4 → length id ≡ 16 → key_id (t ++ o ++ id ++ root) ≡ id
 part_id t o id root et eo ei =
@@ -99,10 +99,10 @@ part_ots l o t p el eo =
     ∙ (ap (λ s. take 2180 s) (drop_at l (o ++ (t ++ p)) 4 el) ∙ take_at o (t ++ p) 2180 eo)
 
 part_path : (l : List ℕ) (f : ℕ → List ℕ) (n i : ℕ) → length l ≡ 2188 → ((k : ℕ) → length (f k) ≡ 32) → i < n
-    → path_in (l ++ joined f n) i ≡ f i
+    → path_in (l ++ concatenation f n) i ≡ f i
 part_path l f n i el each h =
-    ap (λ s. take 32 s) (sym (drop-drop (32 * i) 2188 (l ++ joined f n)) ∙ ap (λ s. drop (32 * i) s) (drop_at l (joined f n) 2188 el))
-    ∙ piece-joined f 32 n i each h
+    ap (λ s. take 32 s) (sym (drop-drop (32 * i) 2188 (l ++ concatenation f n)) ∙ ap (λ s. drop (32 * i) s) (drop_at l (concatenation f n) 2188 el))
+    ∙ piece-concatenation f 32 n i each h
 
 -- the type's word of the one-time signature
 ots_word : (l c j r : List ℕ) → length l ≡ 4 → word_at (l ++ (u32str 3 ++ c ++ j) ++ r) 4 ≡ 3
@@ -117,7 +117,7 @@ ots_word l c j r el =
 -- a leaf's candidate and its path lead to the root
 root-signature : (h : ℕ) (id secret message : List ℕ) (leaf : ℕ) (path : ℕ → List ℕ) → leaf < 2 ^ h
     → ((k : ℕ) → k < h → path k ≡ path_node h id secret (2 ^ h + leaf) k)
-    → climbed id (2 ^ h + leaf) (leaf_node id (2 ^ h + leaf) (candidate_of id leaf message (signature_of id leaf secret message))) path h
+    → root_from_path id (2 ^ h + leaf) (leaf_node id (2 ^ h + leaf) (candidate_of id leaf message (signature_of id leaf secret message))) path h
     ≡ tree_node h id secret 1
 root-signature h id secret message leaf path small each =
     let r : ℕ = 2 ^ h + leaf in
@@ -130,8 +130,8 @@ root-signature h id secret message leaf path small each =
     let least : 1 ≤ r / 2 ^ h = le-div 1 r (2 ^ h) (pow_pos h) (omega arith) in
     let most : r / 2 ^ h < 2 = div_below r (2 ^ h) 2 (pow_pos h) high in
     let top : r / 2 ^ h ≡ 1 = omega arith in
-    ap (λ v. climbed id r v path h) value
-    ∙ (climbed-tree h id secret r h path low high (omega arith) each ∙ ap (tree_node h id secret) top)
+    ap (λ v. root_from_path id r v path h) value
+    ∙ (root_from_path-tree h id secret r h path low high (omega arith) each ∙ ap (tree_node h id secret) top)
 
 -- ---- the whole
 
@@ -140,12 +140,12 @@ bytes_same xs ys e = (bytes_eq-Decides xs ys).1 e
 
 -- a signature whose parts are right has no fault
 no_fault : (height : Height) (key message sig : List ℕ) → key_height key ≡ Some height → length sig ≡ 2188 + 32 * levels_of height
-    → word_at sig 4 ≡ 3 → word_at sig 2184 ≡ type_of height → word_at sig 0 < 2 ^ levels_of height
+    → word_at sig 4 ≡ 3 → word_at sig 2184 ≡ typecode_of height → word_at sig 0 < 2 ^ levels_of height
     → candidate_root (levels_of height) (key_id key) message sig ≡ key_root key → signature_fault key message sig ≡ None
 no_fault height key message sig known long ots type leaf root =
     ap (λ o. fault_under o key message sig) known
     ∙ (cond-true (nat_eq (length sig) (2188 + 32 * levels_of height)) _ _ (eq-eqb _ _ long)
-    ∙ (cond-true (nat_eq (word_at sig 4) 3 && nat_eq (word_at sig 2184) (type_of height)) _ _ (and_from _ _ (eq-eqb _ _ ots) (eq-eqb _ _ type))
+    ∙ (cond-true (nat_eq (word_at sig 4) 3 && nat_eq (word_at sig 2184) (typecode_of height)) _ _ (and_from _ _ (eq-eqb _ _ ots) (eq-eqb _ _ type))
     ∙ (cond-false (nat_le (2 ^ levels_of height) (word_at sig 0)) _ _ (lt-leb _ _ leaf)
     ∙ cond-true (bytes_eq (candidate_root (levels_of height) (key_id key) message sig) (key_root key)) _ _ (bytes_same _ _ root))))
 
@@ -155,8 +155,8 @@ pub word-signature : (height : Height) (id secret message : List ℕ) (leaf : �
 word-signature height id secret message leaf small =
     let l : List ℕ = u32str leaf in
     let o : List ℕ = signature_of id leaf secret message in
-    let t : List ℕ = u32str (type_of height) in
-    let p : List ℕ = joined (path_node (levels_of height) id secret (2 ^ levels_of height + leaf)) (levels_of height) in
+    let t : List ℕ = u32str (typecode_of height) in
+    let p : List ℕ = concatenation (path_node (levels_of height) id secret (2 ^ levels_of height + leaf)) (levels_of height) in
     ap (λ s. word_at s 0) (append_assoc (l ++ o) t p ∙ append_assoc l o (t ++ p)) ∙ word-head leaf (o ++ (t ++ p)) (leaf-lt height leaf small)
 
 pub signature-valid : (height : Height) (id secret message : List ℕ) (leaf : ℕ) → length id ≡ 16 → leaf < 2 ^ levels_of height
@@ -166,28 +166,28 @@ signature-valid height id secret message leaf wide small =
     let f : ℕ → List ℕ = path_node h id secret (2 ^ h + leaf) in
     let l : List ℕ = u32str leaf in
     let o : List ℕ = signature_of id leaf secret message in
-    let t : List ℕ = u32str (type_of height) in
-    let s : List ℕ = l ++ o ++ t ++ joined f h in
+    let t : List ℕ = u32str (typecode_of height) in
+    let s : List ℕ = l ++ o ++ t ++ concatenation f h in
     let key : List ℕ = public_key_of height id secret in
     let root : List ℕ = tree_node h id secret 1 in
     let el : length l ≡ 4 = length-u32str leaf in
     let eo : length o ≡ 2180 = length-signature_of id leaf secret message in
-    let et : length t ≡ 4 = length-u32str (type_of height) in
+    let et : length t ≡ 4 = length-u32str (typecode_of height) in
     let each : (k : ℕ) → length (f k) ≡ 32 = λ k. length-tree_node h id secret _ in
     let head : length (l ++ o) ≡ 2184 = omega (arith, length-append l o) in
     let front : length (l ++ o ++ t) ≡ 2188 = omega (arith, length-append (l ++ o) t) in
-    let long : length s ≡ 2188 + 32 * h = omega (arith, length-append (l ++ o ++ t) (joined f h), length-joined f 32 h each) in
-    let named : word_at s 0 ≡ leaf = word-signature height id secret message leaf small in
-    let type : word_at s 2184 ≡ type_of height = word-spelled (l ++ o) (type_of height) (joined f h) 2184 head (type-lt height) in
-    let ots : word_at s 4 ≡ 3 = ap (λ x. word_at x 4) (append_assoc (l ++ o) t (joined f h)) ∙ ots_word l _ _ (t ++ joined f h) el in
+    let long : length s ≡ 2188 + 32 * h = omega (arith, length-append (l ++ o ++ t) (concatenation f h), length-concatenation f 32 h each) in
+    let from_typecode : word_at s 0 ≡ leaf = word-signature height id secret message leaf small in
+    let type : word_at s 2184 ≡ typecode_of height = word-encoded (l ++ o) (typecode_of height) (concatenation f h) 2184 head (type-lt height) in
+    let ots : word_at s 4 ≡ 3 = ap (λ x. word_at x 4) (append_assoc (l ++ o) t (concatenation f h)) ∙ ots_word l _ _ (t ++ concatenation f h) el in
     let same_id : key_id key ≡ id = part_id t (u32str 3) id root et (length-u32str 3) wide in
     let same_root : key_root key ≡ root = part_root t (u32str 3) id root et (length-u32str 3) wide (length-tree_node h id secret 1) in
-    let same_ots : ots_in s ≡ o = part_ots l o t (joined f h) el eo in
+    let same_ots : ots_in s ≡ o = part_ots l o t (concatenation f h) el eo in
     let climb : List ℕ → ℕ → List ℕ → List ℕ =
-    λ i q x. climbed i (2 ^ h + q) (leaf_node i (2 ^ h + q) (candidate_of i q message x)) (path_in s) h in
+    λ i q x. root_from_path i (2 ^ h + q) (leaf_node i (2 ^ h + q) (candidate_of i q message x)) (path_in s) h in
     let reached : candidate_root h (key_id key) message s ≡ root =
     ap (λ i. climb i (word_at s 0) (ots_in s)) same_id
-    ∙ (ap (λ q. climb id q (ots_in s)) named
+    ∙ (ap (λ q. climb id q (ots_in s)) from_typecode
     ∙ (ap (λ x. climb id leaf x) same_ots
     ∙ root-signature h id secret message leaf (path_in s) small (λ k below. part_path (l ++ o ++ t) f h k front each below))) in
     let below : word_at s 0 < 2 ^ h = omega arith in

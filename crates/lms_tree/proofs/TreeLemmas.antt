@@ -6,7 +6,7 @@ use Rattle.std.proofs.Math.Nat.{div-div-eq-div-mul, div-le_self, pow-le-pow_righ
 use Rattle.std.proofs.lemmas.Nat.{le-div, pow_pos}
 use Rattle.lms_ots.specs.Ots.{public_value}
 use Rattle.lms_ots.proofs.Chains.{length-tagged_hash}
-use Rattle.lms_tree.specs.Tree.{climbed, inner_node, leaf_node, node_within, parent, path_node, sibling, tree_node}
+use Rattle.lms_tree.specs.Tree.{root_from_path, inner_node, leaf_node, node_within, parent, path_node, sibling, tree_node}
 
 -- ---- the two cases
 
@@ -88,26 +88,26 @@ parent-tree height id secret n low high =
     elim (cases_lt (n % 2) 1) [
       | inl even ↦
           let here : n ≡ 2 * (n / 2) = omega arith in
-          let beside : sibling n ≡ 2 * (n / 2) + 1 = omega arith in
+          let sibling_node : sibling n ≡ 2 * (n / 2) + 1 = omega arith in
           cond-true (nat_eq (n % 2) 0) _ _ (eq-eqb (n % 2) 0 (omega arith))
           ∙ (ap (λ k. inner_node id (n / 2) (T k) (T (sibling n))) here
-          ∙ (ap (λ k. inner_node id (n / 2) (T (2 * (n / 2))) (T k)) beside ∙ sym above))
+          ∙ (ap (λ k. inner_node id (n / 2) (T (2 * (n / 2))) (T k)) sibling_node ∙ sym above))
       | inr odd ↦
           let here : n ≡ 2 * (n / 2) + 1 = omega arith in
-          let beside : sibling n ≡ 2 * (n / 2) = omega arith in
+          let sibling_node : sibling n ≡ 2 * (n / 2) = omega arith in
           cond-false (nat_eq (n % 2) 0) _ _ (ne_eqb (n % 2) 0 (λ e. omega arith))
           ∙ (ap (λ k. inner_node id (n / 2) (T (sibling n)) (T k)) here
-          ∙ (ap (λ k. inner_node id (n / 2) (T k) (T (2 * (n / 2) + 1))) beside ∙ sym above))
+          ∙ (ap (λ k. inner_node id (n / 2) (T k) (T (2 * (n / 2) + 1))) sibling_node ∙ sym above))
     ]
 
-pub climbed-none : (id : List ℕ) (r : ℕ) (value : List ℕ) (path : ℕ → List ℕ) → climbed id r value path 0 ≡ value
-unfolding climbed
-climbed-none id r value path = refl
+pub root_from_path-none : (id : List ℕ) (r : ℕ) (value : List ℕ) (path : ℕ → List ℕ) → root_from_path id r value path 0 ≡ value
+unfolding root_from_path
+root_from_path-none id r value path = refl
 
-pub climbed-more : (id : List ℕ) (r i : ℕ) (value : List ℕ) (path : ℕ → List ℕ)
-    → climbed id r value path (i + 1) ≡ parent id (r / 2 ^ i) (climbed id r value path i) (path i)
-unfolding climbed
-climbed-more id r i value path = ap (climbed id r value path) (add-one i)
+pub root_from_path-more : (id : List ℕ) (r i : ℕ) (value : List ℕ) (path : ℕ → List ℕ)
+    → root_from_path id r value path (i + 1) ≡ parent id (r / 2 ^ i) (root_from_path id r value path i) (path i)
+unfolding root_from_path
+root_from_path-more id r i value path = ap (root_from_path id r value path) (add-one i)
 
 -- one level more halves the node's number
 pub halved : (r i : ℕ) → r / 2 ^ (i + 1) ≡ r / 2 ^ i / 2
@@ -130,16 +130,16 @@ sibling-in_tree height r i low high within =
     (omega arith, omega arith)
 
 -- the path of node r leads to the nodes above it
-pub climbed-tree : (height : ℕ) (id secret : List ℕ) (r i : ℕ) (path : ℕ → List ℕ) → 2 ^ height ≤ r → r < 2 * 2 ^ height → i ≤ height
+pub root_from_path-tree : (height : ℕ) (id secret : List ℕ) (r i : ℕ) (path : ℕ → List ℕ) → 2 ^ height ≤ r → r < 2 * 2 ^ height → i ≤ height
     → ((k : ℕ) → k < i → path k ≡ path_node height id secret r k)
-    → climbed id r (tree_node height id secret r) path i ≡ tree_node height id secret (r / 2 ^ i)
-unfolding climbed
-climbed-tree height id secret r zero path low high within each = ap (tree_node height id secret) (omega arith)
-climbed-tree height id secret r (suc i) path low high within each =
+    → root_from_path id r (tree_node height id secret r) path i ≡ tree_node height id secret (r / 2 ^ i)
+unfolding root_from_path
+root_from_path-tree height id secret r zero path low high within each = ap (tree_node height id secret) (omega arith)
+root_from_path-tree height id secret r (suc i) path low high within each =
     let T : ℕ → List ℕ = tree_node height id secret in
     let n : ℕ = r / 2 ^ i in
-    let below : climbed id r (T r) path i ≡ T n =
-    climbed-tree height id secret r i path low high (omega arith) (λ k h. each k (omega arith)) in
+    let below : root_from_path id r (T r) path i ≡ T n =
+    root_from_path-tree height id secret r i path low high (omega arith) (λ k h. each k (omega arith)) in
     let twice : 2 ^ suc i ≡ 2 ^ i * 2 = pow-suc 2 i in
     let two : 2 ≤ n = two-above height r i low within in
     let small : n < 2 * 2 ^ height = omega (arith, div-le_self r (2 ^ i)) in

@@ -1,4 +1,4 @@
-pub mod FaultNumber
+pub mod Faults
 pub mod Nodes
 pub mod Tree
 pub mod Signature

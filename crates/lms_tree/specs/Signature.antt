@@ -3,8 +3,8 @@
 use Rattle.std.specs.Prelude.{ℕ, ◌+◌, ◌*◌, ◌^◌, nat_le, ◌==◌, ◌&&◌, List, [], ◌∷◌, ◌++◌, length, take, drop, slice_index, Option, Some, None, if◌then◌else◌}
 use Rattle.std.specs.Int.{w32, from_be_bytes}
 use Rattle.std.specs.Str.{bytes_eq}
-use Rattle.lms_ots.specs.Ots.{candidate_of, joined, signature_of, u32str}
-use Rattle.lms_tree.specs.Tree.{climbed, leaf_node, path_node, tree_node}
+use Rattle.lms_ots.specs.Ots.{candidate_of, concatenation, signature_of, u32str}
+use Rattle.lms_tree.specs.Tree.{root_from_path, leaf_node, path_node, tree_node}
 use Rattle.lms_tree.specs.declared.height.Height.{Height}
 use Rattle.lms_tree.specs.declared.height.Height.TheVariants.{H5, H10}
 use Rattle.lms_tree.specs.declared.fault.SigFault.{SigFault}
@@ -16,27 +16,27 @@ levels_of H5 = 5
 levels_of H10 = 10
 
 -- the type's word: LMS_SHA256_M32_H5 and LMS_SHA256_M32_H10 (5.1)
-abbrev pub type_of : Height → ℕ
-type_of H5 = 5
-type_of H10 = 6
+abbrev pub typecode_of : Height → ℕ
+typecode_of H5 = 5
+typecode_of H10 = 6
 
 -- the type's word of the one-time signatures, LMOTS_SHA256_N32_W4 (4.1)
-abbrev pub ots_type : ℕ
-ots_type = 3
+abbrev pub ots_typecode : ℕ
+ots_typecode = 3
 
 -- ---- what a signer makes
 
 -- u32str (type) || u32str (otstype) || I || T[1] (5.3)
 abbrev pub public_key_of : Height → List ℕ → List ℕ → List ℕ
 public_key_of height id secret =
-    u32str (type_of height) ++ u32str ots_type ++ id ++ tree_node (levels_of height) id secret 1
+    u32str (typecode_of height) ++ u32str ots_typecode ++ id ++ tree_node (levels_of height) id secret 1
 
 -- u32str (q) || lmots_signature || u32str (type) || path[0] || .. || path[h-1] (5.4.1)
 abbrev pub signature_at : Height → List ℕ → List ℕ → ℕ → List ℕ → List ℕ
 signature_at height id secret leaf message =
     let h = levels_of height in
-    u32str leaf ++ signature_of id leaf secret message ++ u32str (type_of height)
-    ++ joined (path_node h id secret (2 ^ h + leaf)) h
+    u32str leaf ++ signature_of id leaf secret message ++ u32str (typecode_of height)
+    ++ concatenation (path_node h id secret (2 ^ h + leaf)) h
 
 -- ---- what a verifier reads
 
@@ -46,12 +46,12 @@ word_at s at = from_be_bytes w32
     (slice_index s at ∷ slice_index s (at + 1) ∷ slice_index s (at + 2) ∷ slice_index s (at + 3) ∷ [])
 
 -- the height that a type's word names
-abbrev pub height_named : ℕ → Option Height
-height_named word = if word == 5 then Some H5 else (if word == 6 then Some H10 else None)
+abbrev pub height_of_typecode : ℕ → Option Height
+height_of_typecode word = if word == 5 then Some H5 else (if word == 6 then Some H10 else None)
 
 -- the height of a public key, if its two types are known
 abbrev pub key_height : List ℕ → Option Height
-key_height key = if word_at key 4 == ots_type then height_named (word_at key 0) else None
+key_height key = if word_at key 4 == ots_typecode then height_of_typecode (word_at key 0) else None
 
 -- I of a public key
 abbrev pub key_id : List ℕ → List ℕ
@@ -74,7 +74,7 @@ abbrev pub candidate_root : ℕ → List ℕ → List ℕ → List ℕ → List 
 candidate_root h id message sig =
     let q = word_at sig 0 in
     let r = 2 ^ h + q in
-    climbed id r (leaf_node id r (candidate_of id q message (ots_in sig))) (path_in sig) h
+    root_from_path id r (leaf_node id r (candidate_of id q message (ots_in sig))) (path_in sig) h
 
 -- what is wrong with a signature under a key of this height, the first of the faults
 abbrev pub fault_under : Option Height → List ℕ → List ℕ → List ℕ → Option SigFault
@@ -82,7 +82,7 @@ fault_under None key message sig = Some WrongType
 fault_under (Some height) key message sig =
     let h = levels_of height in
     if length sig == 2188 + 32 * h
-    then (if word_at sig 4 == ots_type && word_at sig 2184 == type_of height
+    then (if word_at sig 4 == ots_typecode && word_at sig 2184 == typecode_of height
     then (if nat_le (2 ^ h) (word_at sig 0)
     then Some Leaf
     else (if bytes_eq (candidate_root h (key_id key) message sig) (key_root key)

@@ -34,10 +34,10 @@ path_node height id secret r i = tree_node height id secret (sibling (r / 2 ^ i)
 
 -- the node above node r, from that node's value and its sibling's (5.4.2, step 4)
 abbrev pub parent : List ℕ → ℕ → List ℕ → List ℕ → List ℕ
-parent id r value beside =
-    if r % 2 == 0 then inner_node id (r / 2) value beside else inner_node id (r / 2) beside value
+parent id r value sibling_node =
+    if r % 2 == 0 then inner_node id (r / 2) value sibling_node else inner_node id (r / 2) sibling_node value
 
 -- the node i levels above node r, from node r's value and the first i nodes of a path (5.4.2, step 4)
-unfoldable pub climbed : List ℕ → ℕ → List ℕ → (ℕ → List ℕ) → ℕ → List ℕ
-climbed id r value path zero = value
-climbed id r value path (suc i) = parent id (r / 2 ^ i) (climbed id r value path i) (path i)
+unfoldable pub root_from_path : List ℕ → ℕ → List ℕ → (ℕ → List ℕ) → ℕ → List ℕ
+root_from_path id r value path zero = value
+root_from_path id r value path (suc i) = parent id (r / 2 ^ i) (root_from_path id r value path i) (path i)

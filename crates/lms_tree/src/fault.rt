@@ -31,7 +31,7 @@ pub enum SigFault {
 }
 
 impl SignFault {
-    ghost use Rattle.lms_tree.specs.FaultNumber.{sign_fault_number};
+    ghost use Rattle.lms_tree.specs.Faults.{sign_fault_number};
 
     /// The fault's number.
     pub fn number(&self) -> u8
@@ -42,7 +42,7 @@ impl SignFault {
 }
 
 impl SigFault {
-    ghost use Rattle.lms_tree.specs.FaultNumber.{sig_fault_number};
+    ghost use Rattle.lms_tree.specs.Faults.{sig_fault_number};
 
     /// The fault's number.
     pub fn number(&self) -> u8

@@ -10,12 +10,12 @@ pub enum Height {
 }
 
 impl Height {
-    ghost use Rattle.lms_tree.specs.Signature.{height_named, levels_of, type_of};
+    ghost use Rattle.lms_tree.specs.Signature.{height_of_typecode, levels_of, typecode_of};
     ghost use Rattle.lms_tree.specs.SigningState.{leaf_count_of};
 
     // The height that a type's word names.
-    pub(crate) fn named(word: u32) -> Option<Height>
-        ensures { result ≡ height_named word }
+    pub(crate) fn from_typecode(word: u32) -> Option<Height>
+        ensures { result ≡ height_of_typecode word }
     {
         if word == 5 {
             Some(Height::H5)
@@ -37,8 +37,8 @@ impl Height {
     }
 
     // The type's word.
-    pub(crate) fn type_word(self) -> u32
-        ensures { result ≡ type_of self }
+    pub(crate) fn typecode(self) -> u32
+        ensures { result ≡ typecode_of self }
     {
         match self {
             Height::H5 => 5,

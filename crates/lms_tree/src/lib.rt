@@ -10,10 +10,10 @@ pub use height::Height;
 pub use signer::Signer;
 pub use validity::verify;
 
+mod buffer;
 mod fault;
 mod height;
 mod nodes;
-mod pieces;
 mod signature;
 mod signer;
 #[cfg(test)]

@@ -50,13 +50,18 @@ fn inner_node(id: &[u8; 16], node: u32, left: &[u8; 32], right: &[u8; 32]) -> [u
 }
 
 // The node above the node `node`, from that one's value and its sibling's.
-pub(crate) fn parent(id: &[u8; 16], node: u32, value: &[u8; 32], beside: &[u8; 32]) -> [u8; 32]
-    ensures { result ≡ parent id.now node value.now beside.now }
+pub(crate) fn parent(
+    id: &[u8; 16],
+    node: u32,
+    value: &[u8; 32],
+    sibling_node: &[u8; 32],
+) -> [u8; 32]
+    ensures { result ≡ parent id.now node value.now sibling_node.now }
 {
     if node % 2 == 0 {
-        inner_node(id, node / 2, value, beside)
+        inner_node(id, node / 2, value, sibling_node)
     } else {
-        inner_node(id, node / 2, beside, value)
+        inner_node(id, node / 2, sibling_node, value)
     }
 }
 

@@ -6,8 +6,8 @@ ghost use Rattle.lms_tree.specs.Signature.{levels_of, public_key_of, signature_a
 ghost use Rattle.lms_tree.specs.SigningState.{leaf_count_of};
 ghost use Rattle.lms_tree.specs.Tree.{sibling};
 
+use crate::buffer::u32str;
 use crate::height::Height;
-use crate::pieces::u32str;
 use lms_ots::ots_sign;
 use std::alloc::{AllocError, Global};
 
@@ -36,18 +36,18 @@ pub(crate) fn signature(
 ) -> Result<Vec<u8>, AllocError>
     requires leaf { leaf < leaf_count_of height }
     requires nodes { IsTree (levels_of height) id.now secret.now nodes.now }
-    ensures spelled { IfOk result (λ sig. sig.items ≡ signature_at height id.now secret.now leaf body.now) }
+    ensures encoded { IfOk result (λ sig. sig.items ≡ signature_at height id.now secret.now leaf body.now) }
     ensures valid { IfOk result (λ sig. signature_fault (public_key_of height id.now secret.now) body.now sig.items ≡ None) }
     ensures names_leaf { IfOk result (λ sig. word_at sig.items 0 ≡ leaf) }
 {
     let mut signature = Vec::with_capacity(alloc, height.signature_len())?;
     signature.extend_from_slice(&u32str(leaf))?;
     signature.extend_from_slice(&ots_sign(id, leaf, secret, body))?;
-    signature.extend_from_slice(&u32str(height.type_word()))?;
+    signature.extend_from_slice(&u32str(height.typecode()))?;
     let first = (height.leaf_count() + leaf) as usize;
     'path: for i in 0..height.levels() {
-        let beside = sibling(nodes, first >> i);
-        signature.extend_from_slice(&beside)?;
+        let sibling_node = sibling(nodes, first >> i);
+        signature.extend_from_slice(&sibling_node)?;
     }
     Ok(signature)
 }

@@ -1,15 +1,15 @@
 ghost use Rattle.std.specs.Prelude.{◌≡◌, ℕ, ◌+◌, ◌-◌, ◌^◌, ◌<◌, ◌≤◌, ◌↔◌, IfOk, IsErrOf, OnErr, OnOk, None};
 
+use crate::buffer::{put, u32str};
 use crate::fault::SignFault;
 use crate::height::Height;
 use crate::nodes::tree_nodes;
-use crate::pieces::{put, u32str};
 use crate::signature::signature;
 use std::alloc::{AllocError, Global};
 use std::marker::Model;
 
 /// The word LMOTS_SHA256_N32_W4 of RFC 8554, section 4.1.
-const OTS_TYPE: u32 = 3;
+const OTS_TYPECODE: u32 = 3;
 
 /// A key pair that signs once for each leaf of its tree, in the leaves' order (RFC 8554, section 5).
 /// It can't be cloned, and never gives out its secret.
@@ -68,8 +68,8 @@ impl Signer {
         ensures { result ≡ public_key_of self.now.height self.now.id self.now.secret }
     {
         let mut key = [0u8; 56];
-        put(&mut key, 0, &u32str(self.height.type_word()));
-        put(&mut key, 4, &u32str(OTS_TYPE));
+        put(&mut key, 0, &u32str(self.height.typecode()));
+        put(&mut key, 4, &u32str(OTS_TYPECODE));
         put(&mut key, 8, &self.id);
         put(&mut key, 24, &self.nodes[1]);
         key

@@ -64,9 +64,9 @@ fn array<const N: usize>(text: &str) -> Result<[u8; N], Fail> {
 }
 
 // The bytes of hex text that is cut into pieces.
-fn joined(alloc: Global, pieces: &[&str]) -> Result<Vec<u8>, Fail> {
+fn concatenation(alloc: Global, buffer: &[&str]) -> Result<Vec<u8>, Fail> {
     let mut bytes = Vec::new(alloc);
-    for piece in pieces {
+    for piece in buffer {
         let part = hex::decode(alloc, *piece)?;
         bytes.extend_from_slice(&part)?;
     }
@@ -75,7 +75,7 @@ fn joined(alloc: Global, pieces: &[&str]) -> Result<Vec<u8>, Fail> {
 
 fn verified(alloc: Global, case: &Case) -> Result<Result<(), SigFault>, Fail> {
     let message = hex::decode(alloc, case.message)?;
-    let signature = joined(alloc, case.signature)?;
+    let signature = concatenation(alloc, case.signature)?;
     Ok(verify(&array(case.key)?, &message, &signature))
 }
 
@@ -131,7 +131,7 @@ fn signatures_of_another_implementation(rt: HostRuntime) -> Result<(), Fail> {
     let second = signer.sign(b"a")?;
     assert_eq!(rt;
         second.as_slice(),
-        joined(rt.alloc(), case.signature)?.as_slice()
+        concatenation(rt.alloc(), case.signature)?.as_slice()
     );
     Ok(())
 }

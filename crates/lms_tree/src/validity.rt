@@ -10,13 +10,13 @@ use crate::nodes::{leaf_node, parent};
 use lms_ots::ots_candidate;
 
 /// The word LMOTS_SHA256_N32_W4 of RFC 8554, section 4.1.
-const OTS_TYPE: u32 = 3;
+const OTS_TYPECODE: u32 = 3;
 
 /// Where the tree's type stands in a signature.
-const TYPE_AT: usize = 2184;
+const TYPECODE_OFFSET: usize = 2184;
 
 /// Where the path begins in a signature.
-const PATH_AT: usize = 2188;
+const PATH_OFFSET: usize = 2188;
 
 // The number in the 4 bytes from place `at` on.
 #[tactic(auto, unfolding(crate::specs::Signature::word_at))]
@@ -41,8 +41,8 @@ fn bytes_at<const N: usize>(bytes: &[u8], at: usize) -> [u8; N]
 fn key_height(key: &[u8; 56]) -> Option<Height>
     ensures { result ≡ key_height key.now }
 {
-    if word_at(key, 4) == OTS_TYPE {
-        Height::named(word_at(key, 0))
+    if word_at(key, 4) == OTS_TYPECODE {
+        Height::from_typecode(word_at(key, 0))
     } else {
         None
     }
@@ -59,8 +59,8 @@ fn candidate_root(height: Height, id: &[u8; 16], body: &[u8], sig: &[u8]) -> [u8
     let first = height.leaf_count() + leaf;
     let mut value = leaf_node(id, first, &ots_candidate(id, leaf, body, &ots));
     'path: for i in 0..height.levels() {
-        let beside: [u8; 32] = bytes_at(sig, PATH_AT + 32 * i);
-        value = parent(id, first >> i, &value, &beside);
+        let sibling_node: [u8; 32] = bytes_at(sig, PATH_OFFSET + 32 * i);
+        value = parent(id, first >> i, &value, &sibling_node);
     }
     value
 }
@@ -88,7 +88,7 @@ pub fn verify(key: &[u8; 56], body: &[u8], sig: &[u8]) -> Result<(), SigFault>
     if sig.len() != height.signature_len() {
         return Err(SigFault::Length);
     }
-    if word_at(sig, 4) != OTS_TYPE || word_at(sig, TYPE_AT) != height.type_word() {
+    if word_at(sig, 4) != OTS_TYPECODE || word_at(sig, TYPECODE_OFFSET) != height.typecode() {
         return Err(SigFault::WrongType);
     }
     if word_at(sig, 0) >= height.leaf_count() {

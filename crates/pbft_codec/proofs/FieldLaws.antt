@@ -10,11 +10,11 @@ use Rattle.pbft_codec.specs.declared.fault.CodecFault.{CodecFault}
 use Rattle.pbft_codec.specs.declared.fault.CodecFault.TheVariants.{Truncated, BadField, NotAscending}
 use Rattle.pbft_codec.specs.declared.signed.Role.{Role}
 use Rattle.pbft_codec.specs.declared.signed.Role.TheVariants.{Replica, Client}
-use Rattle.pbft_codec.specs.Reading.{◌>>=◌, Reading, both, whole, many_at, number_at, number_unless, listed_at, view_at, client_at, sequence_number_at, digest_at, counted_at, count_at, role_at, id_at, filling, signed_at}
-use Rattle.pbft_codec.specs.Shape.{IsNumber, IsView, IsDigest}
-use Rattle.pbft_codec.proofs.Widths.{IsCounted, SignedWidths}
-use Rattle.pbft_codec.specs.Spelling.{role_byte, view, client, number, counted, several, signed}
-use Rattle.pbft_codec.proofs.Forms.{IsBytes, IsBytes-drop, IsBytes-take, IsBytes-rest, bind_ok, guard_ok, ok_is, Takes, Takes-then, IsForm, form_both, form_made, whole_takes, whole_again, AreForms, AllFrom, IsCut, cut}
+use Rattle.pbft_codec.specs.Reading.{◌>>=◌, Reading, pair, whole, many_at, number_at, number_unless, bounded_list_at, view_at, client_at, sequence_number_at, digest_at, length_prefixed_at, count_at, role_at, id_at, framed, signed_at}
+use Rattle.pbft_codec.specs.WellFormed.{IsSequenceNumber, IsView, IsDigest}
+use Rattle.pbft_codec.proofs.Widths.{LengthInRange, SignedWidths}
+use Rattle.pbft_codec.specs.Encoding.{role_byte, view, client, number, length_prefixed, encoded_list, signed}
+use Rattle.pbft_codec.proofs.Forms.{IsBytes, IsBytes-drop, IsBytes-take, IsBytes-rest, bind_ok, guard_ok, ok_is, Takes, Takes-then, IsForm, form_pair, form_map, whole_takes, whole_again, AreForms, AllFrom, IsCut, cut}
 
 -- ---- numbers
 
@@ -47,7 +47,7 @@ number_takes w limit wide bytes x fits e =
     let n-is : from_be_bytes w (take (byte_len w) bytes) ≡ x.0 = ap (λ (p : ℕ × List ℕ). p.0) g.1 in
     let rest-is : drop (byte_len w) bytes ≡ x.1 = ap (λ (p : ℕ × List ℕ). p.1) g.1 in
     let front : to_be_bytes w x.0 ≡ take (byte_len w) bytes = rw (← n-is) (wide.back (take (byte_len w) bytes) (omega (arith, length-take (byte_len w) bytes)) (IsBytes-take (byte_len w) bytes fits)) in
-    (record { parts = rw (front, ← rest-is) (sym (take-append-drop (byte_len w) bytes)); rest_fits = rw (← rest-is) (IsBytes-drop (byte_len w) bytes fits) }, rw (← n-is) (wide.below (take (byte_len w) bytes) (IsBytes-take (byte_len w) bytes fits)))
+    (record { parts = rw (front, ← rest-is) (sym (take-append-drop (byte_len w) bytes)); rest_bytes = rw (← rest-is) (IsBytes-drop (byte_len w) bytes fits) }, rw (← n-is) (wide.below (take (byte_len w) bytes) (IsBytes-take (byte_len w) bytes fits)))
 
 number_again : (w : Width) (limit : ℕ) (wide : IsWide w limit) (n : ℕ) (rest : List ℕ) → n < limit → number_at w (to_be_bytes w n ++ rest) ≡ Ok (n, rest)
 number_again w limit wide n rest lt =
@@ -69,11 +69,11 @@ form_number w limit wide = record {
 
 pub form_view : IsForm view_at view IsView
 unfolding view_at
-form_view = form_made (number_at w32) (to_be_bytes w32) (λ n. n < 2 ^ 32) (λ n. record { 0 = n }) (λ v. v.0) view IsView (λ _. refl) (λ _. refl) (λ n lt. lt) (λ v lt. lt) (form_number w32 (2 ^ 32) wide32)
+form_view = form_map (number_at w32) (to_be_bytes w32) (λ n. n < 2 ^ 32) (λ n. record { 0 = n }) (λ v. v.0) view IsView (λ _. refl) (λ _. refl) (λ n lt. lt) (λ v lt. lt) (form_number w32 (2 ^ 32) wide32)
 
 pub form_client : IsForm client_at client (λ c. c.0 < 2 ^ 32)
 unfolding client_at
-form_client = form_made (number_at w32) (to_be_bytes w32) (λ n. n < 2 ^ 32) (λ n. record { 0 = n }) (λ v. v.0) client (λ c. c.0 < 2 ^ 32) (λ _. refl) (λ _. refl) (λ n lt. lt) (λ v lt. lt) (form_number w32 (2 ^ 32) wide32)
+form_client = form_map (number_at w32) (to_be_bytes w32) (λ n. n < 2 ^ 32) (λ n. record { 0 = n }) (λ v. v.0) client (λ c. c.0 < 2 ^ 32) (λ _. refl) (λ _. refl) (λ n lt. lt) (λ v lt. lt) (form_number w32 (2 ^ 32) wide32)
 
 -- ---- a number with a test behind it
 
@@ -88,15 +88,15 @@ form_unless w limit refused fault P wide means holds = record {
   short = λ n front back fits more e. rw (number_short w limit wide n front back more e) refl;
 }
 
-pub form_sequence_number : IsForm sequence_number_at number IsNumber
+pub form_sequence_number : IsForm sequence_number_at number IsSequenceNumber
 unfolding sequence_number_at
 form_sequence_number =
-    form_made (number_unless w64 (λ n. leb (2 ^ 48) n) BadField) (to_be_bytes w64) (λ n. (n < 2 ^ 48) × (n < 2 ^ 64)) (λ n. record { 0 = n }) (λ n. n.0) number IsNumber (λ _. refl) (λ _. refl) (λ n fits. fits.0) (λ n lt. (lt, omega (arith, lt)))
+    form_map (number_unless w64 (λ n. leb (2 ^ 48) n) BadField) (to_be_bytes w64) (λ n. (n < 2 ^ 48) × (n < 2 ^ 64)) (λ n. record { 0 = n }) (λ n. n.0) number IsSequenceNumber (λ _. refl) (λ _. refl) (λ n fits. fits.0) (λ n lt. (lt, omega (arith, lt)))
     (form_unless w64 (2 ^ 64) (λ n. leb (2 ^ 48) n) BadField (λ n. n < 2 ^ 48) wide64 (λ n e. leb-false _ _ e) (λ n lt. lt-leb _ _ lt))
 
-pub form_count : (most : ℕ) → IsForm (count_at most) (to_be_bytes w32) (λ n. (n ≤ most) × (n < 2 ^ 32))
+pub form_count : (max : ℕ) → IsForm (count_at max) (to_be_bytes w32) (λ n. (n ≤ max) × (n < 2 ^ 32))
 unfolding count_at
-form_count most = form_unless w32 (2 ^ 32) (λ n. ltb most n) BadField (λ n. n ≤ most) wide32 (λ n e. ltb-false _ _ e) (λ n le. le-ltb _ _ le)
+form_count max = form_unless w32 (2 ^ 32) (λ n. ltb max n) BadField (λ n. n ≤ max) wide32 (λ n e. ltb-false _ _ e) (λ n le. le-ltb _ _ le)
 
 pub form_id : (low : ℕ) → IsForm (id_at low) (to_be_bytes w32) (λ n. (low ≤ n) × (n < 2 ^ 32))
 unfolding id_at
@@ -112,7 +112,7 @@ form_digest = record {
       let g = guard_ok (ltb (length bytes) 32) Truncated out x e in
       let long : 32 ≤ length bytes = ltb-false _ _ g.0 in
       let len : length (take 32 bytes) ≡ 32 = omega (arith, length-take 32 bytes) in
-      subst (λ (y : Digest × List ℕ). Takes bytes y.0.0 y.1 × IsDigest y.0) g.1 (record { parts = sym (take-append-drop 32 bytes); rest_fits = IsBytes-drop 32 bytes fits }, len);
+      subst (λ (y : Digest × List ℕ). Takes bytes y.0.0 y.1 × IsDigest y.0) g.1 (record { parts = sym (take-append-drop 32 bytes); rest_bytes = IsBytes-drop 32 bytes fits }, len);
   again = λ d rest len.
       let long : ltb (length (d.0 ++ rest)) 32 ≡ false = le-ltb _ _ (omega (arith, len, length-append d.0 rest)) in
       rw (long, take_at d.0 rest 32 len, drop_at d.0 rest 32 len) refl;
@@ -128,14 +128,14 @@ role_takes (b ∷ rest) x fits e = by_first (eqb b 1) refl where
   by_second : (t : Bool) → eqb b 2 ≡ t → cond t (Ok (Client, rest)) (Err BadField) ≡ Ok x → Takes (b ∷ rest) (role_byte x.0 ∷ []) x.1 × Unit {0}
   by_second true is e' =
       let k : b ≡ 2 = eqb-true _ _ is in
-      subst (λ (y : Role × List ℕ). Takes (b ∷ rest) (role_byte y.0 ∷ []) y.1 × Unit {0}) (ok_is (Client, rest) x e') (record { parts = ap (λ (c : ℕ). c ∷ rest) k; rest_fits = IsBytes-rest b rest fits }, tt)
+      subst (λ (y : Role × List ℕ). Takes (b ∷ rest) (role_byte y.0 ∷ []) y.1 × Unit {0}) (ok_is (Client, rest) x e') (record { parts = ap (λ (c : ℕ). c ∷ rest) k; rest_bytes = IsBytes-rest b rest fits }, tt)
   by_second false is e' = absurd cc
 
   by_first : (t : Bool) → eqb b 1 ≡ t → Takes (b ∷ rest) (role_byte x.0 ∷ []) x.1 × Unit {0}
   by_first true is =
       let k : b ≡ 1 = eqb-true _ _ is in
       let e' : cond true (Ok (Replica, rest)) (cond (eqb b 2) (Ok (Client, rest)) (Err BadField)) ≡ Ok x = subst (λ (t : Bool). cond t (Ok (Replica, rest)) (cond (eqb b 2) (Ok (Client, rest)) (Err BadField)) ≡ Ok x) is e in
-      subst (λ (y : Role × List ℕ). Takes (b ∷ rest) (role_byte y.0 ∷ []) y.1 × Unit {0}) (ok_is (Replica, rest) x e') (record { parts = ap (λ (c : ℕ). c ∷ rest) k; rest_fits = IsBytes-rest b rest fits }, tt)
+      subst (λ (y : Role × List ℕ). Takes (b ∷ rest) (role_byte y.0 ∷ []) y.1 × Unit {0}) (ok_is (Replica, rest) x e') (record { parts = ap (λ (c : ℕ). c ∷ rest) k; rest_bytes = IsBytes-rest b rest fits }, tt)
   by_first false is =
       let e' : cond false (Ok (Replica, rest)) (cond (eqb b 2) (Ok (Client, rest)) (Err BadField)) ≡ Ok x = subst (λ (t : Bool). cond t (Ok (Replica, rest)) (cond (eqb b 2) (Ok (Client, rest)) (Err BadField)) ≡ Ok x) is e in
       by_second (eqb b 2) refl e'
@@ -163,8 +163,8 @@ form_role = record {
 
 -- ---- lengths and bytes
 
-counted_takes : (bytes : List ℕ) (x : List ℕ × List ℕ) → IsBytes bytes → counted_at bytes ≡ Ok x → (Takes bytes (counted x.0) x.1 × IsCounted x.0) × IsBytes x.0
-unfolding counted_at counted
+counted_takes : (bytes : List ℕ) (x : List ℕ × List ℕ) → IsBytes bytes → length_prefixed_at bytes ≡ Ok x → (Takes bytes (length_prefixed x.0) x.1 × LengthInRange x.0) × IsBytes x.0
+unfolding length_prefixed_at length_prefixed
 counted_takes bytes x fits e =
     let b = bind_ok (number_at w32 bytes) (λ n. cond (ltb (length n.1) n.0) (Err Truncated) (Ok (take n.0 n.1, drop n.0 n.1))) x e in
     let n = b.0 in
@@ -172,45 +172,45 @@ counted_takes bytes x fits e =
     let g = guard_ok (ltb (length n.1) n.0) Truncated (take n.0 n.1, drop n.0 n.1) x b.2 in
     let long : n.0 ≤ length n.1 = ltb-false _ _ g.0 in
     let len : length (take n.0 n.1) ≡ n.0 = omega (arith, length-take n.0 n.1) in
-    let second : Takes n.1 (take n.0 n.1) (drop n.0 n.1) = record { parts = sym (take-append-drop n.0 n.1); rest_fits = IsBytes-drop n.0 n.1 t.0.rest_fits } in
-    let both = Takes-then bytes (to_be_bytes w32 n.0) n.1 (take n.0 n.1) (drop n.0 n.1) t.0 second in
-    let all : Takes bytes (counted (take n.0 n.1)) (drop n.0 n.1) = subst (λ (k : ℕ). Takes bytes (to_be_bytes w32 k ++ take n.0 n.1) (drop n.0 n.1)) (sym len) both in
-    subst (λ (p : List ℕ × List ℕ). (Takes bytes (counted p.0) p.1 × IsCounted p.0) × IsBytes p.0) g.1 ((all, omega (arith, t.1)), IsBytes-take n.0 n.1 t.0.rest_fits)
+    let second : Takes n.1 (take n.0 n.1) (drop n.0 n.1) = record { parts = sym (take-append-drop n.0 n.1); rest_bytes = IsBytes-drop n.0 n.1 t.0.rest_bytes } in
+    let pair = Takes-then bytes (to_be_bytes w32 n.0) n.1 (take n.0 n.1) (drop n.0 n.1) t.0 second in
+    let all : Takes bytes (length_prefixed (take n.0 n.1)) (drop n.0 n.1) = subst (λ (k : ℕ). Takes bytes (to_be_bytes w32 k ++ take n.0 n.1) (drop n.0 n.1)) (sym len) pair in
+    subst (λ (p : List ℕ × List ℕ). (Takes bytes (length_prefixed p.0) p.1 × LengthInRange p.0) × IsBytes p.0) g.1 ((all, omega (arith, t.1)), IsBytes-take n.0 n.1 t.0.rest_bytes)
 
-counted_again : (text rest : List ℕ) → IsCounted text → counted_at (counted text ++ rest) ≡ Ok (text, rest)
-unfolding counted_at counted
+counted_again : (text rest : List ℕ) → LengthInRange text → length_prefixed_at (length_prefixed text ++ rest) ≡ Ok (text, rest)
+unfolding length_prefixed_at length_prefixed
 counted_again text rest lt =
     let long : ltb (length (text ++ rest)) (length text) ≡ false = le-ltb _ _ (omega (arith, length-append text rest)) in
     rw (number_again w32 (2 ^ 32) wide32 (length text) (text ++ rest) lt, long, take_at text rest (length text) refl, drop_at text rest (length text) refl) refl
 
-counted_short : (text front back : List ℕ) → IsCounted text → 0 < length back → counted text ≡ front ++ back → counted_at front ≡ Err Truncated
-unfolding counted_at counted
+counted_short : (text front back : List ℕ) → LengthInRange text → 0 < length back → length_prefixed text ≡ front ++ back → length_prefixed_at front ≡ Err Truncated
+unfolding length_prefixed_at length_prefixed
 counted_short text front back lt more e = by_cut (cut (to_be_bytes w32 (length text)) text front back e) where
-  by_cut : IsCut (to_be_bytes w32 (length text)) text front back → counted_at front ≡ Err Truncated
+  by_cut : IsCut (to_be_bytes w32 (length text)) text front back → length_prefixed_at front ≡ Err Truncated
   by_cut (inl p) = rw (number_short w32 (2 ^ 32) wide32 (length text) front p.0 p.1 p.2) refl
   by_cut (inr p) =
       let few : ltb (length p.0) (length text) ≡ true = lt-ltb _ _ (omega (arith, ap length p.2, length-append p.0 back)) in
       rw (p.1, number_again w32 (2 ^ 32) wide32 (length text) p.0 lt, few) refl
 
-pub form_counted : IsForm counted_at counted IsCounted
+pub form_counted : IsForm length_prefixed_at length_prefixed LengthInRange
 form_counted = record {
   takes = λ bytes x fits e. (counted_takes bytes x fits e).0;
   again = counted_again;
   short = counted_short;
 }
 
-pub form_filling : {A : Type 0} (reading : Reading A) (s : A → List ℕ) (F : A → Type 0) → IsForm reading s F → IsForm (filling reading) (λ x. counted (s x)) (λ x. F x × IsCounted (s x))
-unfolding filling
+pub form_filling : {A : Type 0} (reading : Reading A) (s : A → List ℕ) (F : A → Type 0) → IsForm reading s F → IsForm (framed reading) (λ x. length_prefixed (s x)) (λ x. F x × LengthInRange (s x))
+unfolding framed
 form_filling {A} reading s F f = record {
   takes = λ bytes x fits e.
-      let a = bind_ok (counted_at bytes) (λ inside. whole reading inside.0 >>= λ value. Ok (value, inside.1)) x e in
+      let a = bind_ok (length_prefixed_at bytes) (λ inside. whole reading inside.0 >>= λ value. Ok (value, inside.1)) x e in
       let b = bind_ok (whole reading a.0.0) (λ value. Ok (value, a.0.1)) x a.2 in
       let one = counted_takes bytes a.0 fits a.1 in
       let two = whole_takes reading s F a.0.0 b.0 f one.1 b.1 in
       let out : A × List ℕ = (b.0, a.0.1) in
-      let text : Takes bytes (counted (s b.0)) a.0.1 = subst (λ (t : List ℕ). Takes bytes (counted t) a.0.1) two.0 one.0.0 in
-      let len : IsCounted (s b.0) = subst (λ (t : List ℕ). IsCounted t) two.0 one.0.1 in
-      subst (λ (y : A × List ℕ). Takes bytes (counted (s y.0)) y.1 × (F y.0 × IsCounted (s y.0))) (ok_is out x b.2) (text, (two.1, len));
+      let text : Takes bytes (length_prefixed (s b.0)) a.0.1 = subst (λ (t : List ℕ). Takes bytes (length_prefixed t) a.0.1) two.0 one.0.0 in
+      let len : LengthInRange (s b.0) = subst (λ (t : List ℕ). LengthInRange t) two.0 one.0.1 in
+      subst (λ (y : A × List ℕ). Takes bytes (length_prefixed (s y.0)) y.1 × (F y.0 × LengthInRange (s y.0))) (ok_is out x b.2) (text, (two.1, len));
   again = λ x rest fits. rw (counted_again (s x) rest fits.1, whole_again reading s F x f fits.0) refl;
   short = λ x front back fits more e. rw (counted_short (s x) front back fits.1 more e) refl;
 }
@@ -220,34 +220,34 @@ form_filling {A} reading s F f = record {
 pub form_signed : {B : Type 0} (reading : Reading B) (s : B → List ℕ) (F : B → Type 0) (low : ℕ) → IsForm reading s F → IsForm (signed_at reading low) (signed s) (λ m. (low ≤ m.id) × SignedWidths s F m)
 unfolding signed_at signed
 form_signed {B} reading s F low f =
-    form_made (both role_at (both (id_at low) (both (filling reading) counted_at)))
-    (λ p. (role_byte p.0 ∷ []) ++ (to_be_bytes w32 p.1.0 ++ (counted (s p.1.1.0) ++ counted p.1.1.1)))
-    (λ p. Unit {0} × (((low ≤ p.1.0) × (p.1.0 < 2 ^ 32)) × ((F p.1.1.0 × IsCounted (s p.1.1.0)) × IsCounted p.1.1.1)))
+    form_map (pair role_at (pair (id_at low) (pair (framed reading) length_prefixed_at)))
+    (λ p. (role_byte p.0 ∷ []) ++ (to_be_bytes w32 p.1.0 ++ (length_prefixed (s p.1.1.0) ++ length_prefixed p.1.1.1)))
+    (λ p. Unit {0} × (((low ≤ p.1.0) × (p.1.0 < 2 ^ 32)) × ((F p.1.1.0 × LengthInRange (s p.1.1.0)) × LengthInRange p.1.1.1)))
     (λ p. record { role = p.0; id = p.1.0; body = p.1.1.0; sig = p.1.1.1 }) (λ m. (m.role, (m.id, (m.body, m.sig))))
     (signed s) (λ m. (low ≤ m.id) × SignedWidths s F m)
     (λ _. refl) (λ _. refl)
-    (λ p fits. (fits.1.0.0, record { id_fits = fits.1.0.1; body_fits = fits.1.1.0.0; body_counted = fits.1.1.0.1; sig_counted = fits.1.1.1 }))
-    (λ m fits. (tt, ((fits.0, fits.1.id_fits), ((fits.1.body_fits, fits.1.body_counted), fits.1.sig_counted))))
-    (form_both role_at (λ r. role_byte r ∷ []) (λ _. Unit {0}) (both (id_at low) (both (filling reading) counted_at)) (λ p. to_be_bytes w32 p.0 ++ (counted (s p.1.0) ++ counted p.1.1)) (λ p. ((low ≤ p.0) × (p.0 < 2 ^ 32)) × ((F p.1.0 × IsCounted (s p.1.0)) × IsCounted p.1.1)) form_role
-    (form_both (id_at low) (to_be_bytes w32) (λ n. (low ≤ n) × (n < 2 ^ 32)) (both (filling reading) counted_at) (λ p. counted (s p.0) ++ counted p.1) (λ p. (F p.0 × IsCounted (s p.0)) × IsCounted p.1) (form_id low)
-    (form_both (filling reading) (λ x. counted (s x)) (λ x. F x × IsCounted (s x)) counted_at counted IsCounted (form_filling reading s F f) form_counted)))
+    (λ p fits. (fits.1.0.0, record { id_in_range = fits.1.0.1; body_in_range = fits.1.1.0.0; body_length_in_range = fits.1.1.0.1; sig_length_in_range = fits.1.1.1 }))
+    (λ m fits. (tt, ((fits.0, fits.1.id_in_range), ((fits.1.body_in_range, fits.1.body_length_in_range), fits.1.sig_length_in_range))))
+    (form_pair role_at (λ r. role_byte r ∷ []) (λ _. Unit {0}) (pair (id_at low) (pair (framed reading) length_prefixed_at)) (λ p. to_be_bytes w32 p.0 ++ (length_prefixed (s p.1.0) ++ length_prefixed p.1.1)) (λ p. ((low ≤ p.0) × (p.0 < 2 ^ 32)) × ((F p.1.0 × LengthInRange (s p.1.0)) × LengthInRange p.1.1)) form_role
+    (form_pair (id_at low) (to_be_bytes w32) (λ n. (low ≤ n) × (n < 2 ^ 32)) (pair (framed reading) length_prefixed_at) (λ p. length_prefixed (s p.0) ++ length_prefixed p.1) (λ p. (F p.0 × LengthInRange (s p.0)) × LengthInRange p.1) (form_id low)
+    (form_pair (framed reading) (λ x. length_prefixed (s x)) (λ x. F x × LengthInRange (s x)) length_prefixed_at length_prefixed LengthInRange (form_filling reading s F f) form_counted)))
 
 -- ---- lists
 
-pub form_listed : {A : Type 0} (most : ℕ) (reading : ℕ → Reading A) (s : A → List ℕ) (F : ℕ → A → Type 0) (next : A → ℕ) → most < 2 ^ 32 → AreForms reading s F next → IsForm (listed_at most reading next) (several s) (λ xs. (length xs ≤ most) × AllFrom F next 0 xs)
-unfolding several
-form_listed {A} most reading s F next small f = record {
+pub form_listed : {A : Type 0} (max : ℕ) (reading : ℕ → Reading A) (s : A → List ℕ) (F : ℕ → A → Type 0) (next : A → ℕ) → max < 2 ^ 32 → AreForms reading s F next → IsForm (bounded_list_at max reading next) (encoded_list s) (λ xs. (length xs ≤ max) × AllFrom F next 0 xs)
+unfolding encoded_list
+form_listed {A} max reading s F next small f = record {
   takes = λ bytes x fits e.
-      let a = bind_ok (count_at most bytes) (λ n. many_at reading next n.0 0 n.1) x e in
-      let one = (form_count most).takes bytes a.0 fits a.1 in
-      let two = f.takes a.0.0 0 a.0.1 x one.0.rest_fits a.2 in
+      let a = bind_ok (count_at max bytes) (λ n. many_at reading next n.0 0 n.1) x e in
+      let one = (form_count max).takes bytes a.0 fits a.1 in
+      let two = f.takes a.0.0 0 a.0.1 x one.0.rest_bytes a.2 in
       let text = Takes-then bytes (to_be_bytes w32 a.0.0) a.0.1 (flat_map s x.0) x.1 one.0 two.0 in
       (subst (λ (n : ℕ). Takes bytes (to_be_bytes w32 n ++ flat_map s x.0) x.1) (sym two.1.0) text, (omega (arith, two.1.0, one.1.0), two.1.1));
   again = λ xs rest fits.
-      let fit : (length xs ≤ most) × (length xs < 2 ^ 32) = (fits.0, omega (arith, fits.0, small)) in
-      rw (append_assoc (to_be_bytes w32 (length xs)) (flat_map s xs) rest, (form_count most).again (length xs) (flat_map s xs ++ rest) fit) (f.again 0 xs rest fits.1);
+      let fit : (length xs ≤ max) × (length xs < 2 ^ 32) = (fits.0, omega (arith, fits.0, small)) in
+      rw (append_assoc (to_be_bytes w32 (length xs)) (flat_map s xs) rest, (form_count max).again (length xs) (flat_map s xs ++ rest) fit) (f.again 0 xs rest fits.1);
   short = λ xs front back fits more e. by_cut xs front back fits more (cut (to_be_bytes w32 (length xs)) (flat_map s xs) front back e);
 } where
-  by_cut : (xs : List A) (front back : List ℕ) → (length xs ≤ most) × AllFrom F next 0 xs → 0 < length back → IsCut (to_be_bytes w32 (length xs)) (flat_map s xs) front back → listed_at most reading next front ≡ Err Truncated
-  by_cut xs front back fits more (inl p) = rw ((form_count most).short (length xs) front p.0 (fits.0, omega (arith, fits.0, small)) p.1 p.2) refl
-  by_cut xs front back fits more (inr p) = rw (p.1, (form_count most).again (length xs) p.0 (fits.0, omega (arith, fits.0, small))) (f.short 0 xs p.0 back fits.1 more p.2)
+  by_cut : (xs : List A) (front back : List ℕ) → (length xs ≤ max) × AllFrom F next 0 xs → 0 < length back → IsCut (to_be_bytes w32 (length xs)) (flat_map s xs) front back → bounded_list_at max reading next front ≡ Err Truncated
+  by_cut xs front back fits more (inl p) = rw ((form_count max).short (length xs) front p.0 (fits.0, omega (arith, fits.0, small)) p.1 p.2) refl
+  by_cut xs front back fits more (inr p) = rw (p.1, (form_count max).again (length xs) p.0 (fits.0, omega (arith, fits.0, small))) (f.short 0 xs p.0 back fits.1 more p.2)

@@ -7,7 +7,7 @@ use Rattle.std.proofs.lemmas.List.{append-nil, nil_from_length, length-append, l
 use Rattle.std.proofs.lemmas.List.Concat.{flat_map-cons}
 use Rattle.pbft_codec.specs.declared.fault.CodecFault.{CodecFault}
 use Rattle.pbft_codec.specs.declared.fault.CodecFault.TheVariants.{Truncated, Trailing}
-use Rattle.pbft_codec.specs.Reading.{◌>>=◌, Reading, both, made, whole, many_at}
+use Rattle.pbft_codec.specs.Reading.{◌>>=◌, Reading, pair, map, whole, many_at}
 
 abbrev pub IsBytes : List ℕ → Type 0
 IsBytes bytes = (i : ℕ) → get_or bytes i 0 < 256
@@ -48,16 +48,16 @@ ok_is x y e = cc
 -- what a reading took from the front
 pub record Takes (bytes text rest : List ℕ) : Type 0 where
   pub parts : bytes ≡ text ++ rest
-  pub rest_fits : IsBytes rest
+  pub rest_bytes : IsBytes rest
 
 pub Takes-then : (a x b y c : List ℕ) → Takes a x b → Takes b y c → Takes a (x ++ y) c
-Takes-then a x b y c p q = record { parts = p.parts ∙ ap (λ (t : List ℕ). x ++ t) q.parts ∙ sym (append_assoc x y c); rest_fits = q.rest_fits }
+Takes-then a x b y c p q = record { parts = p.parts ∙ ap (λ (t : List ℕ). x ++ t) q.parts ∙ sym (append_assoc x y c); rest_bytes = q.rest_bytes }
 
 -- What is read was spelled so; what is spelled is read again, whatever follows; what is cut off is truncated.
-pub record IsForm {A : Type 0} (reading : Reading A) (spelled : A → List ℕ) (Fits : A → Type 0) : Type 0 where
-  pub takes : (bytes : List ℕ) (x : A × List ℕ) → IsBytes bytes → reading bytes ≡ Ok x → Takes bytes (spelled x.0) x.1 × Fits x.0
-  pub again : (x : A) (rest : List ℕ) → Fits x → reading (spelled x ++ rest) ≡ Ok (x, rest)
-  pub short : (x : A) (front back : List ℕ) → Fits x → 0 < length back → spelled x ≡ front ++ back → reading front ≡ Err Truncated
+pub record IsForm {A : Type 0} (reading : Reading A) (encoded : A → List ℕ) (Readable : A → Type 0) : Type 0 where
+  pub takes : (bytes : List ℕ) (x : A × List ℕ) → IsBytes bytes → reading bytes ≡ Ok x → Takes bytes (encoded x.0) x.1 × Readable x.0
+  pub again : (x : A) (rest : List ℕ) → Readable x → reading (encoded x ++ rest) ≡ Ok (x, rest)
+  pub short : (x : A) (front back : List ℕ) → Readable x → 0 < length back → encoded x ≡ front ++ back → reading front ≡ Err Truncated
 
 -- Two parts that are cut are cut in the first, or behind it.
 abbrev pub IsCut : List ℕ → List ℕ → List ℕ → List ℕ → Type 0
@@ -91,13 +91,13 @@ short_then : {A B C : Type 0} (first : Reading A) (s : A → List ℕ) (F : A �
 short_then first s F second t make x front back form fits more later (inl p) = rw (form.short x front p.0 fits p.1 p.2) refl
 short_then first s F second t make x front back form fits more later (inr p) = rw (p.1, form.again x p.0 fits, later p.0 p.2) refl
 
-pub form_both : {A B : Type 0} (first : Reading A) (s : A → List ℕ) (F : A → Type 0) (second : Reading B) (t : B → List ℕ) (G : B → Type 0) → IsForm first s F → IsForm second t G → IsForm (both first second) (λ p. s p.0 ++ t p.1) (λ p. F p.0 × G p.1)
-form_both {A} {B} first s F second t G f g = record {
+pub form_pair : {A B : Type 0} (first : Reading A) (s : A → List ℕ) (F : A → Type 0) (second : Reading B) (t : B → List ℕ) (G : B → Type 0) → IsForm first s F → IsForm second t G → IsForm (pair first second) (λ p. s p.0 ++ t p.1) (λ p. F p.0 × G p.1)
+form_pair {A} {B} first s F second t G f g = record {
   takes = λ bytes x fits e.
       let a = bind_ok (first bytes) (λ a. second a.1 >>= λ b. Ok ((a.0, b.0), b.1)) x e in
       let b = bind_ok (second a.0.1) (λ b. Ok ((a.0.0, b.0), b.1)) x a.2 in
       let one = f.takes bytes a.0 fits a.1 in
-      let two = g.takes a.0.1 b.0 one.0.rest_fits b.1 in
+      let two = g.takes a.0.1 b.0 one.0.rest_bytes b.1 in
       let out : (A × B) × List ℕ = ((a.0.0, b.0.0), b.0.1) in
       subst (λ (y : (A × B) × List ℕ). Takes bytes (s y.0.0 ++ t y.0.1) y.1 × (F y.0.0 × G y.0.1)) (ok_is out x b.2) (Takes-then bytes (s a.0.0) a.0.1 (t b.0.0) b.0.1 one.0 two.0, (one.1, two.1));
   again = λ x rest fits. rw (append_assoc (s x.0) (t x.1) rest, f.again x.0 (t x.1 ++ rest) fits.0, g.again x.1 rest fits.1) refl;
@@ -107,9 +107,9 @@ form_both {A} {B} first s F second t G f g = record {
 
 -- ---- another value of the same bytes
 
-pub form_made : {A B : Type 0} (reading : Reading A) (s : A → List ℕ) (F : A → Type 0) (make : A → B) (unmake : B → A) (t : B → List ℕ) (G : B → Type 0)
-    → ((b : B) → make (unmake b) ≡ b) → ((a : A) → t (make a) ≡ s a) → ((a : A) → F a → G (make a)) → ((b : B) → G b → F (unmake b)) → IsForm reading s F → IsForm (made make reading) t G
-form_made {A} {B} reading s F make unmake t G eta same to of f = record {
+pub form_map : {A B : Type 0} (reading : Reading A) (s : A → List ℕ) (F : A → Type 0) (make : A → B) (unmake : B → A) (t : B → List ℕ) (G : B → Type 0)
+    → ((b : B) → make (unmake b) ≡ b) → ((a : A) → t (make a) ≡ s a) → ((a : A) → F a → G (make a)) → ((b : B) → G b → F (unmake b)) → IsForm reading s F → IsForm (map make reading) t G
+form_map {A} {B} reading s F make unmake t G eta same to of f = record {
   takes = λ bytes x fits e.
       let a = bind_ok (reading bytes) (λ a. Ok (make a.0, a.1)) x e in
       let one = f.takes bytes a.0 fits a.1 in
@@ -156,15 +156,15 @@ many_takes : {A : Type 0} (reading : ℕ → Reading A) (s : A → List ℕ) (F 
     → Takes bytes (flat_map s x.0) x.1 × ((length x.0 ≡ n) × AllFrom F next low x.0)
 unfolding many_at
 many_takes {A} reading s F next f zero low bytes x fits e =
-    subst (λ (y : List A × List ℕ). Takes bytes (flat_map s y.0) y.1 × ((length y.0 ≡ 0) × AllFrom F next low y.0)) (ok_is ([], bytes) x e) (record { parts = refl; rest_fits = fits }, (refl, tt))
+    subst (λ (y : List A × List ℕ). Takes bytes (flat_map s y.0) y.1 × ((length y.0 ≡ 0) × AllFrom F next low y.0)) (ok_is ([], bytes) x e) (record { parts = refl; rest_bytes = fits }, (refl, tt))
 many_takes {A} reading s F next f (suc n) low bytes x fits e =
     let a = bind_ok (reading low bytes) (λ first. many_at reading next n (next first.0) first.1 >>= λ others. Ok (first.0 ∷ others.0, others.1)) x e in
     let b = bind_ok (many_at reading next n (next a.0.0) a.0.1) (λ others. Ok (a.0.0 ∷ others.0, others.1)) x a.2 in
     let one = (f low).takes bytes a.0 fits a.1 in
-    let two = many_takes reading s F next f n (next a.0.0) a.0.1 b.0 one.0.rest_fits b.1 in
-    let both = Takes-then bytes (s a.0.0) a.0.1 (flat_map s b.0.0) b.0.1 one.0 two.0 in
+    let two = many_takes reading s F next f n (next a.0.0) a.0.1 b.0 one.0.rest_bytes b.1 in
+    let pair = Takes-then bytes (s a.0.0) a.0.1 (flat_map s b.0.0) b.0.1 one.0 two.0 in
     let out : List A × List ℕ = (a.0.0 ∷ b.0.0, b.0.1) in
-    subst (λ (y : List A × List ℕ). Takes bytes (flat_map s y.0) y.1 × ((length y.0 ≡ suc n) × AllFrom F next low y.0)) (ok_is out x b.2) (rw flat_map-cons both, (ap suc two.1.0, (one.1, two.1.1)))
+    subst (λ (y : List A × List ℕ). Takes bytes (flat_map s y.0) y.1 × ((length y.0 ≡ suc n) × AllFrom F next low y.0)) (ok_is out x b.2) (rw flat_map-cons pair, (ap suc two.1.0, (one.1, two.1.1)))
 
 many_again : {A : Type 0} (reading : ℕ → Reading A) (s : A → List ℕ) (F : ℕ → A → Type 0) (next : A → ℕ) → ((low : ℕ) → IsForm (reading low) s (F low)) → (low : ℕ) (xs : List A) (rest : List ℕ) → AllFrom F next low xs → many_at reading next (length xs) low (flat_map s xs ++ rest) ≡ Ok (xs, rest)
 unfolding many_at

@@ -1,5 +1,5 @@
-pub mod FaultNumber
+pub mod Faults
 pub mod Kinds
-pub mod Spelling
-pub mod Shape
+pub mod Encoding
+pub mod WellFormed
 pub mod Reading

@@ -11,18 +11,18 @@ use Rattle.host_types.specs.declared.SeqNo.{SeqNo}
 use Rattle.host_types.specs.declared.View.{View}
 use Rattle.pbft_codec.specs.declared.body.Body.{Body}
 use Rattle.pbft_codec.specs.declared.body.Body.TheVariants as bodies
-use Rattle.pbft_codec.specs.declared.body.Certificate.{Certificate}
-use Rattle.pbft_codec.specs.declared.body.Checkpoint.{Checkpoint}
-use Rattle.pbft_codec.specs.declared.body.Commit.{Commit}
-use Rattle.pbft_codec.specs.declared.body.Fetch.{Fetch}
-use Rattle.pbft_codec.specs.declared.body.Fetch.TheVariants as fetches
-use Rattle.pbft_codec.specs.declared.body.NewView.{NewView}
-use Rattle.pbft_codec.specs.declared.body.PrePrepare.{PrePrepare}
-use Rattle.pbft_codec.specs.declared.body.Prepare.{Prepare}
-use Rattle.pbft_codec.specs.declared.body.ReplyBody.{ReplyBody}
-use Rattle.pbft_codec.specs.declared.body.RequestBody.{RequestBody}
-use Rattle.pbft_codec.specs.declared.body.Snapshot.{Snapshot}
-use Rattle.pbft_codec.specs.declared.body.ViewChange.{ViewChange}
+use Rattle.pbft_codec.specs.declared.body.certificate.Certificate.{Certificate}
+use Rattle.pbft_codec.specs.declared.body.checkpoint.Checkpoint.{Checkpoint}
+use Rattle.pbft_codec.specs.declared.body.commit.Commit.{Commit}
+use Rattle.pbft_codec.specs.declared.body.fetch.Fetch.{Fetch}
+use Rattle.pbft_codec.specs.declared.body.fetch.Fetch.TheVariants as fetches
+use Rattle.pbft_codec.specs.declared.body.new_view.NewView.{NewView}
+use Rattle.pbft_codec.specs.declared.body.pre_prepare.PrePrepare.{PrePrepare}
+use Rattle.pbft_codec.specs.declared.body.prepare.Prepare.{Prepare}
+use Rattle.pbft_codec.specs.declared.body.reply.ReplyBody.{ReplyBody}
+use Rattle.pbft_codec.specs.declared.body.request.RequestBody.{RequestBody}
+use Rattle.pbft_codec.specs.declared.body.snapshot.Snapshot.{Snapshot}
+use Rattle.pbft_codec.specs.declared.body.view_change.ViewChange.{ViewChange}
 use Rattle.pbft_codec.specs.declared.fault.CodecFault.{CodecFault}
 use Rattle.pbft_codec.specs.declared.fault.CodecFault.TheVariants.{Truncated, Trailing, BadKind, BadField, TooLong, NotAscending, Memory}
 use Rattle.pbft_codec.specs.declared.fault.ReadError.{ReadError}
@@ -33,7 +33,7 @@ use Rattle.pbft_codec.specs.declared.signed.Role.{Role}
 use Rattle.pbft_codec.specs.declared.signed.Role.TheVariants.{Replica, Client}
 use Rattle.pbft_codec.specs.declared.signed.Signed.{Signed}
 use Rattle.pbft_codec.specs.Kinds.{kind_byte, kind_of}
-use Rattle.pbft_codec.specs.Spelling.{most_bytes}
+use Rattle.pbft_codec.specs.Encoding.{max_bytes}
 
 infixl 10 ◌>>=◌
 abbrev pub ◌>>=◌ : {A B : Type 0} → Result A CodecFault → (A → Result B CodecFault) → Result B CodecFault
@@ -62,15 +62,15 @@ abbrev pub Reading : Type 0 → Type 0
 Reading A = List ℕ → Result (A × List ℕ) CodecFault
 
 -- One field and then another.
-abbrev pub both : {A B : Type 0} → Reading A → Reading B → Reading (A × B)
-both first second bytes = do
+abbrev pub pair : {A B : Type 0} → Reading A → Reading B → Reading (A × B)
+pair first second bytes = do
   a ← first bytes
   b ← second a.1
   Ok ((a.0, b.0), b.1)
 
 -- What is read, made into another value.
-abbrev pub made : {A B : Type 0} → (A → B) → Reading A → Reading B
-made make reading bytes = do
+abbrev pub map : {A B : Type 0} → (A → B) → Reading A → Reading B
+map make reading bytes = do
   a ← reading bytes
   Ok (make a.0, a.1)
 
@@ -96,10 +96,10 @@ number_at w bytes =
     else Ok (from_be_bytes w (take (byte_len w) bytes), drop (byte_len w) bytes)
 
 unfoldable pub view_at : Reading View
-view_at = made (λ n. record { 0 = n }) (number_at w32)
+view_at = map (λ n. record { 0 = n }) (number_at w32)
 
 unfoldable pub client_at : Reading ClientId
-client_at = made (λ n. record { 0 = n }) (number_at w32)
+client_at = map (λ n. record { 0 = n }) (number_at w32)
 
 -- A number that passes a test.
 abbrev pub number_unless : Width → (ℕ → Bool) → CodecFault → Reading ℕ
@@ -109,20 +109,20 @@ number_unless w refused fault bytes = do
 
 -- A sequence number: below 2^48.
 unfoldable pub sequence_number_at : Reading SeqNo
-sequence_number_at = made (λ n. record { 0 = n }) (number_unless w64 (λ n. nat_le (2 ^ 48) n) BadField)
+sequence_number_at = map (λ n. record { 0 = n }) (number_unless w64 (λ n. nat_le (2 ^ 48) n) BadField)
 
 unfoldable pub digest_at : Reading Digest
 digest_at bytes = if nat_lt (length bytes) 32 then Err Truncated else Ok (record { 0 = take 32 bytes }, drop 32 bytes)
 
 -- A length, and so many bytes. A length that reaches past the end is judged at once.
-unfoldable pub counted_at : Reading (List ℕ)
-counted_at bytes = do
+unfoldable pub length_prefixed_at : Reading (List ℕ)
+length_prefixed_at bytes = do
   n ← number_at w32 bytes
   if nat_lt (length n.1) n.0 then Err Truncated else Ok (take n.0 n.1, drop n.0 n.1)
 
 -- A count, at most this one.
 unfoldable pub count_at : ℕ → Reading ℕ
-count_at most = number_unless w32 (λ n. nat_lt most n) BadField
+count_at max = number_unless w32 (λ n. nat_lt max n) BadField
 
 unfoldable pub role_at : Reading Role
 role_at [] = Err Truncated
@@ -133,31 +133,31 @@ unfoldable pub id_at : ℕ → Reading ℕ
 id_at low = number_unless w32 (λ n. nat_lt n low) NotAscending
 
 -- A length, and so many bytes, which a value fills.
-unfoldable pub filling : {A : Type 0} → Reading A → Reading A
-filling reading bytes = do
-  inside ← counted_at bytes
+unfoldable pub framed : {A : Type 0} → Reading A → Reading A
+framed reading bytes = do
+  inside ← length_prefixed_at bytes
   value ← whole reading inside.0
   Ok (value, inside.1)
 
 -- A signed body: the signer's role and id, the body, the signature.
 unfoldable pub signed_at : {B : Type 0} → Reading B → ℕ → Reading (Signed B)
 signed_at body low =
-    made (λ p. record { role = p.0; id = p.1.0; body = p.1.1.0; sig = p.1.1.1 })
-    (both role_at (both (id_at low) (both (filling body) counted_at)))
+    map (λ p. record { role = p.0; id = p.1.0; body = p.1.1.0; sig = p.1.1.1 })
+    (pair role_at (pair (id_at low) (pair (framed body) length_prefixed_at)))
 
 -- A count, at most this one, and so many values.
-abbrev pub listed_at : {A : Type 0} → ℕ → (ℕ → Reading A) → (A → ℕ) → Reading (List A)
-listed_at most reading next bytes = do
-  n ← count_at most bytes
+abbrev pub bounded_list_at : {A : Type 0} → ℕ → (ℕ → Reading A) → (A → ℕ) → Reading (List A)
+bounded_list_at max reading next bytes = do
+  n ← count_at max bytes
   many_at reading next n.0 0 n.1
 
 -- Signed bodies with ids that ascend strictly.
 unfoldable pub ascending_at : {B : Type 0} → ℕ → Reading B → Reading (List (Signed B))
-ascending_at most body = listed_at most (signed_at body) (λ m. m.id + 1)
+ascending_at max body = bounded_list_at max (signed_at body) (λ m. m.id + 1)
 
 -- Values in any order.
-unfoldable pub several_at : {A : Type 0} → ℕ → Reading A → Reading (List A)
-several_at most reading = listed_at most (λ _. reading) (λ _. 0)
+unfoldable pub list_at : {A : Type 0} → ℕ → Reading A → Reading (List A)
+list_at max reading = bounded_list_at max (λ _. reading) (λ _. 0)
 
 -- The bytes behind the byte of this kind.
 unfoldable pub behind : Kind → List ℕ → Result (List ℕ) CodecFault
@@ -176,69 +176,69 @@ kind_at kind fields bytes = do
 -- ---- bodies, behind the byte of their kind
 
 unfoldable pub request_at : Reading RequestBody
-request_at = made (λ p. record { time = p.0; op = p.1 }) (both (number_at w64) counted_at)
+request_at = map (λ p. record { time = p.0; op = p.1 }) (pair (number_at w64) length_prefixed_at)
 
 -- A view, a number and a digest.
-abbrev pub place_at : Reading (View × (SeqNo × Digest))
-place_at = both view_at (both sequence_number_at digest_at)
+abbrev pub proposal_at : Reading (View × (SeqNo × Digest))
+proposal_at = pair view_at (pair sequence_number_at digest_at)
 
 unfoldable pub pre_prepare_at : Reading PrePrepare
-pre_prepare_at = made (λ p. record { view = p.0; number = p.1.0; digest = p.1.1 }) place_at
+pre_prepare_at = map (λ p. record { view = p.0; number = p.1.0; digest = p.1.1 }) proposal_at
 
 unfoldable pub prepare_at : Reading Prepare
-prepare_at = made (λ p. record { view = p.0; number = p.1.0; digest = p.1.1 }) place_at
+prepare_at = map (λ p. record { view = p.0; number = p.1.0; digest = p.1.1 }) proposal_at
 
 unfoldable pub commit_at : Reading Commit
-commit_at = made (λ p. record { view = p.0; number = p.1.0; digest = p.1.1 }) place_at
+commit_at = map (λ p. record { view = p.0; number = p.1.0; digest = p.1.1 }) proposal_at
 
 unfoldable pub reply_at : Reading ReplyBody
 reply_at =
-    made (λ p. record { view = p.0; client = p.1.0; time = p.1.1.0; number = p.1.1.1.0; result = p.1.1.1.1 })
-    (both view_at (both client_at (both (number_at w64) (both sequence_number_at counted_at))))
+    map (λ p. record { view = p.0; client = p.1.0; time = p.1.1.0; number = p.1.1.1.0; result = p.1.1.1.1 })
+    (pair view_at (pair client_at (pair (number_at w64) (pair sequence_number_at length_prefixed_at))))
 
 unfoldable pub checkpoint_at : Reading Checkpoint
-checkpoint_at = made (λ p. record { number = p.0; digest = p.1 }) (both sequence_number_at digest_at)
+checkpoint_at = map (λ p. record { number = p.0; digest = p.1 }) (pair sequence_number_at digest_at)
 
 unfoldable pub certificate_at : Reading Certificate
 certificate_at =
-    made (λ p. record { pre_prepare = p.0; prepares = p.1 })
-    (both (signed_at (kind_at kinds.PrePrepare pre_prepare_at) 0) (ascending_at 10 (kind_at kinds.Prepare prepare_at)))
+    map (λ p. record { pre_prepare = p.0; prepares = p.1 })
+    (pair (signed_at (kind_at kinds.PrePrepare pre_prepare_at) 0) (ascending_at 10 (kind_at kinds.Prepare prepare_at)))
 
 unfoldable pub view_change_at : Reading ViewChange
 view_change_at =
-    made (λ p. record { view = p.0; low = p.1.0; checkpoints = p.1.1.0; certificates = p.1.1.1 })
-    (both view_at (both sequence_number_at
-    (both (ascending_at 10 (kind_at kinds.Checkpoint checkpoint_at)) (several_at 16 certificate_at))))
+    map (λ p. record { view = p.0; low = p.1.0; checkpoints = p.1.1.0; certificates = p.1.1.1 })
+    (pair view_at (pair sequence_number_at
+    (pair (ascending_at 10 (kind_at kinds.Checkpoint checkpoint_at)) (list_at 16 certificate_at))))
 
 unfoldable pub new_view_at : Reading NewView
 new_view_at =
-    made (λ p. record { view = p.0; changes = p.1.0; pre_prepares = p.1.1 })
-    (both view_at (both (ascending_at 10 (kind_at kinds.ViewChange view_change_at))
-    (several_at 16 (signed_at (kind_at kinds.PrePrepare pre_prepare_at) 0))))
+    map (λ p. record { view = p.0; changes = p.1.0; pre_prepares = p.1.1 })
+    (pair view_at (pair (ascending_at 10 (kind_at kinds.ViewChange view_change_at))
+    (list_at 16 (signed_at (kind_at kinds.PrePrepare pre_prepare_at) 0))))
 
 unfoldable pub fetch_at : Reading Fetch
 fetch_at [] = Err Truncated
 fetch_at (selector ∷ rest) =
-    if selector == 1 then made fetches.Request digest_at rest
-    else if selector == 2 then made fetches.State sequence_number_at rest
+    if selector == 1 then map fetches.Request digest_at rest
+    else if selector == 2 then map fetches.State sequence_number_at rest
     else Err BadField
 
 unfoldable pub snapshot_at : Reading Snapshot
-snapshot_at = made (λ p. record { number = p.0; state = p.1 }) (both sequence_number_at counted_at)
+snapshot_at = map (λ p. record { number = p.0; state = p.1 }) (pair sequence_number_at length_prefixed_at)
 
 -- ---- messages
 
 unfoldable pub fields_at : Kind → Reading Body
-fields_at kinds.Request = made bodies.Request request_at
-fields_at kinds.PrePrepare = made bodies.PrePrepare pre_prepare_at
-fields_at kinds.Prepare = made bodies.Prepare prepare_at
-fields_at kinds.Commit = made bodies.Commit commit_at
-fields_at kinds.Reply = made bodies.Reply reply_at
-fields_at kinds.Checkpoint = made bodies.Checkpoint checkpoint_at
-fields_at kinds.ViewChange = made bodies.ViewChange view_change_at
-fields_at kinds.NewView = made bodies.NewView new_view_at
-fields_at kinds.Fetch = made bodies.Fetch fetch_at
-fields_at kinds.Snapshot = made bodies.Snapshot snapshot_at
+fields_at kinds.Request = map bodies.Request request_at
+fields_at kinds.PrePrepare = map bodies.PrePrepare pre_prepare_at
+fields_at kinds.Prepare = map bodies.Prepare prepare_at
+fields_at kinds.Commit = map bodies.Commit commit_at
+fields_at kinds.Reply = map bodies.Reply reply_at
+fields_at kinds.Checkpoint = map bodies.Checkpoint checkpoint_at
+fields_at kinds.ViewChange = map bodies.ViewChange view_change_at
+fields_at kinds.NewView = map bodies.NewView new_view_at
+fields_at kinds.Fetch = map bodies.Fetch fetch_at
+fields_at kinds.Snapshot = map bodies.Snapshot snapshot_at
 
 abbrev pub known_at : Option Kind → Reading Body
 known_at None bytes = Err BadKind
@@ -251,4 +251,4 @@ body_at (b ∷ rest) = known_at (kind_of b) rest
 
 -- The message that the bytes spell, all of the bytes, or the first fault.
 unfoldable pub reading : List ℕ → Result (Signed Body) CodecFault
-reading bytes = if nat_lt most_bytes (length bytes) then Err TooLong else whole (signed_at body_at 0) bytes
+reading bytes = if nat_lt max_bytes (length bytes) then Err TooLong else whole (signed_at body_at 0) bytes

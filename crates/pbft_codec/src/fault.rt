@@ -32,7 +32,7 @@ pub enum CodecFault {
 }
 
 impl CodecFault {
-    ghost use Rattle.pbft_codec.specs.FaultNumber.{number_of};
+    ghost use Rattle.pbft_codec.specs.Faults.{number_of};
 
     /// The fault's number.
     pub fn number(&self) -> u8

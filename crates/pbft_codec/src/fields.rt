@@ -2,7 +2,7 @@
 
 ghost use Rattle.std.specs.Prelude.{List, length};
 ghost use Rattle.std.specs.Int.{w32, w64};
-ghost use Rattle.pbft_codec.specs.Reading.{Gives, number_at, view_at, client_at, sequence_number_at, digest_at, counted_at, count_at, role_at, id_at};
+ghost use Rattle.pbft_codec.specs.Reading.{Gives, number_at, view_at, client_at, sequence_number_at, digest_at, length_prefixed_at, count_at, role_at, id_at};
 
 use crate::fault::{CodecFault, ReadError};
 use crate::signed::Role;
@@ -10,7 +10,7 @@ use host_types::{Bytes, ClientId, Digest, SeqNo, View};
 use std::alloc::Global;
 
 /// Sequence numbers are below this.
-const NUMBERS: u64 = 1 << 48;
+const SEQUENCE_NUMBER_LIMIT: u64 = 1 << 48;
 
 pub fn read_u32(bytes: &[u8]) -> Result<(u32, &[u8]), ReadError>
     ensures { Gives (λ x. (x.0, x.1.now)) result (number_at w32 bytes.now) }
@@ -57,7 +57,7 @@ pub fn read_sequence_number(bytes: &[u8]) -> Result<(SeqNo, &[u8]), ReadError>
     ensures { Gives (λ x. (x.0, x.1.now)) result (sequence_number_at bytes.now) }
 {
     let (number, rest) = read_u64(bytes)?;
-    if number >= NUMBERS {
+    if number >= SEQUENCE_NUMBER_LIMIT {
         return Err(ReadError::Fault(CodecFault::BadField));
     }
     Ok((SeqNo(number), rest))
@@ -77,9 +77,9 @@ pub fn read_digest(bytes: &[u8]) -> Result<(Digest, &[u8]), ReadError>
 }
 
 /// A length and so many bytes, which are not copied.
-#[tactic(auto, unfolding(crate::specs::Reading::counted_at))]
-pub fn read_counted(bytes: &[u8]) -> Result<(&[u8], &[u8]), ReadError>
-    ensures { Gives (λ x. (x.0.now, x.1.now)) result (counted_at bytes.now) }
+#[tactic(auto, unfolding(crate::specs::Reading::length_prefixed_at))]
+pub fn read_length_prefixed(bytes: &[u8]) -> Result<(&[u8], &[u8]), ReadError>
+    ensures { Gives (λ x. (x.0.now, x.1.now)) result (length_prefixed_at bytes.now) }
 {
     let (length, rest) = read_u32(bytes)?;
     let length = length as usize;
@@ -92,20 +92,20 @@ pub fn read_counted(bytes: &[u8]) -> Result<(&[u8], &[u8]), ReadError>
 
 /// A length and so many bytes, which are copied in one go.
 pub fn read_bytes(alloc: Global, bytes: &[u8]) -> Result<(Bytes, &[u8]), ReadError>
-    ensures { Gives (λ x. (x.0, x.1.now)) result (counted_at bytes.now) }
+    ensures { Gives (λ x. (x.0, x.1.now)) result (length_prefixed_at bytes.now) }
 {
-    let (inside, rest) = read_counted(bytes)?;
+    let (inside, rest) = read_length_prefixed(bytes)?;
     let copy = Vec::from_slice(alloc, inside)?;
     Ok((Bytes::from_vec(copy), rest))
 }
 
 /// A count, at most this one.
 #[tactic(auto, unfolding(crate::specs::Reading::count_at))]
-pub fn read_count(most: u32, bytes: &[u8]) -> Result<(u32, &[u8]), ReadError>
-    ensures { Gives (λ x. (x.0, x.1.now)) result (count_at most bytes.now) }
+pub fn read_count(max: u32, bytes: &[u8]) -> Result<(u32, &[u8]), ReadError>
+    ensures { Gives (λ x. (x.0, x.1.now)) result (count_at max bytes.now) }
 {
     let (count, rest) = read_u32(bytes)?;
-    if count > most {
+    if count > max {
         return Err(ReadError::Fault(CodecFault::BadField));
     }
     Ok((count, rest))

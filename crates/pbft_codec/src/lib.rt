@@ -8,7 +8,7 @@
 
 mod bodies;
 mod body;
-mod content;
+mod codec;
 mod fault;
 mod fields;
 mod kind;
@@ -26,7 +26,7 @@ pub use body::{
     ViewChanges,
 };
 pub use fault::CodecFault;
-pub use laws::{bytes_spell_one_message, signed_bytes_tell_signer_and_body};
+pub use laws::{bytes_encode_one_message, signed_bytes_determine_signer_and_body};
 pub use message::{decode, encode, signed_bytes};
 pub use sequence::Sequence;
 pub use signed::{Role, Signed};

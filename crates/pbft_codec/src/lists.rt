@@ -1,21 +1,21 @@
 //! Signed bodies and lists.
 
 ghost use Rattle.std.specs.Prelude.{◌≡◌, List, ℕ, ◌+◌, ◌++◌, Result, OnOk};
-ghost use Rattle.pbft_codec.specs.Reading.{Gives, whole, filling, signed_at, many_at, ascending_at, several_at};
+ghost use Rattle.pbft_codec.specs.Reading.{Gives, whole, framed, signed_at, many_at, ascending_at, list_at};
 ghost use Rattle.std.specs.List.{AllByRecursion};
-ghost use Rattle.pbft_codec.specs.Shape.{SignedInRange};
-ghost use Rattle.pbft_codec.specs.Spelling.{signed, several};
+ghost use Rattle.pbft_codec.specs.WellFormed.{SignedFieldsInRange};
+ghost use Rattle.pbft_codec.specs.Encoding.{signed, encoded_list};
 
-use crate::content::Content;
+use crate::codec::Codec;
 use crate::fault::{CodecFault, ReadError};
-use crate::fields::{read_bytes, read_count, read_counted, read_id, read_role};
+use crate::fields::{read_bytes, read_count, read_id, read_length_prefixed, read_role};
 use crate::sequence::Sequence;
 use crate::signed::Signed;
-use crate::writing::{put_counted, put_length, put_role, put_u32};
+use crate::writing::{put_length, put_length_prefixed, put_role, put_u32};
 use std::alloc::{AllocError, Global};
 
 /// A value that fills the bytes.
-pub fn read_whole<T: Content>(alloc: Global, bytes: &[u8]) -> Result<T, ReadError>
+pub fn read_whole<T: Codec>(alloc: Global, bytes: &[u8]) -> Result<T, ReadError>
     ensures { Gives (λ x. x) result (whole T.reading bytes.now) }
 {
     let (value, rest) = T::read(alloc, bytes)?;
@@ -26,18 +26,18 @@ pub fn read_whole<T: Content>(alloc: Global, bytes: &[u8]) -> Result<T, ReadErro
 }
 
 /// A length, and so many bytes, which a value fills.
-#[tactic(auto, unfolding(crate::specs::Reading::filling))]
-fn read_filling<T: Content>(alloc: Global, bytes: &[u8]) -> Result<(T, &[u8]), ReadError>
-    ensures { Gives (λ x. (x.0, x.1.now)) result (filling T.reading bytes.now) }
+#[tactic(auto, unfolding(crate::specs::Reading::framed))]
+fn read_framed<T: Codec>(alloc: Global, bytes: &[u8]) -> Result<(T, &[u8]), ReadError>
+    ensures { Gives (λ x. (x.0, x.1.now)) result (framed T.reading bytes.now) }
 {
-    let (inside, rest) = read_counted(bytes)?;
+    let (inside, rest) = read_length_prefixed(bytes)?;
     let value = read_whole(alloc, inside)?;
     Ok((value, rest))
 }
 
 /// A signed body whose signer's id is at least this one.
 #[tactic(auto, unfolding(crate::specs::Reading::signed_at))]
-pub fn read_signed<B: Content>(
+pub fn read_signed<B: Codec>(
     alloc: Global,
     low: u64,
     bytes: &[u8],
@@ -46,7 +46,7 @@ pub fn read_signed<B: Content>(
 {
     let (role, rest) = read_role(bytes)?;
     let (id, rest) = read_id(low, rest)?;
-    let (body, rest) = read_filling(alloc, rest)?;
+    let (body, rest) = read_framed(alloc, rest)?;
     let (sig, rest) = read_bytes(alloc, rest)?;
     Ok((
         Signed {
@@ -59,7 +59,7 @@ pub fn read_signed<B: Content>(
     ))
 }
 
-fn read_ascending_of<B: Content>(
+fn read_ascending_of<B: Codec>(
     alloc: Global,
     count: u32,
     bytes: &[u8],
@@ -80,19 +80,19 @@ fn read_ascending_of<B: Content>(
 
 /// A count, at most this one, and signed bodies with ids that ascend strictly.
 #[tactic(auto, unfolding(crate::specs::Reading::ascending_at))]
-pub fn read_ascending<B: Content>(
+pub fn read_ascending<B: Codec>(
     alloc: Global,
-    most: u32,
+    max: u32,
     bytes: &[u8],
 ) -> Result<(Sequence<Signed<B>>, &[u8]), ReadError>
-    ensures { Gives (λ x. (x.0, x.1.now)) result (ascending_at most B.reading bytes.now) }
+    ensures { Gives (λ x. (x.0, x.1.now)) result (ascending_at max B.reading bytes.now) }
 {
-    let (count, rest) = read_count(most, bytes)?;
+    let (count, rest) = read_count(max, bytes)?;
     let (values, rest) = read_ascending_of(alloc, count, rest)?;
     Ok((Sequence::from_vec(values), rest))
 }
 
-fn read_several_of<T: Content>(
+fn read_list_of<T: Codec>(
     alloc: Global,
     count: u32,
     bytes: &[u8],
@@ -110,46 +110,42 @@ fn read_several_of<T: Content>(
 }
 
 /// A count, at most this one, and so many values.
-#[tactic(auto, unfolding(crate::specs::Reading::several_at))]
-pub fn read_several<T: Content>(
+#[tactic(auto, unfolding(crate::specs::Reading::list_at))]
+pub fn read_list<T: Codec>(
     alloc: Global,
-    most: u32,
+    max: u32,
     bytes: &[u8],
 ) -> Result<(Sequence<T>, &[u8]), ReadError>
-    ensures { Gives (λ x. (x.0, x.1.now)) result (several_at most T.reading bytes.now) }
+    ensures { Gives (λ x. (x.0, x.1.now)) result (list_at max T.reading bytes.now) }
 {
-    let (count, rest) = read_count(most, bytes)?;
-    let (values, rest) = read_several_of(alloc, count, rest)?;
+    let (count, rest) = read_count(max, bytes)?;
+    let (values, rest) = read_list_of(alloc, count, rest)?;
     Ok((Sequence::from_vec(values), rest))
 }
 
 /// Writes a signed body.
-#[tactic(auto, unfolding(crate::specs::Spelling::signed))]
-pub fn put_signed<B: Content>(
+#[tactic(auto, unfolding(crate::specs::Encoding::signed))]
+pub fn put_signed<B: Codec>(
     alloc: Global,
     out: &mut Vec<u8>,
     message: &Signed<B>,
 ) -> Result<(), AllocError>
-    ensures text { OnOk result (out.new.items ≡ out.old.items ++ signed B.spelled message.now) }
-    ensures fits { OnOk result (SignedInRange B.in_range message.now) }
+    ensures text { OnOk result (out.new.items ≡ out.old.items ++ signed B.encoded message.now) }
+    ensures fits { OnOk result (SignedFieldsInRange B.fields_in_range message.now) }
 {
     let mut inside = Vec::new(alloc);
     message.body.put(alloc, &mut inside)?;
     put_role(out, message.role)?;
     put_u32(out, message.id)?;
-    put_counted(out, &inside)?;
-    put_counted(out, message.sig.as_slice())
+    put_length_prefixed(out, &inside)?;
+    put_length_prefixed(out, message.sig.as_slice())
 }
 
 /// Writes a count and the values.
-#[tactic(auto, unfolding(crate::specs::Spelling::several))]
-pub fn put_several<T: Content>(
-    alloc: Global,
-    out: &mut Vec<u8>,
-    values: &[T],
-) -> Result<(), AllocError>
-    ensures text { OnOk result (out.new.items ≡ out.old.items ++ several T.spelled values.now) }
-    ensures fits { OnOk result (AllByRecursion T.in_range values.now) }
+#[tactic(auto, unfolding(crate::specs::Encoding::encoded_list))]
+pub fn put_list<T: Codec>(alloc: Global, out: &mut Vec<u8>, values: &[T]) -> Result<(), AllocError>
+    ensures text { OnOk result (out.new.items ≡ out.old.items ++ encoded_list T.encoded values.now) }
+    ensures fits { OnOk result (AllByRecursion T.fields_in_range values.now) }
 {
     put_length(out, values.len())?;
     for value in values {
@@ -158,12 +154,12 @@ pub fn put_several<T: Content>(
     Ok(())
 }
 
-impl<B: Content> Content for Signed<B> {
+impl<B: Codec> Codec for Signed<B> {
     ghost reading = { signed_at B.reading 0 };
 
-    ghost spelled = { signed B.spelled };
+    ghost encoded = { signed B.encoded };
 
-    ghost in_range = { SignedInRange B.in_range };
+    ghost fields_in_range = { SignedFieldsInRange B.fields_in_range };
 
     fn read(alloc: Global, bytes: &[u8]) -> Result<(Signed<B>, &[u8]), ReadError> {
         read_signed(alloc, 0, bytes)

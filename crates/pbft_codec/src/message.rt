@@ -6,8 +6,8 @@ ghost use Rattle.pbft_codec.specs.declared.fault.CodecFault.TheVariants.{Truncat
 ghost use Rattle.pbft_codec.specs.declared.signed.Signed.{Signed};
 ghost use Rattle.pbft_codec.specs.Kinds.{kind_byte};
 ghost use Rattle.pbft_codec.specs.Reading.{Gives, IsUnlessMemory, fields_at, body_at, reading};
-ghost use Rattle.pbft_codec.specs.Shape.{BodyShape, BodyInRange, Fits, Spells};
-ghost use Rattle.pbft_codec.specs.Spelling.{body, spelling, signed_text, most_bytes, kind_in};
+ghost use Rattle.pbft_codec.specs.WellFormed.{BodyWellFormed, BodyFieldsInRange, WellFormed, Encodes};
+ghost use Rattle.pbft_codec.specs.Encoding.{body, encoding, signed_text, max_bytes, kind_in};
 
 use crate::bodies::{
     put_checkpoint, put_fetch, put_new_view, put_reply, put_request, put_snapshot, put_view_change,
@@ -15,16 +15,16 @@ use crate::bodies::{
     read_reply, read_request, read_snapshot, read_view_change,
 };
 use crate::body::Body;
-use crate::content::Content;
+use crate::codec::Codec;
 use crate::fault::{CodecFault, ReadError};
 use crate::kind::Kind;
 use crate::lists::{put_signed, read_signed, read_whole};
 use crate::signed::Signed;
-use crate::writing::{put_kind, put_place, put_role, put_u32};
+use crate::writing::{put_kind, put_proposal, put_role, put_u32};
 use std::alloc::{AllocError, Global};
 
 /// The most bytes of a message.
-const MOST_BYTES: usize = 8_388_608;
+const MAX_BYTES: usize = 8_388_608;
 
 /// A variant of `Body` from the fields that a reader gives.
 macro_rules! body_of {
@@ -71,12 +71,12 @@ fn kind_of_body(body: &Body) -> Kind
     }
 }
 
-impl Content for Body {
+impl Codec for Body {
     ghost reading = { body_at };
 
-    ghost spelled = { body };
+    ghost encoded = { body };
 
-    ghost in_range = { BodyInRange };
+    ghost fields_in_range = { BodyFieldsInRange };
 
     #[tactic(auto, unfolding(crate::specs::Reading::body_at))]
     fn read(alloc: Global, bytes: &[u8]) -> Result<(Body, &[u8]), ReadError> {
@@ -89,14 +89,14 @@ impl Content for Body {
         }
     }
 
-    #[tactic(auto, unfolding(crate::specs::Spelling::body))]
+    #[tactic(auto, unfolding(crate::specs::Encoding::body))]
     fn put(&self, alloc: Global, out: &mut Vec<u8>) -> Result<(), AllocError> {
         put_kind(out, kind_of_body(self))?;
         match self {
             Body::Request(r) => put_request(out, r),
-            Body::PrePrepare(p) => put_place(out, p.view, p.number, p.digest),
-            Body::Prepare(p) => put_place(out, p.view, p.number, p.digest),
-            Body::Commit(c) => put_place(out, c.view, c.number, c.digest),
+            Body::PrePrepare(p) => put_proposal(out, p.view, p.number, p.digest),
+            Body::Prepare(p) => put_proposal(out, p.view, p.number, p.digest),
+            Body::Commit(c) => put_proposal(out, c.view, c.number, c.digest),
             Body::Reply(r) => put_reply(out, r),
             Body::Checkpoint(c) => put_checkpoint(out, c),
             Body::ViewChange(v) => put_view_change(alloc, out, v),
@@ -112,7 +112,7 @@ impl Content for Body {
 fn read_message(alloc: Global, bytes: &[u8]) -> Result<Signed, ReadError>
     ensures { Gives (λ m. m) result (reading bytes.now) }
 {
-    if bytes.len() > MOST_BYTES {
+    if bytes.len() > MAX_BYTES {
         return Err(ReadError::Fault(CodecFault::TooLong));
     }
     read_whole(alloc, bytes)
@@ -122,16 +122,16 @@ fn read_message(alloc: Global, bytes: &[u8]) -> Result<Signed, ReadError>
 /// `Memory` where memory ran out. The caller owes the grammar's shape: sequence numbers below 2^48,
 /// counts within their limits, ids that ascend strictly among Checkpoints, Prepares and ViewChanges.
 pub fn encode(alloc: Global, message: &Signed) -> Result<Vec<u8>, CodecFault>
-    requires { BodyShape message.now.body }
+    requires { BodyWellFormed message.now.body }
 
     // The one spelling, which `decode` reads again.
-    ensures spelled { IfOk result (λ bytes. Spells bytes.items message.now) }
+    ensures encoded { IfOk result (λ bytes. Encodes bytes.items message.now) }
     ensures refused { IfErr result (λ fault.
-        (fault ≡ Memory) ⊎ (fault ≡ TooLong) × (most_bytes < length (spelling message.now))) }
+        (fault ≡ Memory) ⊎ (fault ≡ TooLong) × (max_bytes < length (encoding message.now))) }
 {
     let mut bytes = Vec::new(alloc);
     put_signed(alloc, &mut bytes, message)?;
-    if bytes.len() <= MOST_BYTES {
+    if bytes.len() <= MAX_BYTES {
         Ok(bytes)
     } else {
         Err(CodecFault::TooLong)
@@ -142,21 +142,21 @@ pub fn encode(alloc: Global, message: &Signed) -> Result<Vec<u8>, CodecFault>
 /// `TooLong` before all others; `Memory` comes where memory ran out, whatever the bytes.
 pub fn decode(alloc: Global, bytes: &[u8]) -> Result<Signed, CodecFault>
     // What is read is spelled so.
-    ensures found { IfOk result (λ m. Spells bytes.now m) }
+    ensures found { IfOk result (λ m. Encodes bytes.now m) }
 
     // What is spelled so is read.
-    ensures only { (m : Signed Body) → Spells bytes.now m → IsUnlessMemory result (Ok m) }
+    ensures only { (m : Signed Body) → Encodes bytes.now m → IsUnlessMemory result (Ok m) }
 
     // Which fault it is.
     ensures exact { IsUnlessMemory result (reading bytes.now) }
 
     // A message that goes on behind the bytes.
     ensures cut { (m : Signed Body) (rest : List ℕ) → 0 < length rest →
-        Spells (bytes.now ++ rest) m → IsUnlessMemory result (Err Truncated) }
+        Encodes (bytes.now ++ rest) m → IsUnlessMemory result (Err Truncated) }
 
     // A message that ends before the bytes do.
-    ensures behind { (m : Signed Body) (rest : List ℕ) → 0 < length rest → Fits m →
-        bytes.now ≡ spelling m ++ rest → length bytes.now ≤ most_bytes →
+    ensures behind { (m : Signed Body) (rest : List ℕ) → 0 < length rest → WellFormed m →
+        bytes.now ≡ encoding m ++ rest → length bytes.now ≤ max_bytes →
         IsUnlessMemory result (Err Trailing) }
 {
     read_exactly(alloc, bytes)

@@ -3,18 +3,18 @@
 ghost use Rattle.std.specs.Prelude.{List};
 ghost use Rattle.pbft_codec.specs.declared.kind.Kind.TheVariants as kinds;
 ghost use Rattle.pbft_codec.specs.Reading.{Gives, behind, kind_at, pre_prepare_at, prepare_at, checkpoint_at, certificate_at, view_change_at};
-ghost use Rattle.pbft_codec.specs.Shape.{PrePrepareInRange, PrepareInRange, CheckpointInRange, CertificateInRange, ViewChangeInRange};
-ghost use Rattle.pbft_codec.specs.Spelling.{of_kind, pre_prepare, prepare, checkpoint, certificate, view_change};
+ghost use Rattle.pbft_codec.specs.WellFormed.{PrePrepareFieldsInRange, PrepareFieldsInRange, CheckpointFieldsInRange, CertificateFieldsInRange, ViewChangeFieldsInRange};
+ghost use Rattle.pbft_codec.specs.Encoding.{of_kind, pre_prepare, prepare, checkpoint, certificate, view_change};
 
 use crate::bodies::{
     put_certificate, put_checkpoint, put_view_change, read_certificate, read_checkpoint,
     read_pre_prepare, read_prepare, read_view_change,
 };
 use crate::body::{Certificate, Checkpoint, PrePrepare, Prepare, ViewChange};
-use crate::content::Content;
+use crate::codec::Codec;
 use crate::fault::{CodecFault, ReadError};
 use crate::kind::Kind;
-use crate::writing::{put_kind, put_place};
+use crate::writing::{put_kind, put_proposal};
 use std::alloc::{AllocError, Global};
 
 /// The bytes behind the byte of this kind.
@@ -36,12 +36,12 @@ fn read_kind(kind: Kind, bytes: &[u8]) -> Result<&[u8], ReadError>
     }
 }
 
-impl Content for PrePrepare {
+impl Codec for PrePrepare {
     ghost reading = { kind_at kinds.PrePrepare pre_prepare_at };
 
-    ghost spelled = { of_kind kinds.PrePrepare pre_prepare };
+    ghost encoded = { of_kind kinds.PrePrepare pre_prepare };
 
-    ghost in_range = { PrePrepareInRange };
+    ghost fields_in_range = { PrePrepareFieldsInRange };
 
     fn read(_: Global, bytes: &[u8]) -> Result<(PrePrepare, &[u8]), ReadError> {
         let rest = read_kind(Kind::PrePrepare, bytes)?;
@@ -50,16 +50,16 @@ impl Content for PrePrepare {
 
     fn put(&self, _: Global, out: &mut Vec<u8>) -> Result<(), AllocError> {
         put_kind(out, Kind::PrePrepare)?;
-        put_place(out, self.view, self.number, self.digest)
+        put_proposal(out, self.view, self.number, self.digest)
     }
 }
 
-impl Content for Prepare {
+impl Codec for Prepare {
     ghost reading = { kind_at kinds.Prepare prepare_at };
 
-    ghost spelled = { of_kind kinds.Prepare prepare };
+    ghost encoded = { of_kind kinds.Prepare prepare };
 
-    ghost in_range = { PrepareInRange };
+    ghost fields_in_range = { PrepareFieldsInRange };
 
     fn read(_: Global, bytes: &[u8]) -> Result<(Prepare, &[u8]), ReadError> {
         let rest = read_kind(Kind::Prepare, bytes)?;
@@ -68,16 +68,16 @@ impl Content for Prepare {
 
     fn put(&self, _: Global, out: &mut Vec<u8>) -> Result<(), AllocError> {
         put_kind(out, Kind::Prepare)?;
-        put_place(out, self.view, self.number, self.digest)
+        put_proposal(out, self.view, self.number, self.digest)
     }
 }
 
-impl Content for Checkpoint {
+impl Codec for Checkpoint {
     ghost reading = { kind_at kinds.Checkpoint checkpoint_at };
 
-    ghost spelled = { of_kind kinds.Checkpoint checkpoint };
+    ghost encoded = { of_kind kinds.Checkpoint checkpoint };
 
-    ghost in_range = { CheckpointInRange };
+    ghost fields_in_range = { CheckpointFieldsInRange };
 
     fn read(_: Global, bytes: &[u8]) -> Result<(Checkpoint, &[u8]), ReadError> {
         let rest = read_kind(Kind::Checkpoint, bytes)?;
@@ -90,12 +90,12 @@ impl Content for Checkpoint {
     }
 }
 
-impl Content for Certificate {
+impl Codec for Certificate {
     ghost reading = { certificate_at };
 
-    ghost spelled = { certificate };
+    ghost encoded = { certificate };
 
-    ghost in_range = { CertificateInRange };
+    ghost fields_in_range = { CertificateFieldsInRange };
 
     fn read(alloc: Global, bytes: &[u8]) -> Result<(Certificate, &[u8]), ReadError> {
         read_certificate(alloc, bytes)
@@ -106,12 +106,12 @@ impl Content for Certificate {
     }
 }
 
-impl Content for ViewChange {
+impl Codec for ViewChange {
     ghost reading = { kind_at kinds.ViewChange view_change_at };
 
-    ghost spelled = { of_kind kinds.ViewChange view_change };
+    ghost encoded = { of_kind kinds.ViewChange view_change };
 
-    ghost in_range = { ViewChangeInRange };
+    ghost fields_in_range = { ViewChangeFieldsInRange };
 
     fn read(alloc: Global, bytes: &[u8]) -> Result<(ViewChange, &[u8]), ReadError> {
         let rest = read_kind(Kind::ViewChange, bytes)?;

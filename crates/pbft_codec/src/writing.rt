@@ -3,8 +3,8 @@
 ghost use Rattle.std.specs.Prelude.{◌≡◌, ◌<◌, ◌^◌, ◌++◌, ◌∷◌, [], List, length, OnOk};
 ghost use Rattle.std.specs.Int.{w32, w64, to_be_bytes};
 ghost use Rattle.pbft_codec.specs.Kinds.{kind_byte};
-ghost use Rattle.pbft_codec.specs.Shape.{IsDigest, PlaceInRange};
-ghost use Rattle.pbft_codec.specs.Spelling.{role_byte, view, number, counted, place};
+ghost use Rattle.pbft_codec.specs.WellFormed.{IsDigest, ProposalFieldsInRange};
+ghost use Rattle.pbft_codec.specs.Encoding.{role_byte, view, number, length_prefixed, proposal};
 
 use crate::kind::Kind;
 use crate::signed::Role;
@@ -47,9 +47,9 @@ pub fn put_kind(out: &mut Vec<u8>, kind: Kind) -> Result<(), AllocError>
 }
 
 /// Writes a length and the bytes.
-#[tactic(auto, unfolding(crate::specs::Spelling::counted))]
-pub fn put_counted(out: &mut Vec<u8>, bytes: &[u8]) -> Result<(), AllocError>
-    ensures { OnOk result (out.new.items ≡ out.old.items ++ counted bytes.now) }
+#[tactic(auto, unfolding(crate::specs::Encoding::length_prefixed))]
+pub fn put_length_prefixed(out: &mut Vec<u8>, bytes: &[u8]) -> Result<(), AllocError>
+    ensures { OnOk result (out.new.items ≡ out.old.items ++ length_prefixed bytes.now) }
 {
     put_length(out, bytes.len())?;
     out.extend_from_slice(bytes)
@@ -63,15 +63,15 @@ pub fn put_digest(out: &mut Vec<u8>, digest: Digest) -> Result<(), AllocError>
 }
 
 /// Writes a view, a number and a digest.
-#[tactic(auto, unfolding(crate::specs::Spelling::place))]
-pub fn put_place(
+#[tactic(auto, unfolding(crate::specs::Encoding::proposal))]
+pub fn put_proposal(
     out: &mut Vec<u8>,
     view: View,
     number: SeqNo,
     digest: Digest,
 ) -> Result<(), AllocError>
-    ensures text { OnOk result (out.new.items ≡ out.old.items ++ place view number digest) }
-    ensures fits { PlaceInRange view digest }
+    ensures text { OnOk result (out.new.items ≡ out.old.items ++ proposal view number digest) }
+    ensures fits { ProposalFieldsInRange view digest }
 {
     put_u32(out, view.0)?;
     put_u64(out, number.0)?;

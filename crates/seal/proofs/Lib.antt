@@ -1,5 +1,5 @@
-pub mod Soundness
+pub mod Authenticity
 pub mod Openings
-pub mod Pieces
+pub mod EncodingLaws
 pub mod Children
 pub mod Wholes

@@ -7,25 +7,25 @@ use Rattle.pbft_codec.specs.declared.fault.CodecFault.{CodecFault}
 use Rattle.pbft_codec.specs.declared.fault.CodecFault.TheVariants as codec
 use Rattle.pbft_codec.specs.declared.signed.Signed.{Signed}
 use Rattle.pbft_codec.specs.Reading.{reading, IsUnlessMemory as IsReadUnlessMemory}
-use Rattle.pbft_codec.specs.Shape.{Spells}
+use Rattle.pbft_codec.specs.WellFormed.{Encodes}
 use Rattle.pbft_codec.proofs.MessageLaws.{reading_only}
 use Rattle.seal.specs.declared.fault.SealFault.{SealFault}
 use Rattle.seal.specs.declared.fault.SealFault.TheVariants.{Codec, UnknownSigner, BadSignature, WrongRole, Memory}
-use Rattle.seal.specs.FaultNumber.{from_codec, IsProper}
-use Rattle.seal.specs.Opening.{CheckedMessage, IsUnlessMemory, judged, unless_fault, opening}
+use Rattle.seal.specs.Faults.{from_codec, IsProper}
+use Rattle.seal.specs.Opening.{CheckedMessage, IsUnlessMemory, verified, unless_fault, opening}
 use Rattle.seal.specs.Parts.{messages_in}
-use Rattle.seal.specs.Signers.{IsSound, key_of, may_sign, fault_under, own_fault, or_later, first_fault}
-use Rattle.seal.proofs.Soundness.{all_faultless}
+use Rattle.seal.specs.Signers.{IsAuthentic, key_of, may_sign, fault_under, own_fault, or_later, first_fault}
+use Rattle.seal.proofs.Authenticity.{all_faultless}
 
 pub decode_refused : (c : Configuration) (bytes : List ℕ) (f : CodecFault) → IsReadUnlessMemory {A = Signed Body} (Err f) (reading bytes) → IsUnlessMemory {A = CheckedMessage} (Err (from_codec f)) (opening c bytes)
 unfolding opening
 decode_refused c bytes codec.Memory e = tt
-decode_refused c bytes codec.Truncated e = ap (judged c) e
-decode_refused c bytes codec.Trailing e = ap (judged c) e
-decode_refused c bytes codec.BadKind e = ap (judged c) e
-decode_refused c bytes codec.BadField e = ap (judged c) e
-decode_refused c bytes codec.TooLong e = ap (judged c) e
-decode_refused c bytes codec.NotAscending e = ap (judged c) e
+decode_refused c bytes codec.Truncated e = ap (verified c) e
+decode_refused c bytes codec.Trailing e = ap (verified c) e
+decode_refused c bytes codec.BadKind e = ap (verified c) e
+decode_refused c bytes codec.BadField e = ap (verified c) e
+decode_refused c bytes codec.TooLong e = ap (verified c) e
+decode_refused c bytes codec.NotAscending e = ap (verified c) e
 
 memory_or : (f : SealFault) (is : Result CheckedMessage SealFault) → (f ≡ Memory) ⊎ (is ≡ Err f) → IsUnlessMemory {A = CheckedMessage} (Err f) is
 memory_or Memory is h = tt
@@ -40,7 +40,7 @@ memory_or WrongRole is (inr e) = e
 
 fault_of : (c : Configuration) (bytes : List ℕ) (m : Signed Body) (o : Option SealFault) → reading bytes ≡ Ok m → first_fault c (messages_in m) ≡ o → opening c bytes ≡ unless_fault c m o
 unfolding opening
-fault_of c bytes m o read e = ap (judged c) read ∙ ap (unless_fault c m) e
+fault_of c bytes m o read e = ap (verified c) read ∙ ap (unless_fault c m) e
 
 pub judge_refused : (c : Configuration) (bytes : List ℕ) (m : Signed Body) (f : SealFault) → reading bytes ≡ Ok m → (f ≡ Memory) ⊎ (first_fault c (messages_in m) ≡ Some f) → IsUnlessMemory {A = CheckedMessage} (Err f) (opening c bytes)
 judge_refused c bytes m f read (inl e) = memory_or f (opening c bytes) (inl e)
@@ -49,9 +49,9 @@ judge_refused c bytes m f read (inr e) = memory_or f (opening c bytes) (inr (fau
 pub opens : (c : Configuration) (bytes : List ℕ) (m : Signed Body) → reading bytes ≡ Ok m → first_fault c (messages_in m) ≡ None → opening c bytes ≡ Ok (record { config = c; message = m })
 opens c bytes m read e = fault_of c bytes m None read e
 
-pub only_from_exact : (r : Result CheckedMessage SealFault) (c : Configuration) (bytes : List ℕ) (m : Signed Body) → IsUnlessMemory r (opening c bytes) → Spells bytes m → AllByRecursion (IsSound c) (messages_in m) → IsUnlessMemory r (Ok (record { config = c; message = m }))
-only_from_exact r c bytes m exact spells sound =
-    subst (λ (o : Result CheckedMessage SealFault). IsUnlessMemory r o) (opens c bytes m (reading_only bytes m spells) (all_faultless c (messages_in m) sound)) exact
+pub only_from_exact : (r : Result CheckedMessage SealFault) (c : Configuration) (bytes : List ℕ) (m : Signed Body) → IsUnlessMemory r (opening c bytes) → Encodes bytes m → AllByRecursion (IsAuthentic c) (messages_in m) → IsUnlessMemory r (Ok (record { config = c; message = m }))
+only_from_exact r c bytes m exact encodes authentic =
+    subst (λ (o : Result CheckedMessage SealFault). IsUnlessMemory r o) (opens c bytes m (reading_only bytes m encodes) (all_faultless c (messages_in m) authentic)) exact
 
 -- ---- want of memory is never told as a fault of the bytes
 

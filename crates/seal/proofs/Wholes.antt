@@ -7,8 +7,8 @@ use Rattle.std.proofs.lemmas.List.Concat.{flat_map-append}
 use Rattle.host_types.specs.Configuration.{Configuration}
 use Rattle.pbft_codec.specs.declared.body.Body.{Body}
 use Rattle.pbft_codec.specs.declared.body.Body.TheVariants as bodies
-use Rattle.pbft_codec.specs.declared.body.Certificate.{Certificate}
-use Rattle.pbft_codec.specs.declared.body.ViewChange.{ViewChange}
+use Rattle.pbft_codec.specs.declared.body.certificate.Certificate.{Certificate}
+use Rattle.pbft_codec.specs.declared.body.view_change.ViewChange.{ViewChange}
 use Rattle.pbft_codec.specs.declared.signed.Signed.{Signed}
 use Rattle.seal.specs.declared.part.Part.{Part}
 use Rattle.seal.specs.Opening.{CheckedMessage}
@@ -20,8 +20,8 @@ leaves kind (m ∷ ms) none =
     ap (λ (inside : List (Signed Body)). (as_message kind m ∷ inside) ++ flat_map messages_in (map (as_message kind) ms)) (none m.body) ∙ ap (λ (rest : List (Signed Body)). as_message kind m ∷ rest) (leaves kind ms none)
 
 -- two lists, of which each is the whole of what its messages hold
-both : (one two wide : List (Signed Body)) (whole : List (Signed Body)) → flat_map messages_in one ≡ wide → flat_map messages_in two ≡ whole → flat_map messages_in (one ++ two) ≡ wide ++ whole
-both one two wide whole p q =
+pair : (one two wide : List (Signed Body)) (whole : List (Signed Body)) → flat_map messages_in one ≡ wide → flat_map messages_in two ≡ whole → flat_map messages_in (one ++ two) ≡ wide ++ whole
+pair one two wide whole p q =
     flat_map-append messages_in one two ∙ ap (λ (x : List (Signed Body)). x ++ flat_map messages_in two) p ∙ ap (λ (x : List (Signed Body)). wide ++ x) q
 
 certificate_whole : (proof : Certificate) → flat_map messages_in (in_certificate proof) ≡ in_certificate proof
@@ -31,11 +31,11 @@ certificate_whole proof =
 certificates_whole : (proofs : List Certificate) → flat_map messages_in (flat_map in_certificate proofs) ≡ flat_map in_certificate proofs
 certificates_whole [] = refl
 certificates_whole (p ∷ ps) =
-    both (in_certificate p) (flat_map in_certificate ps) (in_certificate p) (flat_map in_certificate ps) (certificate_whole p) (certificates_whole ps)
+    pair (in_certificate p) (flat_map in_certificate ps) (in_certificate p) (flat_map in_certificate ps) (certificate_whole p) (certificates_whole ps)
 
 view_change_whole : (v : ViewChange) → flat_map messages_in (in_view_change v) ≡ in_view_change v
 view_change_whole v =
-    both (map (as_message bodies.Checkpoint) v.checkpoints) (flat_map in_certificate v.certificates) (map (as_message bodies.Checkpoint) v.checkpoints) (flat_map in_certificate v.certificates)
+    pair (map (as_message bodies.Checkpoint) v.checkpoints) (flat_map in_certificate v.certificates) (map (as_message bodies.Checkpoint) v.checkpoints) (flat_map in_certificate v.certificates)
     (leaves bodies.Checkpoint v.checkpoints (λ _. refl)) (certificates_whole v.certificates)
 
 changes_whole : (ms : List (Signed ViewChange)) → flat_map messages_in (map (as_message bodies.ViewChange) ms) ≡ flat_map with_nested ms
@@ -51,7 +51,7 @@ children_whole (bodies.Reply r) = refl
 children_whole (bodies.Checkpoint c) = refl
 children_whole (bodies.ViewChange v) = view_change_whole v
 children_whole (bodies.NewView n) =
-    both (map (as_message bodies.ViewChange) n.changes) (map (as_message bodies.PrePrepare) n.pre_prepares) (flat_map with_nested n.changes) (map (as_message bodies.PrePrepare) n.pre_prepares)
+    pair (map (as_message bodies.ViewChange) n.changes) (map (as_message bodies.PrePrepare) n.pre_prepares) (flat_map with_nested n.changes) (map (as_message bodies.PrePrepare) n.pre_prepares)
     (changes_whole n.changes) (leaves bodies.PrePrepare n.pre_prepares (λ _. refl))
 children_whole (bodies.Fetch f) = refl
 children_whole (bodies.Snapshot s) = refl
@@ -61,7 +61,7 @@ parts_of_all c [] = refl
 parts_of_all c (m ∷ ms) =
     map-append part_of (messages_in m) (flat_map messages_in ms) ∙ ap (λ (rest : List Part). parts_of m ++ rest) (parts_of_all c ms)
 
-pub parts_by_children : (c : CheckedMessage) (held : List CheckedMessage) → held ≡ map (λ m. let x : CheckedMessage = record { config = c.config; message = m } in x) (children_of c.message.body) → parts_of c.message ≡ part_of c.message ∷ flat_map (λ x. parts_of x.message) held
-parts_by_children c held is =
+pub parts_by_children : (c : CheckedMessage) (messages_within : List CheckedMessage) → messages_within ≡ map (λ m. let x : CheckedMessage = record { config = c.config; message = m } in x) (children_of c.message.body) → parts_of c.message ≡ part_of c.message ∷ flat_map (λ x. parts_of x.message) messages_within
+parts_by_children c messages_within is =
     ap (λ (rest : List Part). part_of c.message ∷ rest)
     (ap (map part_of) (sym (children_whole c.message.body)) ∙ parts_of_all c.config (children_of c.message.body) ∙ ap (flat_map (λ (x : CheckedMessage). parts_of x.message)) (sym is))

@@ -1,4 +1,4 @@
 pub mod Parts
 pub mod Signers
 pub mod Opening
-pub mod FaultNumber
+pub mod Faults

@@ -10,12 +10,12 @@ use Rattle.pbft_codec.specs.declared.fault.CodecFault.{CodecFault}
 use Rattle.pbft_codec.specs.declared.signed.Role.{Role}
 use Rattle.pbft_codec.specs.declared.signed.Signed.{Signed}
 use Rattle.pbft_codec.specs.Reading.{reading}
-use Rattle.pbft_codec.specs.Shape.{Spells}
-use Rattle.pbft_codec.specs.Spelling.{signed_text, spelling}
+use Rattle.pbft_codec.specs.WellFormed.{Encodes}
+use Rattle.pbft_codec.specs.Encoding.{signed_text, encoding}
 use Rattle.seal.specs.declared.fault.SealFault.{SealFault}
 use Rattle.seal.specs.declared.fault.SealFault.TheVariants.{Codec, Memory}
 use Rattle.seal.specs.Parts.{messages_in}
-use Rattle.seal.specs.Signers.{IsSound, first_fault}
+use Rattle.seal.specs.Signers.{IsAuthentic, first_fault}
 
 -- What a contract sees of a checked message.
 pub record CheckedMessage : Type 0 where
@@ -25,22 +25,22 @@ pub record CheckedMessage : Type 0 where
 
 -- A message of the grammar, within the limit of length, whose parts are all sound.
 pub record IsChecked (c : CheckedMessage) : Type 0 where
-  pub spells : Spells (spelling c.message) c.message
-  pub sound : AllByRecursion (IsSound c.config) (messages_in c.message)
+  pub encodes : Encodes (encoding c.message) c.message
+  pub authentic : AllByRecursion (IsAuthentic c.config) (messages_in c.message)
 
 -- A message, unless it has a fault.
 abbrev pub unless_fault : Configuration → Signed Body → Option SealFault → Result CheckedMessage SealFault
 unless_fault c m None = Ok (record { config = c; message = m })
 unless_fault c m (Some fault) = Err fault
 
-abbrev pub judged : Configuration → Result (Signed Body) CodecFault → Result CheckedMessage SealFault
-judged c (Ok m) = unless_fault c m (first_fault c (messages_in m))
-judged c (Err fault) = Err (Codec fault)
+abbrev pub verified : Configuration → Result (Signed Body) CodecFault → Result CheckedMessage SealFault
+verified c (Ok m) = unless_fault c m (first_fault c (messages_in m))
+verified c (Err fault) = Err (Codec fault)
 
 -- The message that the bytes spell if all its parts are sound, or the first fault: the codec's, else
 -- that of the first part that has one.
 unfoldable pub opening : Configuration → List ℕ → Result CheckedMessage SealFault
-opening c bytes = judged c (reading bytes)
+opening c bytes = verified c (reading bytes)
 
 -- What a call answered is this, unless memory ran out.
 abbrev pub IsUnlessMemory : {A : Type 0} → Result A SealFault → Result A SealFault → Type 0
@@ -49,8 +49,8 @@ IsUnlessMemory (Err Memory) is = Unit {0}
 IsUnlessMemory (Err fault) is = is ≡ Err fault
 
 -- What a signer makes of a body: its next leaf signs.
-abbrev pub sealed : SigningState → Role → ℕ → Body → Signed Body
-sealed s role id body =
+abbrev pub sealed_message : SigningState → Role → ℕ → Body → Signed Body
+sealed_message s role id body =
     let unsigned : Signed Body = record { role = role; id = id; body = body; sig = [] } in
     record { role = role; id = id; body = body; sig = signature_at s.height s.id s.secret s.next_leaf (signed_text unsigned) }
 

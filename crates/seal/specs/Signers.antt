@@ -9,7 +9,7 @@ use Rattle.pbft_codec.specs.declared.body.Body.TheVariants as bodies
 use Rattle.pbft_codec.specs.declared.signed.Role.{Role}
 use Rattle.pbft_codec.specs.declared.signed.Role.TheVariants.{Replica, Client}
 use Rattle.pbft_codec.specs.declared.signed.Signed.{Signed}
-use Rattle.pbft_codec.specs.Spelling.{signed_text}
+use Rattle.pbft_codec.specs.Encoding.{signed_text}
 use Rattle.seal.specs.declared.fault.SealFault.{SealFault}
 use Rattle.seal.specs.declared.fault.SealFault.TheVariants.{UnknownSigner, BadSignature, WrongRole}
 
@@ -22,38 +22,38 @@ abbrev pub primary_of : Configuration → View → ℕ
 primary_of c view = view.0 % replicas_for c.f
 
 -- What a client may sign: Requests alone.
-abbrev pub client_may : Body → Bool
-client_may (bodies.Request r) = true
-client_may (bodies.PrePrepare p) = false
-client_may (bodies.Prepare p) = false
-client_may (bodies.Commit c) = false
-client_may (bodies.Reply r) = false
-client_may (bodies.Checkpoint c) = false
-client_may (bodies.ViewChange v) = false
-client_may (bodies.NewView n) = false
-client_may (bodies.Fetch f) = false
-client_may (bodies.Snapshot s) = false
+abbrev pub client_may_sign : Body → Bool
+client_may_sign (bodies.Request r) = true
+client_may_sign (bodies.PrePrepare p) = false
+client_may_sign (bodies.Prepare p) = false
+client_may_sign (bodies.Commit c) = false
+client_may_sign (bodies.Reply r) = false
+client_may_sign (bodies.Checkpoint c) = false
+client_may_sign (bodies.ViewChange v) = false
+client_may_sign (bodies.NewView n) = false
+client_may_sign (bodies.Fetch f) = false
+client_may_sign (bodies.Snapshot s) = false
 
 -- What a replica may sign: all but Requests. PrePrepares and NewViews come from their view's primary,
 -- Prepares from the others.
-abbrev pub replica_may : Configuration → ℕ → Body → Bool
-replica_may c id (bodies.Request r) = false
-replica_may c id (bodies.PrePrepare p) = primary_of c p.view == id
-replica_may c id (bodies.Prepare p) = not (primary_of c p.view == id)
-replica_may c id (bodies.Commit m) = true
-replica_may c id (bodies.Reply r) = true
-replica_may c id (bodies.Checkpoint m) = true
-replica_may c id (bodies.ViewChange v) = true
-replica_may c id (bodies.NewView n) = primary_of c n.view == id
-replica_may c id (bodies.Fetch f) = true
-replica_may c id (bodies.Snapshot s) = true
+abbrev pub replica_may_sign : Configuration → ℕ → Body → Bool
+replica_may_sign c id (bodies.Request r) = false
+replica_may_sign c id (bodies.PrePrepare p) = primary_of c p.view == id
+replica_may_sign c id (bodies.Prepare p) = not (primary_of c p.view == id)
+replica_may_sign c id (bodies.Commit m) = true
+replica_may_sign c id (bodies.Reply r) = true
+replica_may_sign c id (bodies.Checkpoint m) = true
+replica_may_sign c id (bodies.ViewChange v) = true
+replica_may_sign c id (bodies.NewView n) = primary_of c n.view == id
+replica_may_sign c id (bodies.Fetch f) = true
+replica_may_sign c id (bodies.Snapshot s) = true
 
 abbrev pub may_sign : Configuration → Role → ℕ → Body → Bool
-may_sign c Replica id body = replica_may c id body
-may_sign c Client id body = client_may body
+may_sign c Replica id body = replica_may_sign c id body
+may_sign c Client id body = client_may_sign body
 
 -- A message whose signer is listed, may sign its body, and did.
-pub record IsSound (c : Configuration) (m : Signed Body) : Type 0 where
+pub record IsAuthentic (c : Configuration) (m : Signed Body) : Type 0 where
   pub key : List ℕ
   pub listed : key_of c m.role m.id ≡ Some key
   pub role : IsTrue (may_sign c m.role m.id m.body)

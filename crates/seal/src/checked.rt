@@ -1,10 +1,10 @@
 ghost use Rattle.std.specs.Prelude.{◌≡◌, ◌≤◌, length, IfOk};
 ghost use Rattle.std.specs.List.{AllByRecursion};
-ghost use Rattle.pbft_codec.specs.Shape.{BodyShape, Spells};
-ghost use Rattle.pbft_codec.specs.Spelling.{most_bytes, spelling};
+ghost use Rattle.pbft_codec.specs.WellFormed.{BodyWellFormed, Encodes};
+ghost use Rattle.pbft_codec.specs.Encoding.{max_bytes, encoding};
 ghost use Rattle.seal.specs.Opening.{CheckedMessage, IsChecked};
 ghost use Rattle.seal.specs.Parts.{messages_in};
-ghost use Rattle.seal.specs.Signers.{IsSound};
+ghost use Rattle.seal.specs.Signers.{IsAuthentic};
 
 use host_types::{Bytes, Config};
 use pbft_codec::{Body, CodecFault, Role, Signed, encode};
@@ -14,7 +14,7 @@ use std::sync::Arc;
 
 /// What a `Checked` is a handle of.
 #[derive(Drop)]
-struct Content {
+struct Inner {
     config: Arc<Config>,
     message: Signed,
     bytes: Bytes,
@@ -25,20 +25,20 @@ struct Content {
 /// of it copies no bytes. Contracts see the configuration and the message.
 #[derive(Drop)]
 pub struct Checked {
-    content: Arc<Content>,
+    inner: Arc<Inner>,
 }
 
 impl Model for Checked {
     ghost use Rattle.std.specs.Prelude.{◌≡◌};
-    ghost use Rattle.pbft_codec.specs.Spelling.{spelling};
+    ghost use Rattle.pbft_codec.specs.Encoding.{encoding};
     ghost use Rattle.seal.specs.Opening.{CheckedMessage, IsChecked};
 
     ghost Value = { CheckedMessage };
 
-    ghost view = { λ c. record { config = c.content.value.config.value; message = c.content.value.message } };
+    ghost view = { λ c. record { config = c.inner.value.config.value; message = c.inner.value.message } };
 
-    ghost invariant = { λ c. (c.content.value.bytes ≡ spelling c.content.value.message)
-        × IsChecked (record { config = c.content.value.config.value; message = c.content.value.message }) };
+    ghost invariant = { λ c. (c.inner.value.bytes ≡ encoding c.inner.value.message)
+        × IsChecked (record { config = c.inner.value.config.value; message = c.inner.value.message }) };
 }
 
 impl Checked {
@@ -48,18 +48,18 @@ impl Checked {
         message: Signed,
         bytes: Bytes,
     ) -> Result<Checked, AllocError>
-        requires spelled { Spells bytes message }
-        requires sound { AllByRecursion (IsSound config.now.value) (messages_in message) }
+        requires encoded { Encodes bytes message }
+        requires authentic { AllByRecursion (IsAuthentic config.now.value) (messages_in message) }
         ensures { IfOk result (λ c. c ≡ record { config = config.now.value; message = message }) }
     {
         let config = Arc::try_clone(config)?;
-        let content = Content {
+        let inner = Inner {
             config,
             message,
             bytes,
         };
-        match Arc::new(alloc, content) {
-            Ok(content) => Ok(Checked { content }),
+        match Arc::new(alloc, inner) {
+            Ok(inner) => Ok(Checked { inner }),
             Err(_) => Err(AllocError),
         }
     }
@@ -70,9 +70,9 @@ impl Checked {
         config: &Arc<Config>,
         message: Signed,
     ) -> Result<Checked, AllocError>
-        requires shape { BodyShape message.body }
-        requires within { length (spelling message) ≤ most_bytes }
-        requires sound { AllByRecursion (IsSound config.now.value) (messages_in message) }
+        requires well_formed { BodyWellFormed message.body }
+        requires within { length (encoding message) ≤ max_bytes }
+        requires authentic { AllByRecursion (IsAuthentic config.now.value) (messages_in message) }
         ensures { IfOk result (λ c. c ≡ record { config = config.now.value; message = message }) }
     {
         match encode(alloc, &message) {
@@ -87,8 +87,8 @@ impl Checked {
         ensures value { result.now.value ≡ self.now.config }
         ensures checked { IsChecked self.now }
     {
-        let content: &Content = &self.content;
-        &content.config
+        let inner: &Inner = &self.inner;
+        &inner.config
     }
 
     /// The signer of the whole message.
@@ -96,8 +96,8 @@ impl Checked {
         ensures value { result ≡ (self.now.message.role, self.now.message.id) }
         ensures checked { IsChecked self.now }
     {
-        let content: &Content = &self.content;
-        (content.message.role, content.message.id)
+        let inner: &Inner = &self.inner;
+        (inner.message.role, inner.message.id)
     }
 
     /// What the message says.
@@ -105,17 +105,17 @@ impl Checked {
         ensures value { result.now ≡ self.now.message.body }
         ensures checked { IsChecked self.now }
     {
-        let content: &Content = &self.content;
-        &content.message.body
+        let inner: &Inner = &self.inner;
+        &inner.message.body
     }
 
     /// The message's one spelling.
     pub fn bytes(&self) -> &[u8]
-        ensures value { result.now ≡ spelling self.now.message }
+        ensures value { result.now ≡ encoding self.now.message }
         ensures checked { IsChecked self.now }
     {
-        let content: &Content = &self.content;
-        content.bytes.as_slice()
+        let inner: &Inner = &self.inner;
+        inner.bytes.as_slice()
     }
 
     /// One more handle of the same message. No bytes are copied; it is refused only where the count of
@@ -123,15 +123,15 @@ impl Checked {
     pub fn copy(&self) -> Result<Checked, AllocError>
         ensures { IfOk result (λ c. c ≡ self.now) }
     {
-        let content = Arc::try_clone(&self.content)?;
-        Ok(Checked { content })
+        let inner = Arc::try_clone(&self.inner)?;
+        Ok(Checked { inner })
     }
 
     pub(crate) fn message(&self) -> &Signed
         ensures value { result.now ≡ self.now.message }
         ensures checked { IsChecked self.now }
     {
-        let content: &Content = &self.content;
-        &content.message
+        let inner: &Inner = &self.inner;
+        &inner.message
     }
 }

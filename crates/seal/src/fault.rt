@@ -27,7 +27,7 @@ pub enum SealFault {
 }
 
 impl SealFault {
-    ghost use Rattle.seal.specs.FaultNumber.{number_of};
+    ghost use Rattle.seal.specs.Faults.{number_of};
 
     /// The fault's number.
     pub fn number(&self) -> u8
@@ -45,7 +45,7 @@ impl SealFault {
 
 impl From<CodecFault> for SealFault {
     ghost use Rattle.std.specs.Prelude.{◌≡◌};
-    ghost use Rattle.seal.specs.FaultNumber.{from_codec};
+    ghost use Rattle.seal.specs.Faults.{from_codec};
 
     ghost from_gives = { λ fault gives. gives ≡ from_codec fault };
 

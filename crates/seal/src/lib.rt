@@ -5,16 +5,16 @@
 #![tactic(auto)]
 
 mod checked;
-mod copying;
 mod fault;
-mod judging;
-mod kinds;
+mod nested_body;
+mod nested_messages;
 mod opening;
 mod part;
 mod sealing;
 #[cfg(test)]
 mod tests;
-mod walking;
+mod try_clone;
+mod verify_parts;
 
 pub use checked::Checked;
 pub use fault::SealFault;

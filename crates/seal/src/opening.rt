@@ -2,20 +2,20 @@ ghost use Rattle.std.specs.Prelude.{◌≡◌, ◌∷◌, ◌++◌, IfOk, IfErr,
 ghost use Rattle.std.specs.List.{AllByRecursion, flat_map};
 ghost use Rattle.pbft_codec.specs.declared.body.Body.{Body};
 ghost use Rattle.pbft_codec.specs.declared.signed.Signed.{Signed};
-ghost use Rattle.pbft_codec.specs.Shape.{Spells};
-ghost use Rattle.pbft_codec.specs.Spelling.{signed_text};
+ghost use Rattle.pbft_codec.specs.WellFormed.{Encodes};
+ghost use Rattle.pbft_codec.specs.Encoding.{signed_text};
 ghost use Rattle.sha2.specs.Sha256.{sha256};
-ghost use Rattle.seal.specs.FaultNumber.{IsProper};
+ghost use Rattle.seal.specs.Faults.{IsProper};
 ghost use Rattle.seal.specs.Opening.{IsUnlessMemory, opening};
 ghost use Rattle.seal.specs.Parts.{messages_in, parts_of, part_of, children_of};
-ghost use Rattle.seal.specs.Signers.{IsSound};
+ghost use Rattle.seal.specs.Signers.{IsAuthentic};
 
 use crate::checked::Checked;
-use crate::copying::Copied;
 use crate::fault::SealFault;
-use crate::judging::judge_whole;
+use crate::nested_messages::{children, descendants};
 use crate::part::Part;
-use crate::walking::{children, descendants};
+use crate::try_clone::TryClone;
+use crate::verify_parts::verify_message;
 use host_types::{Bytes, Config, Digest};
 use pbft_codec::{Signed, decode};
 use sha2::{Digest as _, Sha256};
@@ -28,11 +28,11 @@ use std::sync::Arc;
 /// order. `Memory` comes where memory ran out, whatever the bytes.
 pub fn open(alloc: Global, config: &Arc<Config>, bytes: &[u8]) -> Result<Checked, SealFault>
     // What is opened was spelled so, and is sound.
-    ensures found { IfOk result (λ c. Spells bytes.now c.message × (c.config ≡ config.now.value)
-        × AllByRecursion (IsSound config.now.value) (messages_in c.message)) }
+    ensures found { IfOk result (λ c. Encodes bytes.now c.message × (c.config ≡ config.now.value)
+        × AllByRecursion (IsAuthentic config.now.value) (messages_in c.message)) }
 
     // What is spelled so and sound is opened.
-    ensures only { (m : Signed Body) → Spells bytes.now m → AllByRecursion (IsSound config.now.value) (messages_in m) →
+    ensures only { (m : Signed Body) → Encodes bytes.now m → AllByRecursion (IsAuthentic config.now.value) (messages_in m) →
         IsUnlessMemory result (Ok (record { config = config.now.value; message = m })) }
 
     // Which fault it is; that of the codec is never its want of memory.
@@ -43,13 +43,13 @@ pub fn open(alloc: Global, config: &Arc<Config>, bytes: &[u8]) -> Result<Checked
 }
 
 fn opened(alloc: Global, config: &Arc<Config>, bytes: &[u8]) -> Result<Checked, SealFault>
-    ensures found { IfOk result (λ c. Spells bytes.now c.message × (c.config ≡ config.now.value)
-        × AllByRecursion (IsSound config.now.value) (messages_in c.message)) }
+    ensures found { IfOk result (λ c. Encodes bytes.now c.message × (c.config ≡ config.now.value)
+        × AllByRecursion (IsAuthentic config.now.value) (messages_in c.message)) }
     ensures exact { IsUnlessMemory result (opening config.now.value bytes.now) }
     ensures proper { IfErr result IsProper }
 {
     let message = decode(alloc, bytes)?;
-    judge_whole(alloc, config, &message)?;
+    verify_message(alloc, config, &message)?;
     let copy = Vec::from_slice(alloc, bytes)?;
     Ok(Checked::new(alloc, config, message, Bytes::from_vec(copy))?)
 }
@@ -64,7 +64,7 @@ pub fn parts(alloc: Global, message: &Checked) -> Result<Vec<Part>, AllocError>
     parts.push(Part {
         role: whole.role,
         id: whole.id,
-        body: whole.body.copied(alloc)?,
+        body: whole.body.try_clone(alloc)?,
     })?;
     for inside in descendants(alloc, &whole.body)? {
         let Signed { role, id, body, .. } = inside;
@@ -83,10 +83,10 @@ pub fn nested(alloc: Global, message: &Checked) -> Result<Vec<Checked>, AllocErr
     ensures parts { IfOk result (λ inside.
         parts_of message.now.message ≡ part_of message.now.message ∷ flat_map (λ c. parts_of c.message) inside.items) }
 {
-    held(alloc, message)
+    messages_within(alloc, message)
 }
 
-fn held(alloc: Global, message: &Checked) -> Result<Vec<Checked>, AllocError>
+fn messages_within(alloc: Global, message: &Checked) -> Result<Vec<Checked>, AllocError>
     ensures { IfOk result (λ inside.
         inside.items ≡ map (λ m. record { config = message.now.config; message = m }) (children_of message.now.message.body)) }
 {

@@ -3,11 +3,11 @@ ghost use Rattle.std.specs.List.{AllByRecursion};
 ghost use Rattle.lms_tree.specs.declared.fault.SignFault.{SignFault};
 ghost use Rattle.lms_tree.specs.Signature.{public_key_of};
 ghost use Rattle.lms_tree.specs.SigningState.{leaf_count_of};
-ghost use Rattle.pbft_codec.specs.Shape.{BodyShape};
-ghost use Rattle.pbft_codec.specs.Spelling.{body as body_spelling, most_bytes};
-ghost use Rattle.seal.specs.Opening.{sealed, around_body};
+ghost use Rattle.pbft_codec.specs.WellFormed.{BodyWellFormed};
+ghost use Rattle.pbft_codec.specs.Encoding.{body as encoded_body, max_bytes};
+ghost use Rattle.seal.specs.Opening.{sealed_message, around_body};
 ghost use Rattle.seal.specs.Parts.{nested_in};
-ghost use Rattle.seal.specs.Signers.{IsSound, key_of, may_sign};
+ghost use Rattle.seal.specs.Signers.{IsAuthentic, key_of, may_sign};
 
 use crate::checked::Checked;
 use host_types::{Bytes, Config};
@@ -43,10 +43,10 @@ pub fn seal(
 ) -> Result<Checked, SignFault>
     requires key { key_of config.now.value role id ≡ Some (public_key_of signer.old.height signer.old.id signer.old.secret) }
     requires role { IsTrue (may_sign config.now.value role id body) }
-    requires shape { BodyShape body }
-    requires within { length (body_spelling body) + around_body signer.old.height ≤ most_bytes }
-    requires nested { AllByRecursion (IsSound config.now.value) (nested_in body) }
-    ensures signed { IfOk result (λ c. c ≡ record { config = config.now.value; message = sealed signer.old role id body }) }
+    requires well_formed { BodyWellFormed body }
+    requires within { length (encoded_body body) + around_body signer.old.height ≤ max_bytes }
+    requires nested { AllByRecursion (IsAuthentic config.now.value) (nested_in body) }
+    ensures signed { IfOk result (λ c. c ≡ record { config = config.now.value; message = sealed_message signer.old role id body }) }
     ensures used { IfOk result (λ _. signer.new ≡ record signer.old { next_leaf = signer.old.next_leaf + 1 }) }
     ensures exhausted { IsErrOf result SignFault.Exhausted ↔ (signer.old.next_leaf ≡ leaf_count_of signer.old.height) }
     ensures unchanged { IsErrOf result SignFault.Exhausted → signer.new ≡ signer.old }

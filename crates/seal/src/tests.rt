@@ -1,10 +1,10 @@
 ghost use Rattle.std.specs.Prelude.{◌≡◌, [], IfOk};
-ghost use Rattle.pbft_codec.specs.Shape.{BodyShape};
+ghost use Rattle.pbft_codec.specs.WellFormed.{BodyWellFormed};
 ghost use Rattle.seal.specs.Parts.{nested_in};
 
 use super::*;
-use crate::judging::{is_right, listed_key};
 use crate::sealing::with_empty_signature;
+use crate::verify_parts::{listed_key, may_sign};
 use host_types::{Bytes, ClientEntry, ClientId, Config, TenantId};
 use lms_tree::{Height, SignFault, Signer};
 use pbft_codec::{Body, CodecFault, RequestBody, Role, signed_bytes};
@@ -41,7 +41,7 @@ fn config(alloc: Global, keys: &[[u8; 56]], client: [u8; 56]) -> Result<Arc<Conf
     Ok(Arc::new(alloc, Config::new(1, 8, keys, clients)?)?)
 }
 
-fn put_counted(out: &mut Vec<u8>, bytes: &[u8]) -> Result<(), Fail> {
+fn put_length_prefixed(out: &mut Vec<u8>, bytes: &[u8]) -> Result<(), Fail> {
     let length = u32::try_from(bytes.len())?;
     out.extend_from_slice(&length.to_be_bytes())?;
     out.extend_from_slice(bytes)?;
@@ -68,8 +68,8 @@ fn message(
     let mut out = Vec::new(alloc);
     out.push(role)?;
     out.extend_from_slice(&id.to_be_bytes())?;
-    put_counted(&mut out, body)?;
-    put_counted(&mut out, &sig)?;
+    put_length_prefixed(&mut out, body)?;
+    put_length_prefixed(&mut out, &sig)?;
     Ok(out)
 }
 
@@ -223,12 +223,12 @@ fn kind(body: &Body) -> u8 {
 }
 
 // Signers and kinds.
-fn shown(alloc: Global, parts: &[Part]) -> Result<Vec<(u32, u8)>, Fail> {
-    let mut shown = Vec::new(alloc);
+fn signers_and_kinds(alloc: Global, parts: &[Part]) -> Result<Vec<(u32, u8)>, Fail> {
+    let mut signers_and_kinds = Vec::new(alloc);
     for part in parts {
-        shown.push((part.id, kind(&part.body)))?;
+        signers_and_kinds.push((part.id, kind(&part.body)))?;
     }
-    Ok(shown)
+    Ok(signers_and_kinds)
 }
 
 // The NewView for view 1 of replica 1, over its own ViewChange and this one of replica 2.
@@ -281,7 +281,7 @@ fn check_new_view(
     entry: &Entry,
 ) -> Result<(), Fail> {
     assert_eq!(rt;
-        shown(alloc, &parts(alloc, opened)?)?.as_slice(),
+        signers_and_kinds(alloc, &parts(alloc, opened)?)?.as_slice(),
         [
             (1, 8),
             (1, 7),
@@ -335,7 +335,7 @@ fn the_parts_of_a_new_view(rt: HostRuntime) -> Result<(), Fail> {
 }
 
 // Seals a body without nested messages, after what its caller owes was tested.
-fn sealed(
+fn sealed_message(
     rt: &impl Abort,
     alloc: Global,
     config: &Arc<Config>,
@@ -343,14 +343,14 @@ fn sealed(
     id: u32,
     body: Body,
 ) -> Result<Result<Checked, SignFault>, Fail>
-    requires shape { BodyShape body }
+    requires well_formed { BodyWellFormed body }
     requires flat { nested_in body ≡ [] }
 {
     let Some(key) = listed_key(config, Role::Client, id) else {
         return Err("no key")?;
     };
     assert!(rt; *key == signer.public_key());
-    assert!(rt; is_right(config, Role::Client, id, &body));
+    assert!(rt; may_sign(config, Role::Client, id, &body));
     let unsigned = with_empty_signature(alloc, Role::Client, id, body);
     let text = signed_bytes(alloc, &unsigned)?;
     assert!(rt; text.len() < 8_000_000);
@@ -358,7 +358,7 @@ fn sealed(
 }
 
 fn request(alloc: Global) -> Result<Body, Fail>
-    ensures { IfOk result (λ body. BodyShape body × (nested_in body ≡ [])) }
+    ensures { IfOk result (λ body. BodyWellFormed body × (nested_in body ≡ [])) }
 {
     Ok(Body::Request(RequestBody {
         time: 1,
@@ -372,7 +372,7 @@ fn a_signer_seals_until_it_is_exhausted(rt: HostRuntime) -> Result<(), Fail> {
     let mut signer = client(alloc)?;
     let config = config(alloc, &[[0; 56]; 4], signer.public_key())?;
     let bytes = message(alloc, &mut client(alloc)?, CLIENT, 100, &REQUEST)?;
-    let first = sealed(&rt, alloc, &config, &mut signer, 100, request(alloc)?)??;
+    let first = sealed_message(&rt, alloc, &config, &mut signer, 100, request(alloc)?)??;
     assert_eq!(rt; first.bytes(), bytes.as_slice());
     assert_eq!(rt; first.signer(), (Role::Client, 100));
     assert_eq!(rt; kind(first.body()), 1);
@@ -380,16 +380,16 @@ fn a_signer_seals_until_it_is_exhausted(rt: HostRuntime) -> Result<(), Fail> {
     assert_eq!(rt; first.config().f(), 1);
     assert_eq!(rt; open(alloc, first.config(), first.bytes()).err(), None);
     assert_eq!(rt;
-        shown(alloc, &parts(alloc, &first)?)?.as_slice(),
+        signers_and_kinds(alloc, &parts(alloc, &first)?)?.as_slice(),
         [(100, 1)].as_slice()
     );
     assert_eq!(rt; nested(alloc, &first)?.len(), 0);
     let digest = Sha256::digest(&text(alloc, CLIENT, 100, &REQUEST)?);
     assert_eq!(rt; request_digest(&first).0, digest);
     for _ in 1..32 {
-        let _next = sealed(&rt, alloc, &config, &mut signer, 100, request(alloc)?)??;
+        let _next = sealed_message(&rt, alloc, &config, &mut signer, 100, request(alloc)?)??;
     }
-    let none = sealed(&rt, alloc, &config, &mut signer, 100, request(alloc)?)?;
+    let none = sealed_message(&rt, alloc, &config, &mut signer, 100, request(alloc)?)?;
     assert_eq!(rt; none.err(), Some(SignFault::Exhausted));
     assert_eq!(rt; signer.next_leaf(), 32);
     Ok(())

@@ -1,9 +1,9 @@
 use Rattle.std.proofs.Common.{◌≡◌, ℕ, ◌-◌, ◌<◌, List, ◌++◌, get_or, ◌∙◌, ap, arith}
 use Rattle.sha2.specs.Sha256.{sha256}
-use Rattle.lms_ots.specs.Ots.{chain, digit, digits_of, joined, message_hash, randomizer_in, tagged_hash, u16str, u32str, value_in}
+use Rattle.lms_ots.specs.Ots.{chain, digit, digits_of, concatenation, message_hash, randomizer_in, tagged_hash, u16str, u32str, value_in}
 use Rattle.lms_ots.proofs.DigitLemmas.{get_or-digits_of}
 use Rattle.lms_ots.proofs.Hashing.{Holds-more, Holds-none}
-use Rattle.lms_ots.proofs.Joined.{joined_same}
+use Rattle.lms_ots.proofs.Concatenation.{joined_same}
 use Rattle.lms_ots.proofs.Law.{digit-le}
 use Rattle.lms_ots.proofs.ots_candidate.Goals as goal
 
@@ -41,6 +41,6 @@ returns c =
     λ i h. ap (λ ds. get_or ds i 0) digits ∙ get_or-digits_of q i h in
     c.finalize.ensures _ c.chains.invariant
     ∙ (ap (λ n. sha256 (a.id.now ++ u32str a.leaf ++ u16str 0x8080
-    ++ joined (λ i. chain a.id.now a.leaf i (get_or c.digits-digits.result i 0) (15 - get_or c.digits-digits.result i 0) (value_in a.signature.now i)) n)) all
+    ++ concatenation (λ i. chain a.id.now a.leaf i (get_or c.digits-digits.result i 0) (15 - get_or c.digits-digits.result i 0) (value_in a.signature.now i)) n)) all
     ∙ ap (λ ys. sha256 (a.id.now ++ u32str a.leaf ++ u16str 0x8080 ++ ys))
     (joined_same _ _ 67 (λ i h. ap (λ d. chain a.id.now a.leaf i d (15 - d) (value_in a.signature.now i)) (places i h))))

@@ -1,6 +1,6 @@
 use Rattle.std.proofs.Common.{◌≡◌, ◌++◌, ◌∙◌, ap, arith}
 use Rattle.sha2.specs.Sha256.{sha256}
-use Rattle.lms_ots.specs.Ots.{chain, chain_start, joined, tagged_hash, u16str, u32str}
+use Rattle.lms_ots.specs.Ots.{chain, chain_start, concatenation, tagged_hash, u16str, u32str}
 use Rattle.lms_ots.proofs.Hashing.{Holds-more, Holds-none}
 use Rattle.lms_ots.proofs.ots_public.Goals as goal
 
@@ -23,4 +23,4 @@ returns c =
     let all : c.chains.i ≡ 67 = omega arith in
     c.finalize.ensures _ c.chains.invariant
     ∙ ap (λ n. sha256 (a.id.now ++ u32str a.leaf ++ u16str 0x8080
-    ++ joined (λ i. chain a.id.now a.leaf i 0 15 (chain_start a.id.now a.leaf a.secret.now i)) n)) all
+    ++ concatenation (λ i. chain a.id.now a.leaf i 0 15 (chain_start a.id.now a.leaf a.secret.now i)) n)) all

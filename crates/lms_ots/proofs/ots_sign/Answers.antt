@@ -1,10 +1,10 @@
 use Rattle.std.proofs.Common.{◌≡◌, ℕ, ◌+◌, ◌-◌, ◌*◌, ◌≤◌, ◌<◌, List, [], ◌++◌, get_or, length, take, refl, sym, ◌∙◌, ap, arith}
 use Rattle.std.proofs.lemmas.List.{append-nil, take_all}
-use Rattle.lms_ots.specs.Ots.{chain, chain_start, digit, digits_of, joined, message_hash, randomizer, u32str}
+use Rattle.lms_ots.specs.Ots.{chain, chain_start, digit, digits_of, concatenation, message_hash, randomizer, u32str}
 use Rattle.lms_ots.proofs.Chains.{length-chain, length-tagged_hash, length-u32str}
 use Rattle.lms_ots.proofs.DigitLemmas.{get_or-digits_of}
-use Rattle.lms_ots.proofs.Joined.{joined-none, joined_push, joined_same}
-use Rattle.lms_ots.proofs.Pieces.{piece_more}
+use Rattle.lms_ots.proofs.Concatenation.{concatenation-none, joined_push, joined_same}
+use Rattle.lms_ots.proofs.BufferLemmas.{piece_more}
 use Rattle.lms_ots.proofs.ots_sign.Goals as goal
 
 pub chains-init : goal.chains-init
@@ -20,7 +20,7 @@ chains-init c =
     ∙ ap (λ t. u32str 3 ++ t) r.ensures in
     record {
       long = omega arith;
-      so_far = two ∙ sym (ap (λ t. u32str 3 ++ randomizer a.id.now a.leaf a.secret.now ++ t) (joined-none _) ∙ append-nil _);
+      so_far = two ∙ sym (ap (λ t. u32str 3 ++ randomizer a.id.now a.leaf a.secret.now ++ t) (concatenation-none _) ∙ append-nil _);
     }
 
 pub chains-preserved : goal.chains-preserved
@@ -40,7 +40,7 @@ chains-preserved c =
     c.chains.invariant.so_far c.put-in-chains.ensures in
     record {
       long = omega arith;
-      so_far = more ∙ (ap (λ t. u32str 3 ++ randomizer a.id.now a.leaf a.secret.now ++ joined f i ++ t) value ∙ joined_push _ f i);
+      so_far = more ∙ (ap (λ t. u32str 3 ++ randomizer a.id.now a.leaf a.secret.now ++ concatenation f i ++ t) value ∙ joined_push _ f i);
     }
 
 pub returns : goal.returns
@@ -59,6 +59,6 @@ returns c =
     λ i h. ap (λ ds. get_or ds i 0) digits ∙ get_or-digits_of q i h in
     sym (take_all (36 + 32 * c.chains.i) c.chains.signature long)
     ∙ (c.chains.invariant.so_far
-    ∙ (ap (λ n. u32str 3 ++ r ++ joined (λ i. chain a.id.now a.leaf i 0 (get_or c.digits-digits.result i 0) (chain_start a.id.now a.leaf a.secret.now i)) n) all
+    ∙ (ap (λ n. u32str 3 ++ r ++ concatenation (λ i. chain a.id.now a.leaf i 0 (get_or c.digits-digits.result i 0) (chain_start a.id.now a.leaf a.secret.now i)) n) all
     ∙ ap (λ ys. u32str 3 ++ r ++ ys)
     (joined_same _ _ 67 (λ i h. ap (λ d. chain a.id.now a.leaf i 0 d (chain_start a.id.now a.leaf a.secret.now i)) (places i h)))))

@@ -3,7 +3,7 @@ use Rattle.std.proofs.lemmas.List.{append_assoc}
 use Rattle.sha2.specs.Sha256.{sha256}
 use Rattle.lms_ots.specs.Ots.{tagged_hash, u16str, u32str}
 use Rattle.lms_ots.proofs.Chains.{length-u16str, length-u32str}
-use Rattle.lms_ots.proofs.Pieces.{piece_last, piece_more}
+use Rattle.lms_ots.proofs.BufferLemmas.{piece_last, piece_more}
 use Rattle.lms_ots.proofs.hash.block_hash.Goals as goal
 
 -- each `put` stands behind the ones before it, and the last one ends the input
@@ -17,7 +17,7 @@ returns c =
     let three = piece_more c.put-2.new.buffer c.put-3.new.buffer _ c.u16str.result 20 22 (omega arith) two c.put-3.ensures in
     let four = piece_more c.put-3.new.buffer c.put-4.new.buffer _ (c.args.step ∷ []) 22 23 refl three c.put-4.ensures in
     let all = piece_last c.put-4.new.buffer c.put-5.new.buffer _ c.args.value.now 23 (omega arith) four c.put-5.ensures in
-    let joined : c.args.id.now ++ c.u32str.result ++ c.u16str.result ≡ c.args.id.now ++ u32str c.args.number ++ u16str c.args.tag =
+    let concatenation : c.args.id.now ++ c.u32str.result ++ c.u16str.result ≡ c.args.id.now ++ u32str c.args.number ++ u16str c.args.tag =
     cc (c.u32str.ensures, c.u16str.ensures) in
     c.digest.ensures
-    ∙ ap sha256 (all ∙ (append_assoc _ (c.args.step ∷ []) c.args.value.now ∙ ap (λ p. p ++ (c.args.step ∷ c.args.value.now)) joined))
+    ∙ ap sha256 (all ∙ (append_assoc _ (c.args.step ∷ []) c.args.value.now ∙ ap (λ p. p ++ (c.args.step ∷ c.args.value.now)) concatenation))

@@ -1,8 +1,8 @@
 use Rattle.std.proofs.Common.{◌≡◌, ℕ, ◌+◌, ◌/◌, ◌^◌, List, sym, ◌∙◌, ap}
 use Rattle.lms_ots.specs.Ots.{candidate_of}
 use Rattle.lms_tree.specs.Signature.{ots_in, path_in, word_at}
-use Rattle.lms_tree.specs.Tree.{climbed, leaf_node, parent}
-use Rattle.lms_tree.proofs.TreeLemmas.{climbed-more, climbed-none}
+use Rattle.lms_tree.specs.Tree.{root_from_path, leaf_node, parent}
+use Rattle.lms_tree.proofs.TreeLemmas.{root_from_path-more, root_from_path-none}
 use Rattle.lms_tree.proofs.validity.candidate_root.Goals as goal
 
 pub path-init : goal.path-init
@@ -14,7 +14,7 @@ path-init c =
     c.ots_candidate.ensures
     ∙ (ap (λ q. candidate_of id q c.args.body.now c.bytes_at-ots.result) c.word_at-leaf.ensures
     ∙ ap (λ s. candidate_of id (word_at sig 0) c.args.body.now s) c.bytes_at-ots.ensures) in
-    c.leaf_node-value.ensures ∙ (ap (λ k. leaf_node id first k) value ∙ sym (climbed-none id first _ (path_in sig)))
+    c.leaf_node-value.ensures ∙ (ap (λ k. leaf_node id first k) value ∙ sym (root_from_path-none id first _ (path_in sig)))
 
 pub path-preserved : goal.path-preserved
 path-preserved c =
@@ -24,6 +24,6 @@ path-preserved c =
     let i : ℕ = c.path.i in
     let value : List ℕ = leaf_node id first (candidate_of id (word_at sig 0) c.args.body.now (ots_in sig)) in
     c.parent-value.ensures
-    ∙ (ap (λ v. parent id (first / 2 ^ i) v c.bytes_at-beside.result) c.path.invariant
-    ∙ (ap (λ b. parent id (first / 2 ^ i) (climbed id first value (path_in sig) i) b) c.bytes_at-beside.ensures
-    ∙ sym (climbed-more id first i value (path_in sig))))
+    ∙ (ap (λ v. parent id (first / 2 ^ i) v c.bytes_at-sibling_node.result) c.path.invariant
+    ∙ (ap (λ b. parent id (first / 2 ^ i) (root_from_path id first value (path_in sig) i) b) c.bytes_at-sibling_node.ensures
+    ∙ sym (root_from_path-more id first i value (path_in sig))))

@@ -1,6 +1,6 @@
 use Rattle.std.proofs.lemmas.Result.{on_ok_weaker}
 use Rattle.std.specs.Int.{w32, w64, to_be_bytes}
-use Rattle.pbft_codec.specs.Spelling.{reply}
+use Rattle.pbft_codec.specs.Encoding.{reply}
 use Rattle.pbft_codec.proofs.Loops.{five_parts}
 use Rattle.pbft_codec.proofs.bodies.put_reply.Goals as goal
 
@@ -8,4 +8,4 @@ pub returns-clause-text : goal.returns-clause-text
 unfolding reply
 returns-clause-text c =
     rw (← c.as_slice.ensures)
-    (on_ok_weaker c.put_counted.result (λ e. five_parts _ _ _ _ _ _ (to_be_bytes w32 c.args.answer.now.view.0) (to_be_bytes w32 c.args.answer.now.client.0) (to_be_bytes w64 c.args.answer.now.time) (to_be_bytes w64 c.args.answer.now.number.0) _ c.in_ok-put_u32.ensures.text c.in_ok-put_u32-2.ensures.text c.in_ok-put_u64.ensures.text c.in_ok-put_u64-2.ensures.text e) c.put_counted.ensures)
+    (on_ok_weaker c.put_length_prefixed.result (λ e. five_parts _ _ _ _ _ _ (to_be_bytes w32 c.args.answer.now.view.0) (to_be_bytes w32 c.args.answer.now.client.0) (to_be_bytes w64 c.args.answer.now.time) (to_be_bytes w64 c.args.answer.now.number.0) _ c.in_ok-put_u32.ensures.text c.in_ok-put_u32-2.ensures.text c.in_ok-put_u64.ensures.text c.in_ok-put_u64-2.ensures.text e) c.put_length_prefixed.ensures)

@@ -1,6 +1,6 @@
 use Rattle.std.proofs.lemmas.Result.{on_ok_weaker}
 use Rattle.std.specs.Int.{w32, w64, to_be_bytes}
-use Rattle.pbft_codec.specs.Spelling.{view_change}
+use Rattle.pbft_codec.specs.Encoding.{view_change}
 use Rattle.pbft_codec.proofs.Loops.{four_parts}
 use Rattle.pbft_codec.proofs.bodies.put_view_change.Goals as goal
 
@@ -8,4 +8,4 @@ pub returns-clause-text : goal.returns-clause-text
 unfolding view_change
 returns-clause-text c =
     rw (← c.as_slice.ensures, ← c.as_slice-2.ensures)
-    (on_ok_weaker c.put_several-2.result (λ e. four_parts _ _ _ _ _ (to_be_bytes w32 c.args.change.now.view.0) (to_be_bytes w64 c.args.change.now.low.0) _ _ c.in_ok-put_u32.ensures.text c.in_ok-put_u64.ensures.text c.in_ok-put_several.ensures.text e) c.put_several-2.ensures.text)
+    (on_ok_weaker c.put_list-2.result (λ e. four_parts _ _ _ _ _ (to_be_bytes w32 c.args.change.now.view.0) (to_be_bytes w64 c.args.change.now.low.0) _ _ c.in_ok-put_u32.ensures.text c.in_ok-put_u64.ensures.text c.in_ok-put_list.ensures.text e) c.put_list-2.ensures.text)

@@ -1,9 +1,9 @@
 use Rattle.std.proofs.Common.{◌≡◌, ℕ, List, ◌+◌, ◌-◌, ◌++◌, take, drop, length, ap, ◌∙◌, arith}
-use Rattle.pbft_codec.specs.Spelling.{body}
+use Rattle.pbft_codec.specs.Encoding.{body}
 use Rattle.pbft_codec.specs.declared.body.Body.{Body}
 use Rattle.pbft_codec.specs.declared.signed.Signed.{Signed}
 use Rattle.sha2.specs.Sha256.{sha256}
-use Rattle.seal.proofs.Pieces.{front, head, said, length-signed}
+use Rattle.seal.proofs.EncodingLaws.{front, head, said, length-signed}
 use Rattle.seal.proofs.opening.request_digest.Goals as goal
 
 pub split_at-requires : goal.split_at-requires

@@ -1,7 +1,7 @@
 use Rattle.std.proofs.Common.{ap}
 use Rattle.pbft_codec.specs.declared.body.Body.{Body}
 use Rattle.pbft_codec.specs.declared.signed.Signed.{Signed}
-use Rattle.seal.proofs.Pieces.{sealed_within}
+use Rattle.seal.proofs.EncodingLaws.{sealed_within}
 use Rattle.seal.proofs.sealing.seal.Goals as goal
 
 pub encoded-requires-clause-within : goal.encoded-requires-clause-within

@@ -1,5 +1,5 @@
 use Rattle.std.proofs.Common.{ap, length, arith}
-use Rattle.host_types.proofs.Placed.{length-collected-all}
+use Rattle.host_types.proofs.InsertSorted.{length-collected-all}
 use Rattle.host_types.proofs.config.Config.client_ids.Goals as goal
 
 pub unreachable-requires : goal.unreachable-requires

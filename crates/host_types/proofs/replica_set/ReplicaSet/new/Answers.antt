@@ -1,5 +1,5 @@
-use Rattle.host_types.proofs.MarkLemmas.{empty_of_no_marks}
+use Rattle.host_types.proofs.BitLemmas.{empty_of_no_bits}
 use Rattle.host_types.proofs.replica_set.ReplicaSet.new.Goals as goal
 
 pub returns : goal.returns
-returns c = empty_of_no_marks 256
+returns c = empty_of_no_bits 256

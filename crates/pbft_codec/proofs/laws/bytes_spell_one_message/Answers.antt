@@ -1,5 +1,0 @@
-use Rattle.pbft_codec.proofs.MessageLaws.{one_message}
-use Rattle.pbft_codec.proofs.laws.bytes_spell_one_message.Goals as goal
-
-pub returns : goal.returns
-returns c = one_message

@@ -1,5 +1,0 @@
-use Rattle.pbft_codec.proofs.MessageLaws.{one_signed_text}
-use Rattle.pbft_codec.proofs.laws.signed_bytes_tell_signer_and_body.Goals as goal
-
-pub returns : goal.returns
-returns c = one_signed_text

@@ -1,0 +1,103 @@
+-- Sound messages are those without a fault, and what is sound as a whole is sound in its parts.
+use Rattle.std.proofs.Common.{◌≡◌, ℕ, suc, ◌+◌, ◌<◌, ◌≤◌, Bool, true, false, not, cond, List, [], ◌∷◌, ◌++◌, length, get_or, drop, Option, Some, None, Result, refl, sym, ap, subst, ◌∙◌, ◌⊎◌, inl, inr, arith}
+use Rattle.std.specs.Prelude.{is_some, MatchResult}
+use Rattle.std.specs.List.{AllByRecursion}
+use Rattle.std.proofs.Math.Seq.{drop-cons}
+use Rattle.std.proofs.Math.ListN.{drop_of_length-le}
+use Rattle.host_types.specs.Configuration.{Configuration}
+use Rattle.lms_tree.specs.declared.fault.SigFault.{SigFault}
+use Rattle.pbft_codec.specs.declared.body.Body.{Body}
+use Rattle.pbft_codec.specs.declared.signed.Signed.{Signed}
+use Rattle.seal.specs.declared.fault.SealFault.{SealFault}
+use Rattle.seal.specs.declared.fault.SealFault.TheVariants.{BadSignature, WrongRole, Memory}
+use Rattle.seal.specs.Signers.{IsAuthentic, key_of, may_sign, fault_under, own_fault, or_later, first_fault}
+
+-- ---- lists
+
+pub all_split : {X : Type 0} (P : X → Type 0) (xs ys : List X) → AllByRecursion P (xs ++ ys) → AllByRecursion P xs × AllByRecursion P ys
+all_split P [] ys h = (tt, h)
+all_split P (x ∷ xs) ys h = let rest = all_split P xs ys h.1 in ((h.0, rest.0), rest.1)
+
+pub all_join : {X : Type 0} (P : X → Type 0) (xs ys : List X) → AllByRecursion P xs → AllByRecursion P ys → AllByRecursion P (xs ++ ys)
+all_join P [] ys h k = k
+all_join P (x ∷ xs) ys h k = (h.0, all_join P xs ys h.1 k)
+
+-- ---- one message
+
+role_and_valid : (t : Bool) (f : Option SigFault) → cond (not t) (Some WrongRole) (cond (is_some f) (Some BadSignature) None) ≡ None → (t ≡ true) × (f ≡ None)
+role_and_valid true None e = (refl, refl)
+role_and_valid true (Some x) e = absurd cc
+role_and_valid false f e = absurd cc
+
+under_key : (c : Configuration) (m : Signed Body) (key : Option (List ℕ)) → key_of c m.role m.id ≡ key → fault_under c key m ≡ None → IsAuthentic c m
+under_key c m None is e = absurd cc
+under_key c m (Some key) is e =
+    let pair = role_and_valid (may_sign c m.role m.id m.body) _ e in
+    record { key = key; listed = is; role = pair.0; signature = pair.1 }
+
+pub faultless_is_authentic : (c : Configuration) (m : Signed Body) → own_fault c m ≡ None → IsAuthentic c m
+unfolding own_fault
+faultless_is_authentic c m e = under_key c m (key_of c m.role m.id) refl e
+
+pub authentic_is_faultless : (c : Configuration) (m : Signed Body) → IsAuthentic c m → own_fault c m ≡ None
+unfolding own_fault
+authentic_is_faultless c m s = rw (s.listed, s.role, s.signature) refl
+
+-- ---- several
+
+or_none : (one later : Option SealFault) → or_later one later ≡ None → (one ≡ None) × (later ≡ None)
+or_none None later e = (refl, e)
+or_none (Some f) later e = absurd cc
+
+pub all_authentic : (c : Configuration) (ms : List (Signed Body)) → first_fault c ms ≡ None → AllByRecursion (IsAuthentic c) ms
+unfolding first_fault
+all_authentic c [] e = tt
+all_authentic c (m ∷ ms) e =
+    let pair = or_none (own_fault c m) (first_fault c ms) e in
+    (faultless_is_authentic c m pair.0, all_authentic c ms pair.1)
+
+pub all_faultless : (c : Configuration) (ms : List (Signed Body)) → AllByRecursion (IsAuthentic c) ms → first_fault c ms ≡ None
+unfolding first_fault
+all_faultless c [] s = refl
+all_faultless c (m ∷ ms) s = rw (authentic_is_faultless c m s.0) (all_faultless c ms s.1)
+
+-- ---- one after the other
+
+pub goes_on : (c : Configuration) (ms : List (Signed Body)) (i : ℕ) (m : Signed Body) → i < length ms → own_fault c (get_or ms i m) ≡ None → first_fault c (drop i ms) ≡ first_fault c (drop (i + 1) ms)
+unfolding first_fault
+goes_on c ms i m lt e =
+    let next : i + 1 ≡ suc i = omega arith in
+    rw (next, drop-cons ms i m lt) (rw e refl)
+
+pub stops : (c : Configuration) (ms : List (Signed Body)) (i : ℕ) (m : Signed Body) (f : SealFault) → i < length ms → own_fault c (get_or ms i m) ≡ Some f → first_fault c (drop i ms) ≡ Some f
+unfolding first_fault
+stops c ms i m f lt e = rw (drop-cons ms i m lt) (rw e refl)
+
+abbrev pub MemoryOr : SealFault → Option SealFault → Type 0
+MemoryOr f o = (f ≡ Memory) ⊎ (o ≡ Some f)
+
+pub stops_whole : (c : Configuration) (ms : List (Signed Body)) (i : ℕ) (m : Signed Body) (f : SealFault) → i < length ms → m ≡ get_or ms i m → first_fault c ms ≡ first_fault c (drop i ms) → MemoryOr f (own_fault c m) → MemoryOr f (first_fault c ms)
+stops_whole c ms i m f lt is so_far (inl e) = inl e
+stops_whole c ms i m f lt is so_far (inr e) = inr (so_far ∙ stops c ms i m f lt (ap (own_fault c) (sym is) ∙ e))
+
+pub first_is_it : (c : Configuration) (m : Signed Body) (ms : List (Signed Body)) (f : SealFault) → MemoryOr f (own_fault c m) → MemoryOr f (first_fault c (m ∷ ms))
+unfolding first_fault
+first_is_it c m ms f (inl e) = inl e
+first_is_it c m ms f (inr e) = inr (rw e refl)
+
+pub first_is_not : (c : Configuration) (m : Signed Body) (ms : List (Signed Body)) → own_fault c m ≡ None → first_fault c (m ∷ ms) ≡ first_fault c ms
+unfolding first_fault
+first_is_not c m ms e = rw e refl
+
+pub none_left : (c : Configuration) (ms : List (Signed Body)) (i : ℕ) → length ms ≤ i → first_fault c ms ≡ first_fault c (drop i ms) → first_fault c ms ≡ None
+unfolding first_fault
+none_left c ms i le so_far = so_far ∙ ap (first_fault c) (drop_of_length-le ms le)
+
+-- what judging several answered
+abbrev pub Verifies : {X : Type 0} → Result X SealFault → Configuration → List (Signed Body) → Type 0
+Verifies r c ms = MatchResult r (λ _. first_fault c ms ≡ None) (λ f. MemoryOr f (first_fault c ms))
+
+pub verified_rest : {X : Type 0} (r : Result X SealFault) (c : Configuration) (m : Signed Body) (ms others : List (Signed Body)) → own_fault c m ≡ None → ms ≡ others → Verifies r c ms → Verifies r c (m ∷ others)
+verified_rest r c m ms others none is verified =
+    let same : first_fault c ms ≡ first_fault c (m ∷ others) = ap (first_fault c) is ∙ sym (first_is_not c m others none) in
+    subst (λ (o : Option SealFault). MatchResult r (λ _. o ≡ None) (λ f. MemoryOr f o)) same verified
