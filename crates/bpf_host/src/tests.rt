@@ -1,10 +1,65 @@
 use crate::command::run_command;
 use bpf_decode::{decode_all, encode_all};
 use std::io::{self, Read, Write};
+use std::process::Abort;
 use std::test::Fail;
+
+mod rows;
 
 /// Words, input, status and output of a run.
 type Case = (&'static [&'static str], &'static str, u8, &'static str);
+
+/// Runs each row of a table and compares status and output.
+fn run_rows<R: Abort + AllocGlobal>(rt: &R, rows: &str) -> Result<(), Fail> {
+    let alloc = rt.alloc();
+    for row in rows.lines() {
+        let mut fields = row.split(" | ");
+        let words = fields.next().ok_or("no words")?;
+        let input = fields.next().ok_or("no input")?;
+        let status = fields.next().ok_or("no status")?;
+        let output = fields.next().ok_or("no output")?;
+        let mut all = vec![in alloc; "bpf_host"]?;
+        for word in words.split(' ') {
+            all.push(if word == "-" { "" } else { word })?;
+        }
+        let mut reader = input.as_bytes();
+        let mut written = Vec::new(alloc);
+        let got = run_command(rt, &all, &mut reader, &mut written);
+        let wanted = output.replace(alloc, "/", "\n")?;
+        assert_eq!(rt; got, status.parse::<u8>()?, "{row}");
+        assert_eq!(rt;
+            str::from_utf8(&written)?.trim_end(),
+            wanted.as_str(),
+            "{row}"
+        );
+    }
+    Ok(())
+}
+
+#[test]
+fn results_of_accepted_code(rt: HostRuntime) -> Result<(), Fail> {
+    run_rows(&rt, rows::RESULTS)
+}
+
+#[test]
+fn bytes_that_encode_no_instructions(rt: HostRuntime) -> Result<(), Fail> {
+    run_rows(&rt, rows::NO_CODE)
+}
+
+#[test]
+fn code_refused_for_its_structure(rt: HostRuntime) -> Result<(), Fail> {
+    run_rows(&rt, rows::BAD_STRUCTURE)
+}
+
+#[test]
+fn code_refused_for_its_dataflow(rt: HostRuntime) -> Result<(), Fail> {
+    run_rows(&rt, rows::BAD_DATAFLOW)
+}
+
+#[test]
+fn input_that_is_no_code(rt: HostRuntime) -> Result<(), Fail> {
+    run_rows(&rt, rows::BAD_INPUT)
+}
 
 #[test]
 fn runs_of_the_program(rt: HostRuntime) -> Result<(), Fail> {

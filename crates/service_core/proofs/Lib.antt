@@ -8,3 +8,6 @@ pub mod Counting
 pub mod Whole
 pub mod Determined
 pub mod Soundness
+pub mod PrefixFree
+pub mod Clients
+pub mod Injective

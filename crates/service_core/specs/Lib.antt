@@ -7,3 +7,4 @@ pub mod Steps
 pub mod Encoding
 pub mod Sinks
 pub mod Sound
+pub mod Bounded

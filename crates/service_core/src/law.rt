@@ -7,6 +7,8 @@ ghost use Rattle.host_types.specs.Configuration.{Configuration};
 ghost use Rattle.service_core.specs.TenantStates.{Service, genesis_of};
 ghost use Rattle.service_core.specs.Steps.{IsStep, Serves};
 ghost use Rattle.service_core.specs.Sound.{IsSound, NoneGoesWrong};
+ghost use Rattle.service_core.specs.Bounded.{IsBounded};
+ghost use Rattle.service_core.specs.Encoding.{encoded};
 
 /// A step of the service has one outcome: the state and the request determine the state after it and
 /// what is answered.
@@ -37,4 +39,11 @@ pub fn requests_have_one_outcome()
 pub fn installed_procedures_cannot_go_wrong()
     ensures { (config : Configuration) (requests : List (Option Request)) (after : Service) (outcomes : List Outcome) →
         Serves config requests after outcomes → NoneGoesWrong after }
+{}
+
+/// A state's bytes tell the state: two states that the service reaches under one configuration are
+/// equal where their bytes are.
+pub fn equal_bytes_are_equal_states()
+    ensures { (state other : Service) → IsBounded state → IsBounded other → IsSound state → IsSound other →
+        state.config ≡ other.config → encoded state ≡ encoded other → state ≡ other }
 {}

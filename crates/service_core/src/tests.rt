@@ -1,3 +1,5 @@
+//! The service as installs and calls, and its states byte for byte.
+
 use super::*;
 use hex::encode;
 use host_types::{Bytes, ClientEntry, ClientId, Config, Request, TenantId};
@@ -7,10 +9,10 @@ use std::process::Abort;
 use std::sync::Arc;
 use std::test::Fail;
 
-// Code that puts 7 into r0 and exits.
+/// Code that puts 7 into r0 and exits.
 const SEVEN: &[u8] = &[0xb7, 0, 0, 0, 7, 0, 0, 0, 0x95, 0, 0, 0, 0, 0, 0, 0];
 
-// A configuration of four replicas, with a client for each pair of an id and a tenant.
+/// A configuration of four replicas, with a client for each pair of an id and a tenant.
 fn config(alloc: Global, pairs: &[(u32, u32)]) -> Result<Arc<Config>, Fail> {
     let mut keys = Vec::new(alloc);
     for index in 0..4u8 {
@@ -28,41 +30,46 @@ fn config(alloc: Global, pairs: &[(u32, u32)]) -> Result<Arc<Config>, Fail> {
     Ok(Arc::new(alloc, config)?)
 }
 
-// A request whose operation is `kind` and then `rest`.
-fn request(
-    alloc: Global,
-    client: u32,
-    time: u64,
-    kind: u8,
-    rest: &[u8],
-) -> Result<Request, AllocError> {
-    let mut op = [kind].to_vec(alloc)?;
-    op.extend_from_slice(rest)?;
-    Ok(Request {
-        client: ClientId(client),
-        time,
-        op: Bytes::from_vec(op),
-    })
+/// The bytes of an installation of `code`.
+fn install(alloc: Global, code: &[u8]) -> Result<Bytes, AllocError> {
+    let mut op = [1].to_vec(alloc)?;
+    op.extend_from_slice(code)?;
+    Ok(Bytes::from_vec(op))
 }
 
-// The request is taken where it may be.
-fn taken(state: &mut State, request: &Request) -> Result<Outcome, Fail> {
+/// The bytes of a call of a procedure.
+fn call(alloc: Global, procedure: u32, arguments: &[u8]) -> Result<Bytes, AllocError> {
+    let mut op = [2].to_vec(alloc)?;
+    op.extend_from_slice(&procedure.to_be_bytes())?;
+    op.extend_from_slice(arguments)?;
+    Ok(Bytes::from_vec(op))
+}
+
+/// An operation of these bytes.
+fn raw(alloc: Global, bytes: &[u8]) -> Result<Bytes, AllocError> {
+    Ok(Bytes::from_vec(bytes.to_vec(alloc)?))
+}
+
+/// A client's request for an operation.
+fn request(client: u32, time: u64, op: Bytes) -> Request {
+    Request {
+        client: ClientId(client),
+        time,
+        op,
+    }
+}
+
+/// Applies a request where its conditions hold.
+fn apply(state: &mut State, request: &Request) -> Result<Outcome, Fail> {
     if state.number().0 > 10_000 || !state.is_listed(request.client) {
-        return Err(Fail::new("not to be taken"));
+        return Err(Fail::new("can't be applied"));
     }
     Ok(state.apply(Some(request))?)
 }
 
-// The result of a request, in hex, with its number; `-` where there is no reply.
-fn told(
-    alloc: Global,
-    state: &mut State,
-    time: u64,
-    kind: u8,
-    rest: &[u8],
-) -> Result<String, Fail> {
-    let request = request(alloc, 100, time, kind, rest)?;
-    let outcome = taken(state, &request)?;
+/// The number and the result, in hex, that client 100 gets; `-` where there is no reply.
+fn reply_to(alloc: Global, state: &mut State, time: u64, op: Bytes) -> Result<String, Fail> {
+    let outcome = apply(state, &request(100, time, op))?;
     match outcome.reply {
         Some(reply) => {
             let number = reply.number.0;
@@ -77,19 +84,19 @@ fn told(
 fn a_time_is_answered_once(rt: HostRuntime) -> Result<(), Fail> {
     let alloc = rt.alloc();
     let mut state = State::genesis(alloc, config(alloc, &[(100, 1)])?)?;
-    assert_eq!(rt;
-        told(alloc, &mut state, 5, 1, SEVEN)?.as_str(),
-        "1 0000000000"
-    );
-    assert_eq!(rt;
-        told(alloc, &mut state, 5, 1, SEVEN)?.as_str(),
-        "1 0000000000"
-    );
-    assert_eq!(rt; told(alloc, &mut state, 4, 1, SEVEN)?.as_str(), "-");
+    for _ in 0..2 {
+        let seven = install(alloc, SEVEN)?;
+        assert_eq!(rt;
+            reply_to(alloc, &mut state, 5, seven)?.as_str(),
+            "1 0000000000"
+        );
+    }
+    let seven = install(alloc, SEVEN)?;
+    assert_eq!(rt; reply_to(alloc, &mut state, 4, seven)?.as_str(), "-");
     assert_eq!(rt; state.number().0, 3);
     assert_eq!(rt; state.last_time(ClientId(100)), Some(5));
     assert_eq!(rt; state.last_time(ClientId(101)), None);
-    let again = taken(&mut state, &request(alloc, 100, 5, 9, &[])?)?;
+    let again = apply(&mut state, &request(100, 5, raw(alloc, &[9])?))?;
     assert_eq!(rt; again.number.0, 4);
     assert!(rt; again.kept);
     Ok(())
@@ -100,49 +107,84 @@ fn operations_have_their_results(rt: HostRuntime) -> Result<(), Fail> {
     let alloc = rt.alloc();
     let mut state = State::genesis(alloc, config(alloc, &[(100, 1)])?)?;
     let falls_off = [0xb7, 0, 0, 0, 0, 0, 0, 0];
-    assert_eq!(rt; told(alloc, &mut state, 1, 1, &falls_off)?.as_str(), "1 02");
-    assert_eq!(rt; told(alloc, &mut state, 2, 3, &[])?.as_str(), "2 01");
-    assert_eq!(rt; told(alloc, &mut state, 3, 2, &[0, 0, 0])?.as_str(), "3 01");
-    assert_eq!(rt; told(alloc, &mut state, 4, 1, &[])?.as_str(), "4 02");
-    assert_eq!(rt;
-        told(alloc, &mut state, 5, 2, &[0, 0, 0, 9])?.as_str(),
-        "5 03"
-    );
-    assert_eq!(rt;
-        told(alloc, &mut state, 6, 1, SEVEN)?.as_str(),
-        "6 0000000000"
-    );
-    let long = [0; 261];
-    assert_eq!(rt; told(alloc, &mut state, 7, 2, &long)?.as_str(), "7 05");
-    assert_eq!(rt;
-        told(alloc, &mut state, 8, 2, &long[..260])?.as_str(),
-        "8 000000000000000007"
-    );
-    for time in 9..72u64 {
-        told(alloc, &mut state, time, 1, SEVEN)?;
+    let long = [0; 257];
+    let rows = [
+        (
+            "code that falls off its end",
+            install(alloc, &falls_off)?,
+            "02",
+        ),
+        ("no operation has number 3", raw(alloc, &[3])?, "01"),
+        ("an empty operation", raw(alloc, &[])?, "01"),
+        ("an id of three bytes", raw(alloc, &[2, 0, 0, 0])?, "01"),
+        ("no code", install(alloc, &[])?, "02"),
+        ("an id without procedure", call(alloc, 9, &[])?, "03"),
+        ("the first procedure", install(alloc, SEVEN)?, "0000000000"),
+        ("257 argument bytes", call(alloc, 0, &long)?, "05"),
+        (
+            "an id without procedure is judged first",
+            call(alloc, 1, &long)?,
+            "03",
+        ),
+        (
+            "256 argument bytes",
+            call(alloc, 0, &long[..256])?,
+            "000000000000000007",
+        ),
+    ];
+    let mut time = 0u64;
+    for (name, op, wanted) in rows {
+        time = time.saturating_add(1);
+        let wanted = format!(in alloc; "{time} {wanted}")?;
+        assert_eq!(rt;
+            reply_to(alloc, &mut state, time, op)?.as_str(),
+            wanted.as_str(),
+            "{name}"
+        );
     }
-    assert_eq!(rt; told(alloc, &mut state, 72, 1, SEVEN)?.as_str(), "72 04");
+    Ok(())
+}
+
+#[test]
+fn a_tenant_has_64_procedures(rt: HostRuntime) -> Result<(), Fail> {
+    let alloc = rt.alloc();
+    let mut state = State::genesis(alloc, config(alloc, &[(100, 1)])?)?;
+    for time in 1..65u64 {
+        let seven = install(alloc, SEVEN)?;
+        reply_to(alloc, &mut state, time, seven)?;
+    }
+    let seven = install(alloc, SEVEN)?;
+    assert_eq!(rt; reply_to(alloc, &mut state, 65, seven)?.as_str(), "65 04");
+    let refused = install(alloc, &[])?;
+    assert_eq!(rt; reply_to(alloc, &mut state, 66, refused)?.as_str(), "66 04");
+    let last = call(alloc, 63, &[])?;
     assert_eq!(rt;
-        told(alloc, &mut state, 73, 2, &[0, 0, 0, 63])?.as_str(),
-        "73 000000000000000007"
+        reply_to(alloc, &mut state, 67, last)?.as_str(),
+        "67 000000000000000007"
     );
     Ok(())
 }
 
 #[test]
-fn the_state_as_bytes(rt: HostRuntime) -> Result<(), Fail> {
+fn the_first_state_as_bytes(rt: HostRuntime) -> Result<(), Fail> {
     let alloc = rt.alloc();
-    let mut state = State::genesis(alloc, config(alloc, &[(100, 1)])?)?;
+    let state = State::genesis(alloc, config(alloc, &[(100, 1)])?)?;
     assert_eq!(rt;
         encode(alloc, state.to_bytes()?.as_slice())?.as_str(),
         "0100000000000000000000000000000001000000010000000000000000"
     );
+    Ok(())
+}
+
+#[test]
+fn a_small_state_as_bytes(rt: HostRuntime) -> Result<(), Fail> {
+    let alloc = rt.alloc();
+    let mut state = State::genesis(alloc, config(alloc, &[(100, 1)])?)?;
+    let seven = install(alloc, SEVEN)?;
+    reply_to(alloc, &mut state, 1, seven)?;
+    let first = call(alloc, 0, &[])?;
     assert_eq!(rt;
-        told(alloc, &mut state, 1, 1, SEVEN)?.as_str(),
-        "1 0000000000"
-    );
-    assert_eq!(rt;
-        told(alloc, &mut state, 2, 2, &[0, 0, 0, 0])?.as_str(),
+        reply_to(alloc, &mut state, 2, first)?.as_str(),
         "2 000000000000000007"
     );
     let bytes = state.to_bytes()?;
@@ -154,63 +196,107 @@ fn the_state_as_bytes(rt: HostRuntime) -> Result<(), Fail> {
         state.digest().0,
         <Sha256 as Digest>::digest(bytes.as_slice())
     );
-    assert_eq!(rt; state.number().0, 2);
     let outcome = state.apply(None)?;
     assert_eq!(rt; outcome.number.0, 3);
     assert!(rt; outcome.reply.is_none());
     Ok(())
 }
 
-#[test]
-fn each_tenant_has_its_own(rt: HostRuntime) -> Result<(), Fail> {
-    let alloc = rt.alloc();
-    let mut state = State::genesis(alloc, config(alloc, &[(300, 2), (100, 1), (200, 1)])?)?;
-    assert_eq!(rt;
-        told(alloc, &mut state, 1, 1, SEVEN)?.as_str(),
-        "1 0000000000"
-    );
-    let other = taken(&mut state, &request(alloc, 300, 1, 1, SEVEN)?)?;
-    assert_eq!(rt;
-        other.reply.ok_or("no reply")?.result.as_slice(),
-        [0; 5].as_slice()
-    );
-    let same = taken(&mut state, &request(alloc, 200, 1, 1, SEVEN)?)?;
-    assert_eq!(rt;
-        same.reply.ok_or("no reply")?.result.as_slice(),
-        [0, 0, 0, 0, 1].as_slice()
-    );
-    assert_eq!(rt;
-        state.last_reply(ClientId(300)).ok_or("not kept")?.number.0,
-        2
-    );
-    let bytes = state.to_bytes()?;
-    assert_eq!(rt; bytes.len(), 188);
-    Ok(())
-}
-
-// Code that puts the 32 argument bytes behind the first 16 at the key that these are.
+/// Code that puts the 32 argument bytes after the first 16 at the key that these are.
 const PUT: &[u8] = &[
     0xbf, 0x12, 0, 0, 0, 0, 0, 0, 0x07, 0x02, 0, 0, 0x10, 0, 0, 0, 0x85, 0, 0, 0, 2, 0, 0, 0, 0x95,
     0, 0, 0, 0, 0, 0, 0,
 ];
 
+/// Code that reads the value of the key in the first 16 argument bytes into the 32 behind them, and
+/// puts these at the key that follows: what an absent key reads as ends up in the map.
+const COPY: &[u8] = &[
+    0xbf, 0x16, 0, 0, 0, 0, 0, 0, // r6 = r1
+    0xbf, 0x12, 0, 0, 0, 0, 0, 0, 0x07, 0x02, 0, 0, 0x10, 0, 0, 0, // r2 = r1 + 16
+    0x85, 0, 0, 0, 1, 0, 0, 0, // get
+    0xbf, 0x61, 0, 0, 0, 0, 0, 0, 0x07, 0x01, 0, 0, 0x30, 0, 0, 0, // r1 = r6 + 48
+    0xbf, 0x62, 0, 0, 0, 0, 0, 0, 0x07, 0x02, 0, 0, 0x10, 0, 0, 0, // r2 = r6 + 16
+    0x85, 0, 0, 0, 2, 0, 0, 0, // put
+    0x95, 0, 0, 0, 0, 0, 0, 0, // exit
+];
+
+/// The state of `a_full_state_as_bytes`.
+const FULL_STATE: &str = "\
+    0100000000000000060000000300000064000000000000000600000000000000060000000900000000000000\
+    0000000000c8000000000000005c0000000000000005000000090000000000000000000000012c0000000000\
+    000046000000000000000100000005000000000000000002000000010000000200000020bf12000000000000\
+    07020000100000008500000002000000950000000000000000000050bf16000000000000bf12000000000000\
+    07020000100000008500000001000000bf610000000000000701000030000000bf6200000000000007020000\
+    1000000085000000020000009500000000000000000000030000000000000000000000000000000000000000\
+    0000000000000000000000000000000000000000000000000000000001010100000000000000000000000000\
+    000000000000000000000000000000000000000000000000000000000000000002eeeeeeeeeeeeeeeeeeeeee\
+    eeeeeeeeeeeeeeeeeeeeeeeeeeeeeeeeeeeeeeeeeeeeeeeeeeeeeeeeeeeeeeeeeeeeeeee0000000200000001\
+    00000010b700000007000000950000000000000000000000";
+
+/// Two tenants listed out of order, times other than numbers, a client without a reply, procedures,
+/// entries put in falling order, short arguments padded with zeros, and an absent key's zeros.
+#[test]
+fn a_full_state_as_bytes(rt: HostRuntime) -> Result<(), Fail> {
+    let alloc = rt.alloc();
+    let clients = [(300, 2), (100, 1), (200, 1), (150, 2)];
+    let mut state = State::genesis(alloc, config(alloc, &clients)?)?;
+    let mut high = [0xee; 48];
+    high[0] = 2;
+    let requests = [
+        request(300, 70, install(alloc, SEVEN)?),
+        request(200, 90, install(alloc, PUT)?),
+        request(200, 91, install(alloc, COPY)?),
+        request(100, 5, call(alloc, 0, &high)?),
+        request(200, 92, call(alloc, 0, &[1, 1, 1])?),
+        request(100, 6, call(alloc, 1, &[9; 48])?),
+    ];
+    for request in &requests {
+        apply(&mut state, request)?;
+    }
+    assert_eq!(rt;
+        encode(alloc, state.to_bytes()?.as_slice())?.as_str(),
+        FULL_STATE
+    );
+    Ok(())
+}
+
+#[test]
+fn each_tenant_has_its_own_procedures(rt: HostRuntime) -> Result<(), Fail> {
+    let alloc = rt.alloc();
+    let mut state = State::genesis(alloc, config(alloc, &[(300, 2), (100, 1), (200, 1)])?)?;
+    let mut ids = Vec::new(alloc);
+    for client in [100, 300, 200] {
+        let outcome = apply(&mut state, &request(client, 1, install(alloc, SEVEN)?))?;
+        ids.push(outcome.reply.ok_or("no reply")?.result.as_slice()[4..].to_vec(alloc)?)?;
+    }
+    assert_eq!(rt; encode(alloc, &ids.concat(alloc)?)?.as_str(), "000001");
+    assert_eq!(rt;
+        state.last_reply(ClientId(300)).ok_or("no reply")?.number.0,
+        2
+    );
+    Ok(())
+}
+
 #[test]
 fn a_map_fills_up(rt: HostRuntime) -> Result<(), Fail> {
     let alloc = rt.alloc();
     let mut state = State::genesis(alloc, config(alloc, &[(100, 1)])?)?;
-    told(alloc, &mut state, 0, 1, PUT)?;
-    let mut call = [0u8; 52];
+    let put = install(alloc, PUT)?;
+    reply_to(alloc, &mut state, 0, put)?;
+    let mut entry = [0u8; 48];
     for number in 0..4097u32 {
-        call[4..8].copy_from_slice(&number.to_be_bytes());
-        let told = told(alloc, &mut state, u64::from(number) + 1, 2, &call)?;
+        entry[..4].copy_from_slice(&number.to_be_bytes());
+        let op = call(alloc, 0, &entry)?;
+        let reply = reply_to(alloc, &mut state, u64::from(number) + 1, op)?;
         let full = if number < 4096 { 0u8 } else { 1 };
         let number = number + 2;
-        let want = format!(in alloc; "{number} 00000000000000000{full}")?;
-        assert_eq!(rt; told.as_str(), want.as_str());
+        let wanted = format!(in alloc; "{number} 00000000000000000{full}")?;
+        assert_eq!(rt; reply.as_str(), wanted.as_str());
     }
-    call[4..8].copy_from_slice(&[0; 4]);
+    entry[..4].copy_from_slice(&[0; 4]);
+    let again = call(alloc, 0, &entry)?;
     assert_eq!(rt;
-        told(alloc, &mut state, 5000, 2, &call)?.as_str(),
+        reply_to(alloc, &mut state, 5000, again)?.as_str(),
         "4099 000000000000000000"
     );
     assert_eq!(rt;
