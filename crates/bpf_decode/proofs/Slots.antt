@@ -15,7 +15,7 @@ use Rattle.bpf_decode.specs.declared.opcode.Opcode.TheVariants as opcode
 use Rattle.bpf_decode.specs.declared.opcode.SourceKind.TheVariants.{K, X}
 use Rattle.bpf_decode.specs.declared.slot.Slot.{Slot}
 use Rattle.bpf_decode.specs.Opcodes.{opcode_byte, opcode_of}
-use Rattle.bpf_decode.specs.Spelling.{spelled}
+use Rattle.bpf_decode.specs.Encoding.{insn_slots}
 
 -- ---- bytes and fields
 
@@ -38,7 +38,7 @@ field_32 a b c d z la lb lc ld e =
 registers_again : (b : ℕ) → bit_and b 15 + 16 * (b / 16) ≡ b
 registers_again b = let low : bit_and b 15 ≡ b % 16 = and_mask b 4 in omega (arith, low)
 
--- ---- one spelling
+-- ---- one encoding
 
 -- a register is its number
 pub same_reg : (a b : Reg) → a.number ≡ b.number → a ≡ b
@@ -56,12 +56,12 @@ slot_of (Alu width op dst (source.Reg src)) =
 slot_of (CallHelper helper) = record { opcode = opcode_byte opcode.Call; dst = 0; src = 0; offset = pos 0; imm = helper }
 slot_of Exit = record { opcode = opcode_byte opcode.Exit; dst = 0; src = 0; offset = pos 0; imm = pos 0 }
 
-pub spelled-slot_of : (x : Insn) → spelled x ≡ slot_of x ∷ []
+pub insn_slots-slot_of : (x : Insn) → insn_slots x ≡ slot_of x ∷ []
 unfolding slot_of
-spelled-slot_of (Alu width op dst (source.Imm value)) = refl
-spelled-slot_of (Alu width op dst (source.Reg src)) = refl
-spelled-slot_of (CallHelper helper) = refl
-spelled-slot_of Exit = refl
+insn_slots-slot_of (Alu width op dst (source.Imm value)) = refl
+insn_slots-slot_of (Alu width op dst (source.Reg src)) = refl
+insn_slots-slot_of (CallHelper helper) = refl
+insn_slots-slot_of Exit = refl
 
 -- an opcode is its byte
 pub opcode_again : (o : Opcode) → opcode_of (opcode_byte o) ≡ Some o

@@ -12,9 +12,9 @@ use Rattle.bpf_decode.specs.declared.slot.Slot.{Slot}
 use Rattle.bpf_decode.specs.declared.refusal.DecodeFault.{DecodeFault}
 use Rattle.bpf_decode.specs.declared.refusal.DecodeFault.TheVariants.{Empty, NotSlots, TooLong, BadOpcode, BadRegister, FieldNotZero, BadOffset, Memory}
 use Rattle.bpf_decode.specs.Opcodes.{opcode_of}
-use Rattle.bpf_decode.specs.Spelling.{IsInsn, IsAt, spelling}
+use Rattle.bpf_decode.specs.Encoding.{IsInsn, IsAt, encoding}
 
--- The numbers by which faults are told.
+-- The numbers by which faults are reported.
 abbrev pub number_of : DecodeFault → ℕ
 number_of Empty = 1
 number_of NotSlots = 2
@@ -59,7 +59,7 @@ field_fault opcode slot =
     else if has_stray_field opcode slot then Some FieldNotZero
     else None
 
--- The first fault of a slot, in the order in which they are told.
+-- The first fault of a slot, in the order in which they are reported.
 abbrev pub slot_fault : Slot → Option DecodeFault
 slot_fault slot = fault_of (opcode_of slot.opcode) where
   fault_of : Option Opcode → Option DecodeFault
@@ -68,7 +68,7 @@ slot_fault slot = fault_of (opcode_of slot.opcode) where
 
 -- Bytes that are code: they spell these instructions, and are no longer than code may be.
 pub record IsCode (bytes : List ℕ) (code : List Insn) : Type 0 where
-  pub spelled : bytes ≡ spelling code
+  pub encoded : bytes ≡ encoding code
   pub fit : AllByRecursion IsInsn code
   pub fits : length_fault (length bytes) ≡ None
 
@@ -78,9 +78,9 @@ FaultyAt bytes fault k = (slot : Slot) × IsAt bytes k slot × (slot_fault slot 
 
 -- Slots that spell instructions, and behind them the first that begins none.
 abbrev pub BreaksAt : List ℕ → DecodeFault → ℕ → Type 0
-BreaksAt bytes fault k = (before : List Insn) × (take (8 * k) bytes ≡ spelling before) × FaultyAt bytes fault k
+BreaksAt bytes fault k = (before : List Insn) × (take (8 * k) bytes ≡ encoding before) × FaultyAt bytes fault k
 
--- Bytes that are no code, and the first reason: the length, told at slot 0, or the first faulty slot.
+-- Bytes that are no code, and the first reason: the length, reported at slot 0, or the first faulty slot.
 abbrev pub IsRefused : List ℕ → DecodeFault → ℕ → Type 0
 IsRefused bytes fault slot =
     (length_fault (length bytes) ≡ Some fault) × (slot ≡ 0)

@@ -10,23 +10,23 @@ use Rattle.bpf_decode.specs.declared.opcode.SourceKind.{SourceKind}
 use Rattle.bpf_decode.specs.declared.opcode.SourceKind.TheVariants.{K, X}
 
 -- The low three bits: the class.
-abbrev pub class_of : AluWidth → ℕ
-class_of W32 = 0x4
-class_of W64 = 0x7
+abbrev pub class_bits : AluWidth → ℕ
+class_bits W32 = 0x4
+class_bits W64 = 0x7
 
 -- The bit above them: the source of the second operand.
-abbrev pub source_of : SourceKind → ℕ
-source_of K = 0
-source_of X = 1
+abbrev pub source_bit : SourceKind → ℕ
+source_bit K = 0
+source_bit X = 1
 
 -- The high four bits: the operation.
-abbrev pub code_of : AluOp → ℕ
-code_of Add = 0x0
-code_of Mov = 0xb
+abbrev pub operation_bits : AluOp → ℕ
+operation_bits Add = 0x0
+operation_bits Mov = 0xb
 
 -- The byte of an opcode. CALL and EXIT are operations 8 and 9 of the class JMP, 5.
 abbrev pub opcode_byte : Opcode → ℕ
-opcode_byte (Alu width op source) = 16 * code_of op + 8 * source_of source + class_of width
+opcode_byte (Alu width op source) = 16 * operation_bits op + 8 * source_bit source + class_bits width
 opcode_byte Call = 16 * 0x8 + 8 * 0 + 0x5
 opcode_byte Exit = 16 * 0x9 + 8 * 0 + 0x5
 

@@ -34,7 +34,7 @@ pub enum Source {
     Reg(Reg),
 }
 
-/// An instruction. Each value has one spelling in slots.
+/// An instruction. Each value has one encoding in slots.
 #[derive(Clone, Copy, Debug, PartialEq, Eq)]
 pub enum Insn {
     /// Arithmetic on `dst` (RFC 9669, section 4.1).

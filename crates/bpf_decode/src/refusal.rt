@@ -4,7 +4,7 @@ ghost use Rattle.bpf_decode.specs.Faults.{number_of};
 use std::alloc::AllocFailed;
 use thiserror::Error;
 
-/// Why bytes are no code. Where several faults stand, the first one is told: first those of the
+/// Why bytes are no code. Where several faults stand, the first one is reported: first those of the
 /// whole, then slot by slot, at a slot in the order `BadOpcode`, `BadRegister`, `BadOffset`,
 /// `FieldNotZero`.
 #[derive(Clone, Copy, Debug, PartialEq, Eq, Error)]

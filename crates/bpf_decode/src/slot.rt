@@ -1,5 +1,5 @@
 ghost use Rattle.std.specs.Prelude.{◌≡◌, [], ◌∷◌, length, IfOk, IfErr, Some};
-ghost use Rattle.bpf_decode.specs.Spelling.{slot_bytes, spelled, IsSlot, IsInsn};
+ghost use Rattle.bpf_decode.specs.Encoding.{slot_bytes, insn_slots, IsSlot, IsInsn};
 ghost use Rattle.bpf_decode.specs.Faults.{slot_fault, has_bad_offset, has_stray_field};
 
 use crate::insn::{Insn, Reg, Source};
@@ -26,7 +26,7 @@ impl Slot {
     /// The fields of 8 bytes.
     pub fn from_bytes(bytes: &[u8]) -> Slot
         requires { length bytes.now ≡ 8 }
-        ensures spelled { slot_bytes result ≡ bytes.now }
+        ensures encoded { slot_bytes result ≡ bytes.now }
         ensures fits { IsSlot result }
     {
         Slot {
@@ -60,7 +60,7 @@ impl Slot {
 
     /// The instruction that the slot spells, or the slot's first fault.
     pub fn to_insn(self) -> Result<Insn, DecodeFault>
-        ensures found { IfOk result (λ insn. (spelled insn ≡ self ∷ []) × IsInsn insn) }
+        ensures found { IfOk result (λ insn. (insn_slots insn ≡ self ∷ []) × IsInsn insn) }
         ensures refused { IfErr result (λ fault. slot_fault self ≡ Some fault) }
     {
         let Some(opcode) = Opcode::of(self.opcode) else {
@@ -121,11 +121,11 @@ impl Slot {
 
 impl Insn {
     ghost use Rattle.std.specs.Prelude.{◌≡◌, [], ◌∷◌};
-    ghost use Rattle.bpf_decode.specs.Spelling.{spelled, IsSlot};
+    ghost use Rattle.bpf_decode.specs.Encoding.{insn_slots, IsSlot};
 
     /// The slot that spells the instruction.
     pub fn to_slot(self) -> Slot
-        ensures spelled { spelled self ≡ result ∷ [] }
+        ensures encoded { insn_slots self ≡ result ∷ [] }
         ensures fits { IsSlot result }
     {
         match self {

@@ -2,7 +2,7 @@
 use Rattle.std.proofs.Common.{◌≡◌, ℕ, Bool, true, false, ◌&&◌, not, cond, Option, Some, None, List, [], ◌∷◌, ◌++◌, refl, inl, inr}
 use Rattle.std.specs.Prelude.{IsSome}
 use Rattle.bpf_model.specs.Bind.{◌>>=◌}
-use Rattle.bpf_model.specs.State.{IsOneOf}
+use Rattle.bpf_model.specs.AbstractState.{IsOneOf}
 
 pub some_of : {A : Type 0} (o : Option A) → IsSome o → (x : A) × (o ≡ Some x)
 some_of None h = absurd cc

@@ -5,10 +5,10 @@ pub mod Helpers
 pub mod Ranges
 pub mod Step
 pub mod Run
-pub mod State
-pub mod Arrival
+pub mod AbstractState
+pub mod Dataflow
 pub mod Verdict
 pub use Rattle.bpf_num.specs.Arithmetic
 pub use Rattle.bpf_decode.specs.Faults
-pub use Rattle.bpf_decode.specs.Spelling
+pub use Rattle.bpf_decode.specs.Encoding
 pub use Rattle.tenant_maps.specs.Entries

@@ -50,13 +50,13 @@ range_of bits op a b =
     else wide_range bits op a b
 
 -- What is known of the low half of a number.
-abbrev pub cut : Range → Range
-cut r =
+abbrev pub truncate : Range → Range
+truncate r =
     if is_single r then single (r.lo % 2 ^ 32)
     else if nat_lt r.hi (2 ^ 32) then r
     else full 32
 
 -- What an instruction of a width makes of its operands' ranges.
 abbrev pub transfer : AluWidth → AluOp → Range → Range → Range
-transfer W32 op a b = range_of 32 op (cut a) (cut b)
+transfer W32 op a b = range_of 32 op (truncate a) (truncate b)
 transfer W64 op a b = range_of 64 op a b

@@ -5,10 +5,10 @@ use Rattle.bpf_decode.specs.declared.insn.Insn.{Insn}
 use Rattle.bpf_decode.specs.declared.insn.Insn.TheVariants.{Alu, CallHelper, Exit}
 use Rattle.bpf_decode.specs.declared.refusal.DecodeFault.{DecodeFault}
 use Rattle.bpf_decode.specs.Faults.{IsCode, IsRefused, number_of}
-use Rattle.bpf_model.specs.Code.{slots_of, placed, insn_at}
+use Rattle.bpf_model.specs.Code.{slots_of, insns_by_slot, insn_at}
 use Rattle.bpf_model.specs.Helpers.{helper_of}
-use Rattle.bpf_model.specs.State.{State, has_operands, are_inside, are_there, reads_of, writes_of}
-use Rattle.bpf_model.specs.Arrival.{state_at, IsBound}
+use Rattle.bpf_model.specs.AbstractState.{AbstractState, has_operands, all_in_bounds, are_initialized, reads_of, writes_of}
+use Rattle.bpf_model.specs.Dataflow.{state_at, IsBound}
 
 -- The faults behind the decoder's, by their numbers.
 abbrev pub falls_off_end : ℕ
@@ -30,10 +30,10 @@ abbrev pub uninit_bytes : ℕ
 uninit_bytes = 18
 
 -- Whether the slot behind an instruction may run next.
-abbrev pub goes_on : Insn → Bool
-goes_on (Alu width op dst src) = true
-goes_on (CallHelper number) = true
-goes_on Exit = false
+abbrev pub falls_through : Insn → Bool
+falls_through (Alu width op dst src) = true
+falls_through (CallHelper number) = true
+falls_through Exit = false
 
 -- Whether an instruction calls a helper that this host doesn't have.
 abbrev pub calls_unknown : Insn → Bool
@@ -48,37 +48,37 @@ writes_r10 (CallHelper number) = false
 writes_r10 Exit = false
 
 -- What is wrong with an instruction at a slot of so many, whether it is reached or not.
-abbrev pub insn_fault : ℕ → ℕ → Insn → Option ℕ
-insn_fault slots slot insn =
-    if goes_on insn && nat_le slots (slot + slots_of insn) then Some falls_off_end
+abbrev pub insn_structure_fault : ℕ → ℕ → Insn → Option ℕ
+insn_structure_fault slots slot insn =
+    if falls_through insn && nat_le slots (slot + slots_of insn) then Some falls_off_end
     else if calls_unknown insn then Some unknown_helper
     else if writes_r10 insn then Some writes_frame_pointer
     else None
 
-abbrev pub place_fault : ℕ → ℕ → Option Insn → Option ℕ
-place_fault slots slot None = None
-place_fault slots slot (Some insn) = insn_fault slots slot insn
+abbrev pub slot_structure_fault : ℕ → ℕ → Option Insn → Option ℕ
+slot_structure_fault slots slot None = None
+slot_structure_fault slots slot (Some insn) = insn_structure_fault slots slot insn
 
 abbrev pub structure_fault : List Insn → ℕ → Option ℕ
-structure_fault code slot = place_fault (length (placed code)) slot (insn_at code slot)
+structure_fault code slot = slot_structure_fault (length (insns_by_slot code)) slot (insn_at code slot)
 
 -- What is wrong with an instruction that is reached, given what is known there: an operand that may hold nothing, an
 -- access that may lie outside, a byte that is read and may not be there. Each is judged for all accesses before the
 -- next.
-abbrev pub insn_known_fault : State → Insn → Option ℕ
-insn_known_fault state insn =
+abbrev pub insn_dataflow_fault : AbstractState → Insn → Option ℕ
+insn_dataflow_fault state insn =
     if not (has_operands state insn) then Some uninit_register
-    else if not (are_inside state (reads_of insn ++ writes_of insn)) then Some bad_access
-    else if not (are_there state (reads_of insn)) then Some uninit_bytes
+    else if not (all_in_bounds state (reads_of insn ++ writes_of insn)) then Some bad_access
+    else if not (are_initialized state (reads_of insn)) then Some uninit_bytes
     else None
 
-abbrev pub known_fault : Option State → Option Insn → Option ℕ
-known_fault (Some state) (Some insn) = insn_known_fault state insn
-known_fault (Some state) None = None
-known_fault None insn = None
+abbrev pub slot_dataflow_fault : Option AbstractState → Option Insn → Option ℕ
+slot_dataflow_fault (Some state) (Some insn) = insn_dataflow_fault state insn
+slot_dataflow_fault (Some state) None = None
+slot_dataflow_fault None insn = None
 
-abbrev pub visit_fault : List Insn → ℕ → Option ℕ
-visit_fault code slot = known_fault (state_at code slot) (insn_at code slot)
+abbrev pub dataflow_fault : List Insn → ℕ → Option ℕ
+dataflow_fault code slot = slot_dataflow_fault (state_at code slot) (insn_at code slot)
 
 -- The slot is the least that has a fault, and it has this one.
 abbrev pub IsFirst : (ℕ → Option ℕ) → ℕ → ℕ → Type 0
@@ -87,14 +87,14 @@ IsFirst fault_at number slot = (fault_at slot ≡ Some number) × ((k : ℕ) →
 -- Code that is accepted: no slot has a fault, and the bound is that of its longest path.
 pub record IsAccepted (code : List Insn) (bound : ℕ) : Type 0 where
   pub structure : (slot : ℕ) → structure_fault code slot ≡ None
-  pub visits : (slot : ℕ) → visit_fault code slot ≡ None
+  pub visits : (slot : ℕ) → dataflow_fault code slot ≡ None
   pub longest : IsBound code bound
 
 -- Code that is refused, for its first fault: of its structure, or else of what is reached.
 abbrev pub IsRejected : List Insn → ℕ → ℕ → Type 0
 IsRejected code number slot =
     IsFirst (structure_fault code) number slot
-    ⊎ ((k : ℕ) → structure_fault code k ≡ None) × IsFirst (visit_fault code) number slot
+    ⊎ ((k : ℕ) → structure_fault code k ≡ None) × IsFirst (dataflow_fault code) number slot
 
 -- The verdict on bytes: accepted with a bound.
 abbrev pub Accepts : List ℕ → ℕ → Type 0

@@ -1,4 +1,4 @@
--- The numbers by which faults are told, and the verifier's name of each fault of the decoder.
+-- The numbers by which faults are reported, and the verifier's name of each fault of the decoder.
 use Rattle.std.specs.Prelude.{ℕ}
 use Rattle.bpf_decode.specs.declared.refusal.DecodeFault.{DecodeFault}
 use Rattle.bpf_decode.specs.declared.refusal.DecodeFault.TheVariants as decode

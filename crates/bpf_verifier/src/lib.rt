@@ -2,9 +2,9 @@
 //! is accepted.
 #![tactic(auto)]
 
+mod abstract_state;
+mod dataflow;
 mod helpers;
-mod known;
-mod pass;
 mod procedure;
 mod range;
 mod refusal;

@@ -5,7 +5,7 @@ use bpf_decode::DecodeFault;
 use std::alloc::AllocError;
 use thiserror::Error;
 
-/// Why code is refused. Where several faults stand, the first one is told: the decoder's; then those
+/// Why code is refused. Where several faults stand, the first one is reported: the decoder's; then those
 /// of the structure, slot by slot, in the order of their numbers; then the first of a slot that is
 /// reached, in the order of their numbers.
 #[derive(Clone, Copy, Debug, PartialEq, Eq, Error)]

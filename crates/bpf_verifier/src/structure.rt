@@ -1,6 +1,6 @@
 ghost use Rattle.std.specs.Prelude.{◌≡◌, ℕ, ◌≤◌, ◌<◌, length, None, OnOk, IfErr};
 ghost use Rattle.std.specs.Option.{option_map};
-ghost use Rattle.bpf_model.specs.Verdict.{insn_fault, structure_fault, IsFirst};
+ghost use Rattle.bpf_model.specs.Verdict.{insn_structure_fault, structure_fault, IsFirst};
 ghost use Rattle.bpf_verifier.specs.Faults.{number_of};
 
 use crate::helpers::{GET, PUT};
@@ -15,7 +15,7 @@ pub fn check_structure(code: &[Insn]) -> Result<(), Refusal>
         IsFirst (structure_fault code.now) (number_of refusal.fault) refusal.slot) }
 {
     for (slot, insn) in code.iter().enumerate() {
-        if let Some(fault) = insn_fault(code.len(), slot, insn) {
+        if let Some(fault) = insn_structure_fault(code.len(), slot, insn) {
             return Err(Refusal {
                 fault,
                 slot: slot as u32,
@@ -26,9 +26,9 @@ pub fn check_structure(code: &[Insn]) -> Result<(), Refusal>
 }
 
 /// What is wrong with an instruction at a slot of so many.
-fn insn_fault(slots: usize, slot: usize, insn: &Insn) -> Option<VerifyFault>
+fn insn_structure_fault(slots: usize, slot: usize, insn: &Insn) -> Option<VerifyFault>
     requires { slot < slots }
-    ensures { option_map number_of result ≡ insn_fault slots slot insn.now }
+    ensures { option_map number_of result ≡ insn_structure_fault slots slot insn.now }
 {
     let falls_off_end = slot + 1 >= slots;
     match insn {

@@ -1,6 +1,6 @@
 ghost use Rattle.std.specs.Prelude.{◌≡◌, ◌≤◌, Some};
-ghost use Rattle.bpf_model.specs.State.{lies_inside};
-ghost use Rattle.bpf_verifier.specs.Shown.{shown};
+ghost use Rattle.bpf_model.specs.AbstractState.{in_bounds};
+ghost use Rattle.bpf_verifier.specs.ModelRange.{model_range};
 
 use crate::helpers::{GET, KEY, PUT, VALUE};
 use crate::range::Range;
@@ -15,8 +15,8 @@ const REGISTERS: usize = 11;
 /// The bytes of the frame.
 const FRAME: usize = 512;
 
-/// The marks of a value.
-const MARKED: [bool; VALUE as usize] = [true; VALUE as usize];
+/// The initialized of a value.
+const INITIALIZED: [bool; VALUE as usize] = [true; VALUE as usize];
 
 /// Where the frame begins.
 const FRAME_START: u64 = 0x1_0000_0000;
@@ -33,27 +33,27 @@ const ARGUMENTS_END: u64 = 0x2_0000_0100;
 /// What is known at a slot: the range of each register that holds a number for certain, and which
 /// bytes of the frame are there for certain.
 #[derive(Drop)]
-pub struct Known {
+pub struct AbstractState {
     ranges: [Option<Range>; REGISTERS],
-    marks: [bool; FRAME],
+    initialized: [bool; FRAME],
 }
 
-impl Known {
+impl AbstractState {
     ghost use Rattle.std.specs.Prelude.{◌≡◌, ℕ, ◌+◌, ◌<◌, ◌≤◌, ◌||◌, true, false, Some, None, slice_index_or};
     ghost use Rattle.std.specs.Option.{option_map, is_some};
     ghost use Rattle.bpf_decode.specs.declared.insn.Insn.TheVariants.{Alu, CallHelper};
     ghost use Rattle.bpf_model.specs.Machine.{frame_start};
-    ghost use Rattle.bpf_model.specs.State.{State, start_state, has_operands, source_range, alu_range, with_range, lies_inside, is_there, is_written, after_helper, writes_of};
-    ghost use Rattle.bpf_model.specs.Verdict.{insn_known_fault, calls_unknown};
+    ghost use Rattle.bpf_model.specs.AbstractState.{AbstractState as ModelState, start_state, has_operands, source_range, alu_range, with_range, in_bounds, is_initialized, is_written, after_helper, writes_of};
+    ghost use Rattle.bpf_model.specs.Verdict.{insn_dataflow_fault, calls_unknown};
     ghost use Rattle.bpf_verifier.specs.Faults.{number_of};
-    ghost use Rattle.bpf_verifier.specs.Present.{Shows};
-    ghost use Rattle.bpf_verifier.specs.Shown.{shown};
+    ghost use Rattle.bpf_verifier.specs.Represents.{Represents};
+    ghost use Rattle.bpf_verifier.specs.ModelRange.{model_range};
 
     /// As a call begins.
-    pub fn at_start() -> Known
-        ensures { Shows result.ranges result.marks start_state }
+    pub fn at_start() -> AbstractState
+        ensures { Represents result.ranges result.initialized start_state }
     {
-        Known {
+        AbstractState {
             ranges: [
                 None,
                 Some(Range::single(ARGUMENTS)),
@@ -67,15 +67,15 @@ impl Known {
                 None,
                 Some(Range::single(FRAME_END)),
             ],
-            marks: [false; FRAME],
+            initialized: [false; FRAME],
         }
     }
 
     /// What is wrong with an instruction that is reached.
     pub fn fault(&self, insn: &Insn) -> Option<VerifyFault>
         requires { calls_unknown insn.now ≡ false }
-        ensures { (state : State) → Shows self.now.ranges self.now.marks state →
-            option_map number_of result ≡ insn_known_fault state insn.now }
+        ensures { (state : ModelState) → Represents self.now.ranges self.now.initialized state →
+            option_map number_of result ≡ insn_dataflow_fault state insn.now }
     {
         match insn {
             Insn::Alu { op, dst, src, .. } => {
@@ -97,14 +97,14 @@ impl Known {
     }
 
     fn has(&self, reg: Reg) -> bool
-        ensures { (state : State) → Shows self.now.ranges self.now.marks state →
+        ensures { (state : ModelState) → Represents self.now.ranges self.now.initialized state →
             result ≡ is_some (state.ranges reg.number) }
     {
         self.ranges[reg.number as usize].is_some()
     }
 
     fn has_source(&self, src: Source) -> bool
-        ensures { (state : State) → Shows self.now.ranges self.now.marks state →
+        ensures { (state : ModelState) → Represents self.now.ranges self.now.initialized state →
             result ≡ is_some (source_range state src) }
     {
         match src {
@@ -116,27 +116,27 @@ impl Known {
     /// What is wrong with a call of a helper: both take the addresses of a key and of a value.
     fn call_fault(&self, helper: i32) -> Option<VerifyFault>
         requires { calls_unknown (CallHelper helper) ≡ false }
-        ensures { (state : State) → Shows self.now.ranges self.now.marks state →
-            option_map number_of result ≡ insn_known_fault state (CallHelper helper) }
+        ensures { (state : ModelState) → Represents self.now.ranges self.now.initialized state →
+            option_map number_of result ≡ insn_dataflow_fault state (CallHelper helper) }
     {
         let (Some(key), Some(value)) = (self.ranges[1], self.ranges[2]) else {
             return Some(VerifyFault::UninitRegister);
         };
-        if !lies_inside(key, KEY) || !lies_inside(value, VALUE) {
+        if !in_bounds(key, KEY) || !in_bounds(value, VALUE) {
             return Some(VerifyFault::BadAccess);
         }
-        if !self.is_there(key, KEY) || helper == PUT && !self.is_there(value, VALUE) {
+        if !self.is_initialized(key, KEY) || helper == PUT && !self.is_initialized(value, VALUE) {
             return Some(VerifyFault::UninitBytes);
         }
         None
     }
 
-    /// Whether all bytes of the stack that an access may touch are marked.
-    fn is_there(&self, range: Range, size: u64) -> bool
+    /// Whether all bytes of the stack that an access may touch are initialized.
+    fn is_initialized(&self, range: Range, size: u64) -> bool
         requires small { size ≤ 256 }
-        requires inside { lies_inside (Some (shown range)) size ≡ true }
-        ensures { (state : State) → Shows self.now.ranges self.now.marks state →
-            result ≡ is_there state.marked (Some (shown range)) size }
+        requires inside { in_bounds (Some (model_range range)) size ≡ true }
+        ensures { (state : ModelState) → Represents self.now.ranges self.now.initialized state →
+            result ≡ is_initialized state.initialized (Some (model_range range)) size }
     {
         if range.lo >= ARGUMENTS {
             return true;
@@ -144,7 +144,7 @@ impl Known {
         let from = (range.lo - FRAME_START) as usize;
         let to = (range.hi + size - FRAME_START) as usize;
         for index in from..to {
-            if !self.marks[index] {
+            if !self.initialized[index] {
                 return false;
             }
         }
@@ -153,8 +153,8 @@ impl Known {
 
     /// What an arithmetic instruction makes of its operands.
     pub fn alu_range(&self, width: AluWidth, op: AluOp, dst: Reg, src: Source) -> Option<Range>
-        ensures { (state : State) → Shows self.now.ranges self.now.marks state →
-            option_map shown result ≡ alu_range state (Alu width op dst src) }
+        ensures { (state : ModelState) → Represents self.now.ranges self.now.initialized state →
+            option_map model_range result ≡ alu_range state (Alu width op dst src) }
     {
         let b = self.source_range(src)?;
         let a = match op {
@@ -165,8 +165,8 @@ impl Known {
     }
 
     fn source_range(&self, src: Source) -> Option<Range>
-        ensures { (state : State) → Shows self.now.ranges self.now.marks state →
-            option_map shown result ≡ source_range state src }
+        ensures { (state : ModelState) → Represents self.now.ranges self.now.initialized state →
+            option_map model_range result ≡ source_range state src }
     {
         match src {
             Source::Imm(value) => Some(Range::single(i64::from(value).cast_unsigned())),
@@ -176,22 +176,22 @@ impl Known {
 
     /// The register has this range from now on.
     pub fn set_range(&mut self, reg: Reg, range: Option<Range>)
-        ensures { (state : State) → Shows self.old.ranges self.old.marks state →
-            Shows self.new.ranges self.new.marks (with_range state reg.number (option_map shown range)) }
+        ensures { (state : ModelState) → Represents self.old.ranges self.old.initialized state →
+            Represents self.new.ranges self.new.initialized (with_range state reg.number (option_map model_range range)) }
     {
         self.ranges[reg.number as usize] = range;
     }
 
     /// After a helper r0 has its answer, and r1 to r5 hold nothing. What it wrote is there where it is
     /// known where that is.
-    pub fn set_called(&mut self, helper: i32)
+    pub fn after_helper(&mut self, helper: i32)
         requires { calls_unknown (CallHelper helper) ≡ false }
-        ensures { (state : State) → Shows self.old.ranges self.old.marks state →
-            insn_known_fault state (CallHelper helper) ≡ None →
-            Shows self.new.ranges self.new.marks (after_helper state (writes_of (CallHelper helper))) }
+        ensures { (state : ModelState) → Represents self.old.ranges self.old.initialized state →
+            insn_dataflow_fault state (CallHelper helper) ≡ None →
+            Represents self.new.ranges self.new.initialized (after_helper state (writes_of (CallHelper helper))) }
     {
         if helper == GET {
-            self.mark_value();
+            self.initialize();
         }
         let answer = Some(Range::new(0, 1));
         self.ranges = [
@@ -209,28 +209,28 @@ impl Known {
         ];
     }
 
-    /// Marks the value that a get writes, where its address is a single number in the frame.
-    fn mark_value(&mut self)
-        ensures kept { self.new.ranges ≡ self.old.ranges }
-        ensures marked { (state : State) → Shows self.old.ranges self.old.marks state →
-            lies_inside (state.ranges 2) 32 ≡ true → (i : ℕ) → i < 512 →
-            slice_index_or self.new.marks i false ≡
-            (is_written (state.ranges 2) 32 (frame_start 0 + i) || state.marked (frame_start 0 + i)) }
+    /// StateLemmas the value that a get writes, where its address is a single number in the frame.
+    fn initialize(&mut self)
+        ensures ranges { self.new.ranges ≡ self.old.ranges }
+        ensures initialized { (state : ModelState) → Represents self.old.ranges self.old.initialized state →
+            in_bounds (state.ranges 2) 32 ≡ true → (i : ℕ) → i < 512 →
+            slice_index_or self.new.initialized i false ≡
+            (is_written (state.ranges 2) 32 (frame_start 0 + i) || state.initialized (frame_start 0 + i)) }
     {
         let Some(range) = self.ranges[2] else {
             return;
         };
         if range.is_single() && range.lo >= FRAME_START && range.hi <= FRAME_END - VALUE {
             let from = (range.lo - FRAME_START) as usize;
-            self.marks[from..from + VALUE as usize].copy_from_slice(&MARKED);
+            self.initialized[from..from + VALUE as usize].copy_from_slice(&INITIALIZED);
         }
     }
 }
 
 /// Whether all bytes that an access may touch lie in the frame, or all in the arguments.
-fn lies_inside(range: Range, size: u64) -> bool
+fn in_bounds(range: Range, size: u64) -> bool
     requires { size ≤ 256 }
-    ensures { result ≡ lies_inside (Some (shown range)) size }
+    ensures { result ≡ in_bounds (Some (model_range range)) size }
 {
     range.lo >= FRAME_START && range.hi <= FRAME_END - size
         || range.lo >= ARGUMENTS && range.hi <= ARGUMENTS_END - size

@@ -10,44 +10,44 @@ use Rattle.bpf_decode.specs.declared.insn.Source.{Source}
 use Rattle.bpf_decode.specs.declared.insn.Source.TheVariants as source
 use Rattle.bpf_model.specs.Bind.{◌>>=◌}
 use Rattle.bpf_model.specs.Code.{slots_of}
-use Rattle.bpf_model.specs.Machine.{arguments_start, frame_end, is_inside}
+use Rattle.bpf_model.specs.Machine.{arguments_start, frame_end, is_in_bounds}
 use Rattle.bpf_model.specs.Step.{reads_destination}
 use Rattle.bpf_model.specs.Helpers.{Helper, Access, helper_of, arguments_of, reads, writes}
 use Rattle.bpf_model.specs.Ranges.{Range, single, is_single, hull, transfer}
 
 -- The range of each register that holds a number for certain, and the bytes of the stack that are there for certain:
--- they are marked.
-pub record State : Type 0 where
+-- they are initialized.
+pub record AbstractState : Type 0 where
   pub ranges : ℕ → Option Range
-  pub marked : ℕ → Bool
+  pub initialized : ℕ → Bool
 
 -- As a call begins: r1 has the address of the arguments, r2 their length, r10 the frame's end.
-abbrev pub start_state : State
+abbrev pub start_state : AbstractState
 start_state = record {
   ranges = λ r.
       if r == 1 then Some (single arguments_start)
       else if r == 2 then Some (record { lo = 0; hi = 256 })
       else if r == 10 then Some (single (frame_end 0))
       else None;
-  marked = λ a. false;
+  initialized = λ a. false;
 }
 
-abbrev pub both : Option Range → Option Range → Option Range
-both (Some a) (Some b) = Some (hull a b)
-both (Some a) None = None
-both None b = None
+abbrev pub join_option : Option Range → Option Range → Option Range
+join_option (Some a) (Some b) = Some (hull a b)
+join_option (Some a) None = None
+join_option None b = None
 
--- What is known where two ways meet: what is known on both.
-abbrev pub meet : State → State → State
-meet a b = record {
-  ranges = λ r. both (a.ranges r) (b.ranges r);
-  marked = λ address. a.marked address && b.marked address;
+-- What is known where two ways join: what is known on join_option.
+abbrev pub join : AbstractState → AbstractState → AbstractState
+join a b = record {
+  ranges = λ r. join_option (a.ranges r) (b.ranges r);
+  initialized = λ address. a.initialized address && b.initialized address;
 }
 
--- What is known where all these ways meet; nothing leads here where there is none.
-abbrev pub joined : List State → Option State
-joined [] = None
-joined (s ∷ ss) = Some (fold meet s ss)
+-- What is known where all these ways join; nothing leads here where there is none.
+abbrev pub join_all : List AbstractState → Option AbstractState
+join_all [] = None
+join_all (s ∷ ss) = Some (fold join s ss)
 
 -- ---- what an instruction reads
 
@@ -65,30 +65,30 @@ operands (Alu width op dst src) = (if reads_destination op then dst.number ∷ [
 operands (CallHelper number) = helper_operands (helper_of number)
 operands Exit = 0 ∷ []
 
-abbrev pub has_operands : State → Insn → Bool
+abbrev pub has_operands : AbstractState → Insn → Bool
 has_operands state insn = list_all (λ r. is_some (state.ranges r)) (operands insn)
 
 -- ---- accesses to memory
 
--- Whether so many bytes from an address on are all marked.
-abbrev pub all_marked : (ℕ → Bool) → ℕ → ℕ → Bool
-all_marked marked address zero = true
-all_marked marked address (suc n) = marked address && all_marked marked (address + 1) n
+-- Whether so many bytes from an address on are all initialized.
+abbrev pub all_initialized : (ℕ → Bool) → ℕ → ℕ → Bool
+all_initialized initialized address zero = true
+all_initialized initialized address (suc n) = initialized address && all_initialized initialized (address + 1) n
 
 -- How many bytes an access of this size may touch, from the least address on.
 abbrev pub extent : Range → ℕ → ℕ
 extent range size = range.hi + size - range.lo
 
 -- Whether all bytes that an access may touch lie in the frame, or all in the arguments.
-abbrev pub lies_inside : Option Range → ℕ → Bool
-lies_inside None size = false
-lies_inside (Some range) size = is_inside 0 range.lo (extent range size)
+abbrev pub in_bounds : Option Range → ℕ → Bool
+in_bounds None size = false
+in_bounds (Some range) size = is_in_bounds 0 range.lo (extent range size)
 
--- Whether all bytes of the stack that an access may touch are marked. The arguments are always there.
-abbrev pub is_there : (ℕ → Bool) → Option Range → ℕ → Bool
-is_there marked None size = false
-is_there marked (Some range) size =
-    nat_le arguments_start range.lo || all_marked marked range.lo (extent range size)
+-- Whether all bytes of the stack that an access may touch are initialized. The arguments are always there.
+abbrev pub is_initialized : (ℕ → Bool) → Option Range → ℕ → Bool
+is_initialized initialized None size = false
+is_initialized initialized (Some range) size =
+    nat_le arguments_start range.lo || all_initialized initialized range.lo (extent range size)
 
 abbrev pub helper_reads : Option Helper → List Access
 helper_reads None = []
@@ -108,50 +108,50 @@ writes_of (Alu width op dst src) = []
 writes_of (CallHelper number) = helper_writes (helper_of number)
 writes_of Exit = []
 
-abbrev pub are_inside : State → List Access → Bool
-are_inside state accesses = list_all (λ access. lies_inside (state.ranges access.register) access.size) accesses
+abbrev pub all_in_bounds : AbstractState → List Access → Bool
+all_in_bounds state accesses = list_all (λ access. in_bounds (state.ranges access.register) access.size) accesses
 
-abbrev pub are_there : State → List Access → Bool
-are_there state accesses =
-    list_all (λ access. is_there state.marked (state.ranges access.register) access.size) accesses
+abbrev pub are_initialized : AbstractState → List Access → Bool
+are_initialized state accesses =
+    list_all (λ access. is_initialized state.initialized (state.ranges access.register) access.size) accesses
 
 -- ---- what an instruction makes of a state
 
-abbrev pub source_range : State → Source → Option Range
+abbrev pub source_range : AbstractState → Source → Option Range
 source_range state (source.Imm value) = Some (single (cast_unsigned w64 value))
 source_range state (source.Reg reg) = state.ranges reg.number
 
 -- The first operand, where it is read.
-abbrev pub destination_range : State → AluOp → ℕ → Option Range
+abbrev pub destination_range : AbstractState → AluOp → ℕ → Option Range
 destination_range state op dst = if reads_destination op then state.ranges dst else Some (single 0)
 
-abbrev pub with_range : State → ℕ → Option Range → State
+abbrev pub with_range : AbstractState → ℕ → Option Range → AbstractState
 with_range state dst range = record state { ranges = λ r. if r == dst then range else state.ranges r }
 
--- A write marks its bytes where its address is a single number.
+-- A write initialized its bytes where its address is a single number.
 abbrev pub is_written : Option Range → ℕ → ℕ → Bool
 is_written None size address = false
 is_written (Some range) size address =
     is_single range && nat_le range.lo address && nat_lt address (range.lo + size)
 
 -- After a helper r0 holds 0 or 1, and r1 to r5 nothing.
-abbrev pub after_helper : State → List Access → State
+abbrev pub after_helper : AbstractState → List Access → AbstractState
 after_helper state written = record {
   ranges = λ r.
       if r == 0 then Some (record { lo = 0; hi = 1 })
       else if nat_le 6 r then state.ranges r
       else None;
-  marked = λ address.
+  initialized = λ address.
       list_any (λ access. is_written (state.ranges access.register) access.size address) written
-      || state.marked address;
+      || state.initialized address;
 }
 
 -- An edge: a slot that may run next, and what is known there.
 pub record Edge : Type 0 where
   pub target : ℕ
-  pub state : State
+  pub state : AbstractState
 
-abbrev pub alu_range : State → Insn → Option Range
+abbrev pub alu_range : AbstractState → Insn → Option Range
 alu_range state (Alu width op dst src) = do
   b ← source_range state src
   a ← destination_range state op dst.number
@@ -160,7 +160,7 @@ alu_range state (CallHelper number) = None
 alu_range state Exit = None
 
 -- The edges out of an instruction at a slot.
-abbrev pub edges : ℕ → State → Insn → List Edge
+abbrev pub edges : ℕ → AbstractState → Insn → List Edge
 edges slot state (Alu width op dst src) =
     record {
       target = slot + slots_of (Alu width op dst src);

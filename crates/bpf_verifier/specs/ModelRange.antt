@@ -2,5 +2,5 @@
 use Rattle.bpf_model.specs.Ranges as model
 use Rattle.bpf_verifier.specs.declared.range.Range.{Range}
 
-abbrev pub shown : Range → model.Range
-shown range = record { lo = range.lo; hi = range.hi }
+abbrev pub model_range : Range → model.Range
+model_range range = record { lo = range.lo; hi = range.hi }

@@ -1,27 +1,27 @@
--- The state at a slot is where all edges to it meet. Edges lead to later slots, so a slot's state depends on earlier
+-- The state at a slot is where all edges to it join. Edges lead to later slots, so a slot's state depends on earlier
 -- slots alone.
 use Rattle.std.specs.Prelude.{◌≡◌, ℕ, zero, suc, ◌+◌, ◌≤◌, ◌==◌, if◌then◌else◌, List, [], ◌∷◌, ◌++◌, map, filter, Option, Some, None}
 use Rattle.bpf_decode.specs.declared.insn.Insn.{Insn}
 use Rattle.bpf_model.specs.Code.{insn_at}
-use Rattle.bpf_model.specs.State.{State, Edge, start_state, joined, edges, IsOneOf}
+use Rattle.bpf_model.specs.AbstractState.{AbstractState, Edge, start_state, join_all, edges, IsOneOf}
 
-abbrev pub edges_of : ℕ → Option State → Option Insn → List Edge
+abbrev pub edges_of : ℕ → Option AbstractState → Option Insn → List Edge
 edges_of slot (Some state) (Some insn) = edges slot state insn
 edges_of slot (Some state) None = []
 edges_of slot None insn = []
 
 -- What these edges know where they lead to this slot.
-abbrev pub carried : ℕ → List Edge → List State
-carried t es = map (λ e. e.state) (filter (λ e. e.target == t) es)
+abbrev pub flows_to : ℕ → List Edge → List AbstractState
+flows_to t es = map (λ e. e.state) (filter (λ e. e.target == t) es)
 
 -- What the edges out of the first n slots, and the start, know at slot t.
-abbrev pub arriving : List Insn → ℕ → ℕ → List State
-arriving code zero t = if t == 0 then start_state ∷ [] else []
-arriving code (suc n) t = arriving code n t ++ carried t (edges_of n (joined (arriving code n n)) (insn_at code n))
+abbrev pub incoming : List Insn → ℕ → ℕ → List AbstractState
+incoming code zero t = if t == 0 then start_state ∷ [] else []
+incoming code (suc n) t = incoming code n t ++ flows_to t (edges_of n (join_all (incoming code n n)) (insn_at code n))
 
 -- The state at a slot, or none where nothing leads to it.
-abbrev pub state_at : List Insn → ℕ → Option State
-state_at code t = joined (arriving code t t)
+abbrev pub state_at : List Insn → ℕ → Option AbstractState
+state_at code t = join_all (incoming code t t)
 
 -- The edges out of a slot.
 abbrev pub edges_at : List Insn → ℕ → List Edge

@@ -22,18 +22,18 @@ use Rattle.bpf_decode.specs.declared.insn.Insn.TheVariants.{Alu, CallHelper}
 use Rattle.bpf_decode.specs.declared.insn.Reg.{Reg}
 use Rattle.bpf_decode.specs.declared.insn.Source.{Source}
 use Rattle.bpf_decode.specs.declared.insn.Source.TheVariants as source
-use Rattle.bpf_decode.specs.Spelling.{IsInsn}
+use Rattle.bpf_decode.specs.Encoding.{IsInsn}
 use Rattle.bpf_model.specs.Code.{slots_of}
 use Rattle.tenant_maps.specs.Entries.{Entries, has_place, put}
-use Rattle.bpf_model.specs.Machine.{Machine, Memory, Registers, Call, IsCall, start, arguments_start, frame_end, is_inside, bytes_at, stored}
-use Rattle.bpf_model.specs.Helpers.{Helper, Get, Put, Answer, helper_of, reads, writes, got, kept, zeros, answer_of}
+use Rattle.bpf_model.specs.Machine.{Machine, Memory, Registers, Call, IsCall, start, arguments_start, frame_end, is_in_bounds, bytes_at, stored}
+use Rattle.bpf_model.specs.Helpers.{Helper, Get, Put, Answer, helper_of, reads, writes, get_effect, put_effect, zeros, answer_of}
 use Rattle.bpf_model.specs.Ranges.{Range, single, is_single, transfer}
-use Rattle.bpf_model.specs.Step.{Goes, alu_of, source_value, destination_value, reads_destination, effect}
-use Rattle.bpf_model.specs.State.{State, start_state, has_operands, source_operands, all_marked, extent, lies_inside, is_there, source_range, destination_range, with_range, alu_range, is_written, after_helper, are_inside, are_there}
+use Rattle.bpf_model.specs.Step.{Continues, alu_of, source_value, destination_value, reads_destination, effect}
+use Rattle.bpf_model.specs.AbstractState.{AbstractState, start_state, has_operands, source_operands, all_initialized, extent, in_bounds, is_initialized, source_range, destination_range, with_range, alu_range, is_written, after_helper, all_in_bounds, are_initialized}
 use Rattle.bpf_model.proofs.Options.{some_is, is_some_of, and_true}
-use Rattle.bpf_model.proofs.RangeLaws.{In, Fits, transfer_in, transfer_fits}
-use Rattle.bpf_model.proofs.Arrivals.{IsBelow}
-use Rattle.bpf_model.proofs.Memories.{find_enumerate, bytes_found, marked_each, stored_within, stored_stays, inside_cases, inside_of, or_true}
+use Rattle.bpf_model.proofs.RangeLaws.{In, WellFormed, transfer_in, transfer_well_formed}
+use Rattle.bpf_model.proofs.Joins.{IsBelow}
+use Rattle.bpf_model.proofs.Memories.{find_enumerate, bytes_found, initialized_each, stored_within, stored_stays, in_bounds_cases, in_bounds_from, or_true}
 
 -- a register holds a number of the range
 pub record Holds (registers : Registers) (r : ℕ) (x : Range) : Type 0 where
@@ -42,14 +42,14 @@ pub record Holds (registers : Registers) (r : ℕ) (x : Range) : Type 0 where
   pub in_range : In value x
 
 -- what is known is true of the machine
-pub record Means (state : State) (m : Machine) : Type 0 where
+pub record Abstracts (state : AbstractState) (m : Machine) : Type 0 where
   pub ranges : (r : ℕ) (x : Range) → state.ranges r ≡ Some x → Holds m.frame.registers r x
-  pub marked : (address : ℕ) → state.marked address ≡ true → IsSome (map.get m.memory address)
+  pub initialized : (address : ℕ) → state.initialized address ≡ true → IsSome (map.get m.memory address)
   pub arguments : (address : ℕ) → arguments_start ≤ address → address < arguments_start + 256 → IsSome (map.get m.memory address)
 
 -- each range has its ends in order, and numbers of 64 bits alone
-unfoldable pub IsFit : State → Type 0
-IsFit state = (r : ℕ) (x : Range) → state.ranges r ≡ Some x → Fits 64 x
+unfoldable pub IsWellFormed : AbstractState → Type 0
+IsWellFormed state = (r : ℕ) (x : Range) → state.ranges r ≡ Some x → WellFormed 64 x
 
 -- ---- the start
 
@@ -60,7 +60,7 @@ record Begins (n r : ℕ) (x : Range) : Type 0 where
   value : ℕ
   is : map.find nat_cmp r (first_registers n) ≡ Some value
   in_range : In value x
-  fits : Fits 64 x
+  fits : WellFormed 64 x
 
 begins : (n r : ℕ) (x : Range) → n ≤ 256 → start_state.ranges r ≡ Some x → Begins n r x
 begins n r x short h =
@@ -101,9 +101,9 @@ begins n r x short h =
           ]
     ]
 
-pub IsFit-start : IsFit start_state
-unfolding IsFit
-IsFit-start r x h = (begins 0 r x (omega arith) h).fits
+pub IsWellFormed-start : IsWellFormed start_state
+unfolding IsWellFormed
+IsWellFormed-start r x h = (begins 0 r x (omega arith) h).fits
 
 pub padded_length : (bytes : List ℕ) → length bytes ≤ 256 → length (bytes ++ replicate (256 - length bytes) 0) ≡ 256
 padded_length bytes short =
@@ -112,7 +112,7 @@ padded_length bytes short =
     ∙ ap (λ (n : ℕ). length bytes + n) (length-replicate {A = ℕ} (256 - length bytes) 0)
     ∙ whole
 
-pub start_means : (call : Call) → IsCall call → Means start_state (start call)
+pub start_means : (call : Call) → IsCall call → Abstracts start_state (start call)
 start_means call is = record {
   ranges = λ r x h.
       let b = begins (length call.arguments) r x is.short h in
@@ -121,7 +121,7 @@ start_means call is = record {
         is = map.get-from_entries nat_cmp_total (first_registers (length call.arguments)) r ∙ b.is;
         in_range = b.in_range;
       };
-  marked = λ address h. absurd cc;
+  initialized = λ address h. absurd cc;
   arguments = λ address low high.
       let padded : List ℕ = call.arguments ++ replicate (256 - length call.arguments) 0 in
       let long : length padded ≡ 256 = padded_length call.arguments is.short in
@@ -135,25 +135,25 @@ record Reaches (m : Machine) (a size : ℕ) : Type 0 where
   there : (k : ℕ) → a ≤ k → k < a + size → IsSome (map.get m.memory k)
 
 -- an access that may touch only what is there
-access_there : (state : State) (m : Machine) (x : Range) (a size : ℕ) → Means state m → In a x → is_inside 0 x.lo (extent x size) ≡ true → (leb arguments_start x.lo || all_marked state.marked x.lo (extent x size)) ≡ true → (k : ℕ) → a ≤ k → k < a + size → IsSome (map.get m.memory k)
+access_there : (state : AbstractState) (m : Machine) (x : Range) (a size : ℕ) → Abstracts state m → In a x → is_in_bounds 0 x.lo (extent x size) ≡ true → (leb arguments_start x.lo || all_initialized state.initialized x.lo (extent x size)) ≡ true → (k : ℕ) → a ≤ k → k < a + size → IsSome (map.get m.memory k)
 access_there state m x a size means i inside present k p q =
     let low = i.low in
     let high = i.high in
     elim (leb_tells arguments_start x.lo) [
-      | inl (e, far) ↦ elim (inside_cases 0 x.lo (extent x size) inside) [
+      | inl (e, far) ↦ elim (in_bounds_cases 0 x.lo (extent x size) inside) [
         | inl (f, g) ↦ absurd (omega arith)
         | inr (f, g) ↦ means.arguments k (omega arith) (omega arith)
       ]
       | inr (e, near) ↦
-          let marks : all_marked state.marked x.lo (extent x size) ≡ true = sym (ap (λ (b : Bool). b || all_marked state.marked x.lo (extent x size)) e) ∙ present in
-          means.marked k (marked_each state.marked x.lo (extent x size) marks k (omega arith) (omega arith))
+          let initialized : all_initialized state.initialized x.lo (extent x size) ≡ true = sym (ap (λ (b : Bool). b || all_initialized state.initialized x.lo (extent x size)) e) ∙ present in
+          means.initialized k (initialized_each state.initialized x.lo (extent x size) initialized k (omega arith) (omega arith))
     ]
 
-access_inside : (x : Range) (a size : ℕ) → In a x → is_inside 0 x.lo (extent x size) ≡ true → is_inside 0 a size ≡ true
+access_inside : (x : Range) (a size : ℕ) → In a x → is_in_bounds 0 x.lo (extent x size) ≡ true → is_in_bounds 0 a size ≡ true
 access_inside x a size i inside =
     let low = i.low in
     let high = i.high in
-    inside_of 0 a size (elim (inside_cases 0 x.lo (extent x size) inside) [
+    in_bounds_from 0 a size (elim (in_bounds_cases 0 x.lo (extent x size) inside) [
       | inl (f, g) ↦ inl (omega arith, omega arith)
       | inr (f, g) ↦ inr (omega arith, omega arith)
     ])
@@ -176,28 +176,28 @@ record Operand (o : Option Range) (v : Option ℕ) : Type 0 where
   value : ℕ
   value_is : v ≡ Some value
   in_range : In value range
-  fits : Fits 64 range
+  fits : WellFormed 64 range
 
-register_operand : (state : State) (m : Machine) (r : ℕ) → Means state m → IsFit state → is_some (state.ranges r) ≡ true → Operand (state.ranges r) (map.get m.frame.registers r)
-unfolding IsFit
+register_operand : (state : AbstractState) (m : Machine) (r : ℕ) → Abstracts state m → IsWellFormed state → is_some (state.ranges r) ≡ true → Operand (state.ranges r) (map.get m.frame.registers r)
+unfolding IsWellFormed
 register_operand state m r means fit h =
     let x = some_here (state.ranges r) h in
     let holds = means.ranges r x.0 x.1 in
     record { range = x.0; range_is = x.1; value = holds.value; value_is = holds.is; in_range = holds.in_range; fits = fit r x.0 x.1 }
 
 -- a constant that is a number of 64 bits
-unfoldable pub FitsSource : Source → Type 0
-FitsSource (source.Imm value) = cast_unsigned w64 value < 2 ^ 64
-FitsSource (source.Reg reg) = Unit {0}
+unfoldable pub ImmInRange : Source → Type 0
+ImmInRange (source.Imm value) = cast_unsigned w64 value < 2 ^ 64
+ImmInRange (source.Reg reg) = Unit {0}
 
-pub source_fits : (width : AluWidth) (op : AluOp) (dst : Reg) (src : Source) → IsInsn (Alu width op dst src) → FitsSource src
-unfolding FitsSource
-source_fits width op dst (source.Imm value) h =
+pub imm_in_range : (width : AluWidth) (op : AluOp) (dst : Reg) (src : Source) → IsInsn (Alu width op dst src) → ImmInRange src
+unfolding ImmInRange
+imm_in_range width op dst (source.Imm value) h =
     let fits = Fits-of_z {w = w64} (sfits_widen {w = w32} {w' = w64} tt h) in omega arith
-source_fits width op dst (source.Reg reg) h = tt
+imm_in_range width op dst (source.Reg reg) h = tt
 
-source_operand : (state : State) (m : Machine) (src : Source) → Means state m → IsFit state → FitsSource src → list_all (λ r. is_some (state.ranges r)) (source_operands src) ≡ true → Operand (source_range state src) (source_value m.frame.registers src)
-unfolding FitsSource
+source_operand : (state : AbstractState) (m : Machine) (src : Source) → Abstracts state m → IsWellFormed state → ImmInRange src → list_all (λ r. is_some (state.ranges r)) (source_operands src) ≡ true → Operand (source_range state src) (source_value m.frame.registers src)
+unfolding ImmInRange
 source_operand state m (source.Imm value) means fit small h =
     let below : cast_unsigned w64 value < 2 ^ 64 = small in
     record {
@@ -211,7 +211,7 @@ source_operand state m (source.Imm value) means fit small h =
 source_operand state m (source.Reg reg) means fit small h =
     register_operand state m reg.number means fit (and_true _ _ h).0
 
-destination_operand : (state : State) (m : Machine) (op : AluOp) (d : ℕ) → Means state m → IsFit state → list_all (λ r. is_some (state.ranges r)) (cond (reads_destination op) (d ∷ []) []) ≡ true → Operand (destination_range state op d) (destination_value m.frame.registers op d)
+destination_operand : (state : AbstractState) (m : Machine) (op : AluOp) (d : ℕ) → Abstracts state m → IsWellFormed state → list_all (λ r. is_some (state.ranges r)) (cond (reads_destination op) (d ∷ []) []) ≡ true → Operand (destination_range state op d) (destination_value m.frame.registers op d)
 destination_operand state m Add d means fit h = register_operand state m d means fit (and_true _ _ h).0
 destination_operand state m Mov d means fit h = record {
   range = single 0;
@@ -223,18 +223,18 @@ destination_operand state m Mov d means fit h = record {
 }
 
 -- what an arithmetic instruction does, and what is known of it
-pub record Moves (state : State) (m : Machine) (x : Insn) (dst : ℕ) : Type 0 where
+pub record Moves (state : AbstractState) (m : Machine) (x : Insn) (dst : ℕ) : Type 0 where
   pub value : ℕ
-  pub goes : effect m x ≡ Some (Goes (moved m (slots_of x) dst value))
+  pub goes : effect m x ≡ Some (Continues (moved m (slots_of x) dst value))
   pub range : Range
   pub range_is : alu_range state x ≡ Some range
   pub in_range : In value range
-  pub fits : Fits 64 range
+  pub fits : WellFormed 64 range
 
-alu_effect : (m : Machine) (width : AluWidth) (op : AluOp) (dst : Reg) (src : Source) (a b : ℕ) → source_value m.frame.registers src ≡ Some b → destination_value m.frame.registers op dst.number ≡ Some a → eqb dst.number 10 ≡ false → effect m (Alu width op dst src) ≡ Some (Goes (moved m (slots_of (Alu width op dst src)) dst.number (alu_of width op a b)))
+alu_effect : (m : Machine) (width : AluWidth) (op : AluOp) (dst : Reg) (src : Source) (a b : ℕ) → source_value m.frame.registers src ≡ Some b → destination_value m.frame.registers op dst.number ≡ Some a → eqb dst.number 10 ≡ false → effect m (Alu width op dst src) ≡ Some (Continues (moved m (slots_of (Alu width op dst src)) dst.number (alu_of width op a b)))
 alu_effect m width op dst src a b b-is a-is ten = rw (b-is, a-is, ten) refl
 
-alu_known : (state : State) (width : AluWidth) (op : AluOp) (dst : Reg) (src : Source) (a b : Range) → source_range state src ≡ Some b → destination_range state op dst.number ≡ Some a → alu_range state (Alu width op dst src) ≡ Some (transfer width op a b)
+alu_known : (state : AbstractState) (width : AluWidth) (op : AluOp) (dst : Reg) (src : Source) (a b : Range) → source_range state src ≡ Some b → destination_range state op dst.number ≡ Some a → alu_range state (Alu width op dst src) ≡ Some (transfer width op a b)
 alu_known state width op dst src a b b-is a-is = rw (b-is, a-is) refl
 
 all_apart : (p : ℕ → Bool) (xs ys : List ℕ) → list_all p (xs ++ ys) ≡ true → (list_all p xs ≡ true) × (list_all p ys ≡ true)
@@ -242,12 +242,12 @@ all_apart p [] ys h = (refl, h)
 all_apart p (x ∷ xs) ys h =
     let both = and_true (p x) (list_all p (xs ++ ys)) h in
     let rest = all_apart p xs ys both.1 in
-    (joined (p x) (list_all p xs) both.0 rest.0, rest.1) where
-      joined : (a b : Bool) → a ≡ true → b ≡ true → (a && b) ≡ true
-      joined true b e f = f
-      joined false b e f = e
+    (and_intro (p x) (list_all p xs) both.0 rest.0, rest.1) where
+      and_intro : (a b : Bool) → a ≡ true → b ≡ true → (a && b) ≡ true
+      and_intro true b e f = f
+      and_intro false b e f = e
 
-pub alu_moves : (state : State) (m : Machine) (width : AluWidth) (op : AluOp) (dst : Reg) (src : Source) → Means state m → IsFit state → FitsSource src → has_operands state (Alu width op dst src) ≡ true → eqb dst.number 10 ≡ false → Moves state m (Alu width op dst src) dst.number
+pub alu_moves : (state : AbstractState) (m : Machine) (width : AluWidth) (op : AluOp) (dst : Reg) (src : Source) → Abstracts state m → IsWellFormed state → ImmInRange src → has_operands state (Alu width op dst src) ≡ true → eqb dst.number 10 ≡ false → Moves state m (Alu width op dst src) dst.number
 alu_moves state m width op dst src means fit small has ten =
     let apart = all_apart (λ r. is_some (state.ranges r)) (cond (reads_destination op) (dst.number ∷ []) []) (source_operands src) has in
     let a = destination_operand state m op dst.number means fit apart.0 in
@@ -258,13 +258,13 @@ alu_moves state m width op dst src means fit small has ten =
       range = transfer width op a.range b.range;
       range_is = alu_known state width op dst src a.range b.range b.range_is a.range_is;
       in_range = transfer_in width op a.range b.range a.value b.value a.fits b.fits a.in_range b.in_range;
-      fits = transfer_fits width op a.range b.range a.fits b.fits;
+      fits = transfer_well_formed width op a.range b.range a.fits b.fits;
     }
 
 wider : (v : ℕ) (x y : Range) → x.lo ≤ y.lo → y.hi ≤ x.hi → In v y → In v x
 wider v x y low high i = let l = i.low in let h = i.high in record { low = omega arith; high = omega arith }
 
-pub moved_means : (state j : State) (m : Machine) (x : Insn) (dst : ℕ) → Means state m → (moves : Moves state m x dst) → IsBelow j (with_range state dst (alu_range state x)) → Means j (moved m (slots_of x) dst moves.value)
+pub moved_means : (state j : AbstractState) (m : Machine) (x : Insn) (dst : ℕ) → Abstracts state m → (moves : Moves state m x dst) → IsBelow j (with_range state dst (alu_range state x)) → Abstracts j (moved m (slots_of x) dst moves.value)
 moved_means state j m x dst means moves below = record {
   ranges = λ r y h.
       let known = below.ranges r y h in
@@ -285,7 +285,7 @@ moved_means state j m x dst means moves below = record {
               in_range = wider holds.value y known.0 known.2 known.3 holds.in_range;
             }
       ];
-  marked = λ address h. means.marked address (below.marked address h);
+  initialized = λ address h. means.initialized address (below.initialized address h);
   arguments = means.arguments;
 }
 
@@ -308,34 +308,34 @@ after m slots answer =
     }
 
 -- what a helper does, and what is known of it
-pub record Answers (state : State) (m : Machine) (helper : Helper) (number : ℤ) : Type 0 where
+pub record Answers (state : AbstractState) (m : Machine) (helper : Helper) (number : ℤ) : Type 0 where
   pub answer : Answer
-  pub goes : effect m (CallHelper number) ≡ Some (Goes (after m (slots_of (CallHelper number)) answer))
+  pub goes : effect m (CallHelper number) ≡ Some (Continues (after m (slots_of (CallHelper number)) answer))
   pub small : answer.value ≤ 1
   pub stays : (k : ℕ) → IsSome (map.get m.memory k) → IsSome (map.get answer.memory k)
-  pub marks : (k : ℕ) → list_any (λ access. is_written (state.ranges access.register) access.size k) (writes helper) ≡ true → IsSome (map.get answer.memory k)
+  pub initialized : (k : ℕ) → list_any (λ access. is_written (state.ranges access.register) access.size k) (writes helper) ≡ true → IsSome (map.get answer.memory k)
   pub values : AreValues answer.entries
 
-helper_effect : (m : Machine) (number : ℤ) (helper : Helper) (first second : ℕ) (answer : Answer) → helper_of number ≡ Some helper → map.get m.frame.registers 1 ≡ Some first → map.get m.frame.registers 2 ≡ Some second → answer_of helper m first second ≡ Some answer → effect m (CallHelper number) ≡ Some (Goes (after m (slots_of (CallHelper number)) answer))
+helper_effect : (m : Machine) (number : ℤ) (helper : Helper) (first second : ℕ) (answer : Answer) → helper_of number ≡ Some helper → map.get m.frame.registers 1 ≡ Some first → map.get m.frame.registers 2 ≡ Some second → answer_of helper m first second ≡ Some answer → effect m (CallHelper number) ≡ Some (Continues (after m (slots_of (CallHelper number)) answer))
 helper_effect m number helper first second answer a b c d = rw (a, b, c, d) refl
 
-get_answer : (m : Machine) (first second : ℕ) (key : List ℕ) → bytes_at m.memory first 16 ≡ Some key → is_inside (length m.callers) second 32 ≡ true → answer_of Get m first second ≡ Some (got m second (map.get m.entries key))
+get_answer : (m : Machine) (first second : ℕ) (key : List ℕ) → bytes_at m.memory first 16 ≡ Some key → is_in_bounds (length m.callers) second 32 ≡ true → answer_of Get m first second ≡ Some (get_effect m second (map.get m.entries key))
 get_answer m first second key a b = rw (a, b) refl
 
-put_answer : (m : Machine) (first second : ℕ) (key value : List ℕ) → bytes_at m.memory first 16 ≡ Some key → bytes_at m.memory second 32 ≡ Some value → answer_of Put m first second ≡ Some (kept m key value)
+put_answer : (m : Machine) (first second : ℕ) (key value : List ℕ) → bytes_at m.memory first 16 ≡ Some key → bytes_at m.memory second 32 ≡ Some value → answer_of Put m first second ≡ Some (put_effect m key value)
 put_answer m first second key value a b = rw (a, b) refl
 
 -- what get writes: 32 bytes
-record Got (m : Machine) (address : ℕ) (answer : Answer) : Type 0 where
+record GetWrites (m : Machine) (address : ℕ) (answer : Answer) : Type 0 where
   bytes : List ℕ
   long : length bytes ≡ 32
   memory_is : answer.memory ≡ stored m.memory address bytes
   entries_are : answer.entries ≡ m.entries
   small : answer.value ≤ 1
 
-got_is : (m : Machine) (address : ℕ) (o : Option (List ℕ)) → ((value : List ℕ) → o ≡ Some value → length value ≡ 32) → Got m address (got m address o)
-got_is m address None values = record { bytes = zeros; long = refl; memory_is = refl; entries_are = refl; small = omega arith }
-got_is m address (Some value) values =
+get_writes : (m : Machine) (address : ℕ) (o : Option (List ℕ)) → ((value : List ℕ) → o ≡ Some value → length value ≡ 32) → GetWrites m address (get_effect m address o)
+get_writes m address None values = record { bytes = zeros; long = refl; memory_is = refl; entries_are = refl; small = omega arith }
+get_writes m address (Some value) values =
     record { bytes = value; long = values value refl; memory_is = refl; entries_are = refl; small = omega arith }
 
 put_values : (entries : Entries) (key value : List ℕ) → length value ≡ 32 → AreValues entries → AreValues (put entries key value)
@@ -350,20 +350,20 @@ put_values entries key value long values q v h = cases (has_place entries key) r
       found (eq_by_cmp (slice_cmp nat_cmp) q key) (sym (map.get-insert nat_list_cmp_total entries key value q) ∙ sym (ap (λ (p : Bool). map.get (cond p (map.insert entries key value) entries) q) e) ∙ h)
   cases false e = values q v (sym (ap (λ (p : Bool). map.get (cond p (map.insert entries key value) entries) q) e) ∙ h)
 
-kept_small : (b : Bool) → cond b 0 1 ≤ 1
-kept_small true = omega arith
-kept_small false = omega arith
+put_value_small : (b : Bool) → cond b 0 1 ≤ 1
+put_value_small true = omega arith
+put_value_small false = omega arith
 
 -- a register of a helper, and what may be accessed through it
-record Address (state : State) (m : Machine) (r size : ℕ) : Type 0 where
+record Address (state : AbstractState) (m : Machine) (r size : ℕ) : Type 0 where
   range : Range
   range_is : state.ranges r ≡ Some range
   value : ℕ
   value_is : map.get m.frame.registers r ≡ Some value
   in_range : In value range
-  inside : is_inside 0 range.lo (extent range size) ≡ true
+  inside : is_in_bounds 0 range.lo (extent range size) ≡ true
 
-address : (state : State) (m : Machine) (r size : ℕ) → Means state m → is_some (state.ranges r) ≡ true → lies_inside (state.ranges r) size ≡ true → Address state m r size
+address : (state : AbstractState) (m : Machine) (r size : ℕ) → Abstracts state m → is_some (state.ranges r) ≡ true → in_bounds (state.ranges r) size ≡ true → Address state m r size
 address state m r size means has inside =
     let x = some_here (state.ranges r) has in
     let holds = means.ranges r x.0 x.1 in
@@ -373,36 +373,36 @@ address state m r size means has inside =
       value = holds.value;
       value_is = holds.is;
       in_range = holds.in_range;
-      inside = sym (ap (λ (o : Option Range). lies_inside o size) x.1) ∙ inside;
+      inside = sym (ap (λ (o : Option Range). in_bounds o size) x.1) ∙ inside;
     }
 
-reading : (state : State) (m : Machine) (r size : ℕ) → Means state m → (at : Address state m r size) → is_there state.marked (state.ranges r) size ≡ true → (bytes : List ℕ) × (bytes_at m.memory at.value size ≡ Some bytes) × (length bytes ≡ size)
+reading : (state : AbstractState) (m : Machine) (r size : ℕ) → Abstracts state m → (at : Address state m r size) → is_initialized state.initialized (state.ranges r) size ≡ true → (bytes : List ℕ) × (bytes_at m.memory at.value size ≡ Some bytes) × (length bytes ≡ size)
 reading state m r size means at there =
-    let present = sym (ap (λ (o : Option Range). is_there state.marked o size) at.range_is) ∙ there in
+    let present = sym (ap (λ (o : Option Range). is_initialized state.initialized o size) at.range_is) ∙ there in
     bytes_found m.memory at.value size (access_there state m at.range at.value size means at.in_range at.inside present)
 
-in_frame : (m : Machine) (a size : ℕ) → m.callers ≡ [] → is_inside 0 a size ≡ true → is_inside (length m.callers) a size ≡ true
+in_frame : (m : Machine) (a size : ℕ) → m.callers ≡ [] → is_in_bounds 0 a size ≡ true → is_in_bounds (length m.callers) a size ≡ true
 in_frame m a size alone h = rw alone h
 
-pub get_answers : (state : State) (m : Machine) (number : ℤ) → helper_of number ≡ Some Get → Means state m → m.callers ≡ [] → AreValues m.entries → list_all (λ r. is_some (state.ranges r)) (1 ∷ 2 ∷ []) ≡ true → are_inside state (reads Get ++ writes Get) ≡ true → are_there state (reads Get) ≡ true → Answers state m Get number
+pub get_answers : (state : AbstractState) (m : Machine) (number : ℤ) → helper_of number ≡ Some Get → Abstracts state m → m.callers ≡ [] → AreValues m.entries → list_all (λ r. is_some (state.ranges r)) (1 ∷ 2 ∷ []) ≡ true → all_in_bounds state (reads Get ++ writes Get) ≡ true → are_initialized state (reads Get) ≡ true → Answers state m Get number
 unfolding AreValues
 get_answers state m number is means alone values has inside there =
     let has1 = and_true (is_some (state.ranges 1)) (is_some (state.ranges 2) && true) has in
     let has2 = and_true (is_some (state.ranges 2)) true has1.1 in
-    let in1 = and_true (lies_inside (state.ranges 1) 16) (lies_inside (state.ranges 2) 32 && true) inside in
-    let in2 = and_true (lies_inside (state.ranges 2) 32) true in1.1 in
-    let there1 = and_true (is_there state.marked (state.ranges 1) 16) true there in
+    let in1 = and_true (in_bounds (state.ranges 1) 16) (in_bounds (state.ranges 2) 32 && true) inside in
+    let in2 = and_true (in_bounds (state.ranges 2) 32) true in1.1 in
+    let there1 = and_true (is_initialized state.initialized (state.ranges 1) 16) true there in
     let a = address state m 1 16 means has1.0 in1.0 in
     let b = address state m 2 32 means has2.0 in2.0 in
     let key = reading state m 1 16 means a there1.0 in
-    let g = got_is m b.value (map.get m.entries key.0) (λ value e. values key.0 value e) in
-    let answer = got m b.value (map.get m.entries key.0) in
+    let g = get_writes m b.value (map.get m.entries key.0) (λ value e. values key.0 value e) in
+    let answer = get_effect m b.value (map.get m.entries key.0) in
     record {
       answer = answer;
       goes = helper_effect m number Get a.value b.value answer is a.value_is b.value_is (get_answer m a.value b.value key.0 key.1 (in_frame m b.value 32 alone (access_inside b.range b.value 32 b.in_range b.inside)));
       small = g.small;
       stays = λ k h. subst (λ (memory : Memory). IsSome (map.get memory k)) (sym g.memory_is) (stored_stays m.memory b.value g.bytes k h);
-      marks = λ k h.
+      initialized = λ k h.
           let written = or_false (is_written (state.ranges 2) 32 k) h in
           let here : ((is_single b.range && leb b.range.lo k) && ltb k (b.range.lo + 32)) ≡ true = sym (ap (λ (o : Option Range). is_written o 32 k) b.range_is) ∙ written in
           let ends = and_true (is_single b.range && leb b.range.lo k) (ltb k (b.range.lo + 32)) here in
@@ -421,39 +421,39 @@ get_answers state m number is means alone values has inside there =
       or_false true e = refl
       or_false false e = e
 
-pub put_answers : (state : State) (m : Machine) (number : ℤ) → helper_of number ≡ Some Put → Means state m → AreValues m.entries → list_all (λ r. is_some (state.ranges r)) (1 ∷ 2 ∷ []) ≡ true → are_inside state (reads Put ++ writes Put) ≡ true → are_there state (reads Put) ≡ true → Answers state m Put number
+pub put_answers : (state : AbstractState) (m : Machine) (number : ℤ) → helper_of number ≡ Some Put → Abstracts state m → AreValues m.entries → list_all (λ r. is_some (state.ranges r)) (1 ∷ 2 ∷ []) ≡ true → all_in_bounds state (reads Put ++ writes Put) ≡ true → are_initialized state (reads Put) ≡ true → Answers state m Put number
 put_answers state m number is means values has inside there =
     let has1 = and_true (is_some (state.ranges 1)) (is_some (state.ranges 2) && true) has in
     let has2 = and_true (is_some (state.ranges 2)) true has1.1 in
-    let in1 = and_true (lies_inside (state.ranges 1) 16) (lies_inside (state.ranges 2) 32 && true) inside in
-    let in2 = and_true (lies_inside (state.ranges 2) 32) true in1.1 in
-    let there1 = and_true (is_there state.marked (state.ranges 1) 16) (is_there state.marked (state.ranges 2) 32 && true) there in
-    let there2 = and_true (is_there state.marked (state.ranges 2) 32) true there1.1 in
+    let in1 = and_true (in_bounds (state.ranges 1) 16) (in_bounds (state.ranges 2) 32 && true) inside in
+    let in2 = and_true (in_bounds (state.ranges 2) 32) true in1.1 in
+    let there1 = and_true (is_initialized state.initialized (state.ranges 1) 16) (is_initialized state.initialized (state.ranges 2) 32 && true) there in
+    let there2 = and_true (is_initialized state.initialized (state.ranges 2) 32) true there1.1 in
     let a = address state m 1 16 means has1.0 in1.0 in
     let b = address state m 2 32 means has2.0 in2.0 in
     let key = reading state m 1 16 means a there1.0 in
     let value = reading state m 2 32 means b there2.0 in
     record {
-      answer = kept m key.0 value.0;
-      goes = helper_effect m number Put a.value b.value (kept m key.0 value.0) is a.value_is b.value_is (put_answer m a.value b.value key.0 value.0 key.1 value.1);
-      small = kept_small (has_place m.entries key.0);
+      answer = put_effect m key.0 value.0;
+      goes = helper_effect m number Put a.value b.value (put_effect m key.0 value.0) is a.value_is b.value_is (put_answer m a.value b.value key.0 value.0 key.1 value.1);
+      small = put_value_small (has_place m.entries key.0);
       stays = λ k h. h;
-      marks = λ k h. absurd cc;
+      initialized = λ k h. absurd cc;
       values = put_values m.entries key.0 value.0 value.2 values;
     }
 
 -- the registers after a helper
-pub kept_register : (registers : Registers) (r value : ℕ) → map.get (map.insert (map.retain_keys registers (λ r. nat_le 6 r)) 0 value) r ≡ cond (eqb r 0) (Some value) (cond (nat_le 6 r) (map.get registers r) None)
-kept_register registers r value =
+pub register_after_helper : (registers : Registers) (r value : ℕ) → map.get (map.insert (map.retain_keys registers (λ r. nat_le 6 r)) 0 value) r ≡ cond (eqb r 0) (Some value) (cond (nat_le 6 r) (map.get registers r) None)
+register_after_helper registers r value =
     map.get-insert nat_cmp_total (map.retain_keys registers (λ r. nat_le 6 r)) 0 value r
     ∙ ap (λ (b : Bool). cond b (Some value) (map.get (map.retain_keys registers (λ r. nat_le 6 r)) r)) (unsigned_tied r 0)
     ∙ ap (λ (o : Option ℕ). cond (eqb r 0) (Some value) o) (map.get-retain_keys registers (λ r. nat_le 6 r) r (λ x e. ap (λ (k : ℕ). nat_le 6 k) (sym (map.nat_cmp-IsAntisymmetric r x e))))
 
-pub helper_means : (state j : State) (m : Machine) (helper : Helper) (number : ℤ) → Means state m → (answers : Answers state m helper number) → IsBelow j (after_helper state (writes helper)) → Means j (after m (slots_of (CallHelper number)) answers.answer)
+pub helper_means : (state j : AbstractState) (m : Machine) (helper : Helper) (number : ℤ) → Abstracts state m → (answers : Answers state m helper number) → IsBelow j (after_helper state (writes helper)) → Abstracts j (after m (slots_of (CallHelper number)) answers.answer)
 helper_means state j m helper number means answers below = record {
   ranges = λ r y h.
       let known = below.ranges r y h in
-      let at = kept_register m.frame.registers r answers.answer.value in
+      let at = register_after_helper m.frame.registers r answers.answer.value in
       elim (eqb_tells r 0) [
         | inl (e, same) ↦
             let is : record { lo = 0; hi = 1 } ≡ known.0 = some_is _ _ (sym (ap (λ (b : Bool). cond b (Some (record { lo = 0; hi = 1 })) (cond (nat_le 6 r) (state.ranges r) None)) e) ∙ known.1) in
@@ -479,10 +479,10 @@ helper_means state j m helper number means answers below = record {
               | inr (f, low) ↦ absurd (let none = sym (ap (λ (b : Bool). cond b (state.ranges r) None) f) ∙ rest in cc)
             ]
       ];
-  marked = λ k h.
-      elim (or_true (list_any (λ access. is_written (state.ranges access.register) access.size k) (writes helper)) (state.marked k) (below.marked k h)) [
-        | inl new ↦ answers.marks k new
-        | inr old ↦ answers.stays k (means.marked k old)
+  initialized = λ k h.
+      elim (or_true (list_any (λ access. is_written (state.ranges access.register) access.size k) (writes helper)) (state.initialized k) (below.initialized k h)) [
+        | inl new ↦ answers.initialized k new
+        | inr old ↦ answers.stays k (means.initialized k old)
       ];
   arguments = λ k p q. answers.stays k (means.arguments k p q);
 }
