@@ -1,5 +1,5 @@
 -- Code and its bytes, slot by slot.
-use Rattle.std.proofs.Common.{◌≡◌, ℕ, zero, suc, ◌+◌, ◌*◌, ◌^◌, ◌<◌, ◌≤◌, false, List, [], ◌∷◌, ◌++◌, length, get_or, take, drop, None, ℤ, refl, sym, ap, subst, ◌∙◌, arith, inl, inr, ◌⊎◌, FitsSigned}
+use Rattle.std.proofs.Common.{◌≡◌, ℕ, zero, suc, ◌+◌, ◌*◌, ◌^◌, ◌<◌, ◌≤◌, false, List, [], ◌∷◌, ◌++◌, length, get_or, take, drop, Option, None, pos, ℤ, refl, sym, ap, subst, ◌∙◌, arith, inl, inr, ◌⊎◌, FitsSigned}
 use Rattle.std.specs.Int.{w16, w32, to_le_bytes, from_le_bytes, cast_unsigned, cast_signed}
 use Rattle.std.specs.List.{flat_map, AllByRecursion}
 use Rattle.std.proofs.Math.Facts.{Fits-of_z}
@@ -10,8 +10,8 @@ use Rattle.std.proofs.lemmas.List.Concat.{flat_map-cons}
 use Rattle.std.proofs.lemmas.Grind.{flat_map-append}
 use Rattle.std.proofs.lemmas.Bool.{le-ltb}
 use Rattle.std.proofs.Common.{rules, ltb}
+use Rattle.bpf_num.specs.declared.AluOp.{AluOp}
 use Rattle.bpf_num.specs.declared.AluOp.TheVariants.{Add, Mov}
-use Rattle.bpf_num.specs.declared.AluWidth.TheVariants.{W32, W64}
 use Rattle.std.proofs.lemmas.Int.{to_z-of_z}
 use Rattle.std.proofs.lemmas.Nat.{from_le_bytes-to_le_bytes_2, from_le_bytes-to_le_bytes_4}
 use Rattle.bpf_decode.specs.declared.insn.Insn.{Insn}
@@ -24,8 +24,12 @@ use Rattle.std.specs.Global.{Vec}
 use Rattle.bpf_decode.specs.declared.slot.Slot.{Slot}
 use Rattle.bpf_decode.specs.declared.refusal.DecodeFault.{DecodeFault}
 use Rattle.bpf_decode.specs.Encoding.{slot_bytes, IsSlot, IsInsn, EncodesAt, insn_slots, encoding}
-use Rattle.bpf_decode.specs.Faults.{slot_fault, length_fault, IsCode, FaultyAt, IsRefused}
-use Rattle.bpf_decode.proofs.Slots.{slot_of, insn_slots-slot_of, same_insn}
+use Rattle.bpf_decode.specs.declared.opcode.Opcode.{Opcode}
+use Rattle.bpf_decode.specs.declared.opcode.Opcode.TheVariants as opcode
+use Rattle.bpf_decode.specs.declared.opcode.SourceKind.TheVariants.{K, X}
+use Rattle.bpf_decode.specs.Opcodes.{opcode_byte, opcode_of}
+use Rattle.bpf_decode.specs.Faults.{has_bad_offset, field_fault, fault_of, slot_fault, length_fault, IsCode, FaultyAt, IsRefused}
+use Rattle.bpf_decode.proofs.Slots.{slot_of, insn_slots-slot_of, opcode_small, opcode_again, same_insn}
 
 -- ---- lists of instructions
 
@@ -99,30 +103,33 @@ same_slot s t fs ft e =
 -- an instruction's slot holds what a slot can hold, and has no fault
 pub IsSlot-slot_of : (x : Insn) → IsInsn x → IsSlot (slot_of x)
 unfolding slot_of
-IsSlot-slot_of (Alu W32 Add dst (source.Imm value)) h = let d = dst.in_range in record { opcode = omega arith; dst = omega arith; src = omega arith; offset = search rules; imm = h }
-IsSlot-slot_of (Alu W32 Mov dst (source.Imm value)) h = let d = dst.in_range in record { opcode = omega arith; dst = omega arith; src = omega arith; offset = search rules; imm = h }
-IsSlot-slot_of (Alu W64 Add dst (source.Imm value)) h = let d = dst.in_range in record { opcode = omega arith; dst = omega arith; src = omega arith; offset = search rules; imm = h }
-IsSlot-slot_of (Alu W64 Mov dst (source.Imm value)) h = let d = dst.in_range in record { opcode = omega arith; dst = omega arith; src = omega arith; offset = search rules; imm = h }
-IsSlot-slot_of (Alu W32 Add dst (source.Reg src)) h = let d = dst.in_range in let e = src.in_range in record { opcode = omega arith; dst = omega arith; src = omega arith; offset = search rules; imm = search rules }
-IsSlot-slot_of (Alu W32 Mov dst (source.Reg src)) h = let d = dst.in_range in let e = src.in_range in record { opcode = omega arith; dst = omega arith; src = omega arith; offset = search rules; imm = search rules }
-IsSlot-slot_of (Alu W64 Add dst (source.Reg src)) h = let d = dst.in_range in let e = src.in_range in record { opcode = omega arith; dst = omega arith; src = omega arith; offset = search rules; imm = search rules }
-IsSlot-slot_of (Alu W64 Mov dst (source.Reg src)) h = let d = dst.in_range in let e = src.in_range in record { opcode = omega arith; dst = omega arith; src = omega arith; offset = search rules; imm = search rules }
+IsSlot-slot_of (Alu width op dst (source.Imm value)) h =
+    let d = dst.in_range in
+    record { opcode = opcode_small (opcode.Alu width op K); dst = omega arith; src = omega arith; offset = search rules; imm = h }
+IsSlot-slot_of (Alu width op dst (source.Reg src)) h =
+    let d = dst.in_range in
+    let e = src.in_range in
+    record { opcode = opcode_small (opcode.Alu width op X); dst = omega arith; src = omega arith; offset = search rules; imm = search rules }
 IsSlot-slot_of (CallHelper helper) h = record { opcode = omega arith; dst = omega arith; src = omega arith; offset = search rules; imm = h }
 IsSlot-slot_of Exit h = record { opcode = omega arith; dst = omega arith; src = omega arith; offset = search rules; imm = search rules }
 
 register_test : (n : ℕ) → n ≤ 10 → ltb 10 n ≡ false
 register_test n h = le-ltb 10 n h
 
+opcode_right : (o : Opcode) (s : Slot) → s.opcode ≡ opcode_byte o → field_fault o s ≡ None → slot_fault s ≡ None
+opcode_right o s e f =
+    ap (λ (k : ℕ). fault_of (opcode_of k) s) e ∙ ap (λ (p : Option Opcode). fault_of p s) (opcode_again o) ∙ f
+
+no_offset : (op : AluOp) → has_bad_offset op (pos 0) ≡ false
+no_offset Add = refl
+no_offset Mov = refl
+
 pub slot_of_is_right : (x : Insn) → slot_fault (slot_of x) ≡ None
 unfolding slot_of
-slot_of_is_right (Alu W32 Add dst (source.Imm value)) = rw (register_test dst.number dst.in_range) refl
-slot_of_is_right (Alu W32 Mov dst (source.Imm value)) = rw (register_test dst.number dst.in_range) refl
-slot_of_is_right (Alu W64 Add dst (source.Imm value)) = rw (register_test dst.number dst.in_range) refl
-slot_of_is_right (Alu W64 Mov dst (source.Imm value)) = rw (register_test dst.number dst.in_range) refl
-slot_of_is_right (Alu W32 Add dst (source.Reg src)) = rw (register_test dst.number dst.in_range, register_test src.number src.in_range) refl
-slot_of_is_right (Alu W32 Mov dst (source.Reg src)) = rw (register_test dst.number dst.in_range, register_test src.number src.in_range) refl
-slot_of_is_right (Alu W64 Add dst (source.Reg src)) = rw (register_test dst.number dst.in_range, register_test src.number src.in_range) refl
-slot_of_is_right (Alu W64 Mov dst (source.Reg src)) = rw (register_test dst.number dst.in_range, register_test src.number src.in_range) refl
+slot_of_is_right (Alu width op dst (source.Imm value)) =
+    opcode_right (opcode.Alu width op K) (slot_of (Alu width op dst (source.Imm value))) refl (rw (register_test dst.number dst.in_range, no_offset op) refl)
+slot_of_is_right (Alu width op dst (source.Reg src)) =
+    opcode_right (opcode.Alu width op X) (slot_of (Alu width op dst (source.Reg src))) refl (rw (register_test dst.number dst.in_range, register_test src.number src.in_range, no_offset op) refl)
 slot_of_is_right (CallHelper helper) = refl
 slot_of_is_right Exit = refl
 
@@ -142,13 +149,13 @@ instruction_at (x ∷ xs) (suc k) s fit hs e =
 
 -- a refusal is right: refused bytes are no code
 pub refused_is_no_code : (bytes : List ℕ) (code : List Insn) (fault : DecodeFault) (slot : ℕ) → IsRefused bytes fault slot → IsCode bytes code → ⊥
-refused_is_no_code bytes code fault slot (inl h) c = let a = h.0 in let b = c.fits in cc
+refused_is_no_code bytes code fault slot (inl h) c = let a = h.0 in let b = c.length_is in cc
 refused_is_no_code bytes code fault slot (inr (none, (before, encoded_before, (here, at, faulty)))) c =
-    let found = instruction_at code slot here c.fit at.fits (ap (λ (t : List ℕ). take 8 (drop (8 * slot) t)) (sym c.encoded) ∙ at.encoded) in
+    let found = instruction_at code slot here c.in_range at.fits (ap (λ (t : List ℕ). take 8 (drop (8 * slot) t)) (sym c.encoded) ∙ at.encoded) in
     let right : slot_fault here ≡ None = ap slot_fault (sym found.1) ∙ slot_of_is_right found.0 in
     cc
 
--- bytes spell one list of instructions
+-- bytes encode one list of instructions
 pub same_encoding : (xs ys : List Insn) → AllByRecursion IsInsn xs → AllByRecursion IsInsn ys → encoding xs ≡ encoding ys → xs ≡ ys
 same_encoding [] [] fx fy e = refl
 same_encoding [] (y ∷ ys) fx fy e = let h = e ∙ encoding-cons y ys in absurd cc
@@ -162,7 +169,7 @@ same_encoding (x ∷ xs) (y ∷ ys) fx fy e =
     cc
 
 pub same_code : (bytes : List ℕ) (xs ys : List Insn) → IsCode bytes xs → IsCode bytes ys → xs ≡ ys
-same_code bytes xs ys cx cy = same_encoding xs ys cx.fit cy.fit (sym cx.encoded ∙ cy.encoded)
+same_code bytes xs ys cx cy = same_encoding xs ys cx.in_range cy.in_range (sym cx.encoded ∙ cy.encoded)
 
 -- what is read exactly, or refused rightly, is the only reading
 pub read_is_only : (bytes : List ℕ) (r : Result (Vec Insn) Refusal) → IfOk r (λ code. IsCode bytes code.items) → IfErr r (λ refusal. (refusal.fault ≡ Memory) ⊎ IsRefused bytes refusal.fault refusal.slot) → (code : List Insn) → IsCode bytes code → MatchResult r (λ found. found.items ≡ code) (λ refusal. refusal.fault ≡ Memory)

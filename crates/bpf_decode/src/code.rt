@@ -1,3 +1,5 @@
+//! Code as a whole: reads and writes lists of instructions.
+
 ghost use Rattle.std.specs.Prelude.{◌≡◌, ◌+◌, ◌*◌, ◌≤◌, ◌<◌, ◌⊎◌, List, length, IfOk, IfErr, MatchResult};
 ghost use Rattle.bpf_decode.specs.declared.insn.Insn.{Insn};
 ghost use Rattle.bpf_decode.specs.declared.refusal.DecodeFault.TheVariants.{Memory};
@@ -12,16 +14,16 @@ use std::alloc::{AllocError, Global};
 /// The bytes of a slot.
 const SLOT: usize = 8;
 
-/// The most slots that code has.
+/// The most slots that code has (a limit of this host).
 const MAX_SLOTS: usize = 1024;
 
-/// Reads code: 1 to 1,024 slots that spell instructions (RFC 9669, section 3). A refusal is the
+/// Reads code: 1 to 1,024 slots that encode instructions (RFC 9669, section 3). A refusal is the
 /// first fault: of the length, or of the first slot that has one.
 pub fn decode_all(alloc: Global, bytes: &[u8]) -> Result<Vec<Insn>, Refusal>
-    // What is read is insn_slots so.
+    // What is read is encoded so.
     ensures found { IfOk result (λ code. IsCode bytes.now code.items) }
 
-    // What is insn_slots so is read, unless memory runs out.
+    // What is encoded so is read, unless memory runs out.
     ensures only { (code : List Insn) → IsCode bytes.now code →
         MatchResult result (λ found. found.items ≡ code) (λ refusal. refusal.fault ≡ Memory) }
     ensures refused { IfErr result (λ refusal.
@@ -47,7 +49,7 @@ fn read_code(alloc: Global, bytes: &[u8]) -> Result<Vec<Insn>, Refusal>
     Ok(code)
 }
 
-/// The instruction that one slot spells, or the slot's first fault.
+/// The instruction that one slot encodes, or the slot's first fault.
 fn read_slot(bytes: &[u8], slot: usize) -> Result<Insn, Refusal>
     requires within { 8 * slot + 8 ≤ length bytes.now }
     requires few { slot < 1024 }
@@ -79,7 +81,7 @@ fn length_fault(bytes: usize) -> Option<DecodeFault>
     }
 }
 
-/// The bytes that spell the instructions.
+/// The bytes that encode the instructions.
 pub fn encode_all(alloc: Global, code: &[Insn]) -> Result<Vec<u8>, AllocError>
     ensures { IfOk result (λ bytes. bytes.items ≡ encoding code.now) }
 {

@@ -1,23 +1,15 @@
+//! The bytes that a procedure can reach.
+
 ghost use Rattle.std.specs.Prelude.{◌≡◌};
 ghost use Rattle.bpf_machine.specs.Represents.{InBounds, index_of};
 
-/// The bytes of the frame.
-const FRAME: usize = 512;
-
-/// The bytes of the arguments.
-const ARGUMENTS: usize = 256;
-
-/// Where the frame begins.
-const FRAME_START: u64 = 0x1_0000_0000;
-
-/// Where the arguments begin.
-const ARGUMENTS_START: u64 = 0x2_0000_0000;
+use bpf_model::layout::{ARGUMENTS_SIZE, ARGUMENTS_START, FRAME_SIZE, FRAME_START};
 
 /// The bytes that code can reach: the frame's, and behind them those of the arguments. A byte of the
 /// frame that was never written has some value that is never read.
 #[derive(Drop)]
 pub struct Memory {
-    bytes: [u8; FRAME + ARGUMENTS],
+    bytes: [u8; FRAME_SIZE + ARGUMENTS_SIZE],
 }
 
 impl Memory {
@@ -32,8 +24,8 @@ impl Memory {
         ensures { (client : ℕ) (entries : Entries) →
             let m = start (call_of args.now client entries) in RepresentsMemory result.bytes m.memory }
     {
-        let mut bytes = [0; FRAME + ARGUMENTS];
-        bytes[FRAME..FRAME + args.len()].copy_from_slice(args);
+        let mut bytes = [0; FRAME_SIZE + ARGUMENTS_SIZE];
+        bytes[FRAME_SIZE..FRAME_SIZE + args.len()].copy_from_slice(args);
         Memory { bytes }
     }
 
@@ -72,7 +64,7 @@ impl Memory {
     }
 }
 
-/// Where the byte at an address stands.
+/// The index of the byte at an address.
 fn index_of(address: u64) -> usize
     requires { InBounds address 16 }
     ensures { result ≡ index_of address }
@@ -80,6 +72,6 @@ fn index_of(address: u64) -> usize
     if address < ARGUMENTS_START {
         (address - FRAME_START) as usize
     } else {
-        FRAME + (address - ARGUMENTS_START) as usize
+        FRAME_SIZE + (address - ARGUMENTS_START) as usize
     }
 }

@@ -5,8 +5,7 @@ use Rattle.bpf_num.specs.declared.AluOp.{AluOp}
 use Rattle.bpf_num.specs.declared.AluOp.TheVariants.{Add, Mov}
 use Rattle.bpf_num.specs.declared.AluWidth.{AluWidth}
 use Rattle.bpf_num.specs.declared.AluWidth.TheVariants.{W32, W64}
-use Rattle.bpf_num.specs.Arithmetic.{result_of}
-use Rattle.bpf_model.specs.Step.{alu_of}
+use Rattle.bpf_num.specs.Arithmetic.{result_of, alu_of}
 use Rattle.bpf_model.specs.Ranges.{Range, single, is_single, full, alike, sum_range, wide_range, range_of, truncate, transfer}
 use Rattle.bpf_model.proofs.Options.{and_true}
 

@@ -10,17 +10,21 @@ use Rattle.std.proofs.lemmas.Bool.{leb-false}
 use Rattle.bpf_decode.specs.declared.insn.Insn.{Insn}
 use Rattle.bpf_decode.specs.declared.insn.Insn.TheVariants.{Alu, CallHelper, Exit}
 use Rattle.bpf_decode.specs.Faults.{IsCode}
-use Rattle.bpf_model.specs.Bind.{◌>>=◌}
+use Rattle.bpf_num.specs.Bind.{◌>>=◌}
 use Rattle.bpf_model.specs.Code.{slots_of, insns_by_slot, insn_at}
 use Rattle.tenant_maps.specs.Entries.{Entries, IsTenantMap}
 use Rattle.bpf_model.specs.Machine.{Machine, Call, IsCall, start}
-use Rattle.bpf_model.specs.Helpers.{Helper, Access, Get, Put, helper_of, writes}
+use Rattle.bpf_model.specs.declared.fault.VerifyFault.TheVariants.{FallsOffEnd, UnknownHelper, WritesFramePointer, UninitRegister, BadAccess, UninitBytes}
+use Rattle.bpf_model.specs.declared.helper.Access.{Access}
+use Rattle.bpf_model.specs.declared.helper.Helper.{Helper}
+use Rattle.bpf_model.specs.declared.helper.Helper.TheVariants.{Get, Put}
+use Rattle.bpf_model.specs.Helpers.{helper_of, writes}
 use Rattle.bpf_model.specs.Ranges.{Range}
 use Rattle.bpf_model.specs.Step.{Continues, Ends, effect, step}
 use Rattle.bpf_model.specs.Run.{Run, Ending, EndsSo, IsSafe}
-use Rattle.bpf_model.specs.AbstractState.{AbstractState, Edge, start_state, has_operands, helper_operands, helper_reads, helper_writes, reads_of, writes_of, all_in_bounds, are_initialized, edges, with_range, alu_range, after_helper, IsOneOf}
+use Rattle.bpf_model.specs.AbstractState.{AbstractState, Edge, falls_through, start_state, has_operands, helper_operands, helper_reads, helper_writes, reads_of, writes_of, all_in_bounds, are_initialized, edges, with_range, alu_range, after_helper, IsOneOf}
 use Rattle.bpf_model.specs.Dataflow.{edges_of, state_at, edges_at, Path}
-use Rattle.bpf_model.specs.Verdict.{IsAccepted, falls_off_end, unknown_helper, writes_frame_pointer, uninit_register, bad_access, uninit_bytes, insn_structure_fault, slot_structure_fault, slot_dataflow_fault, insn_dataflow_fault, falls_through, calls_unknown, writes_r10}
+use Rattle.bpf_model.specs.Verdict.{IsAccepted, insn_structure_fault, slot_structure_fault, slot_dataflow_fault, insn_dataflow_fault, calls_unknown, writes_r10}
 use Rattle.bpf_model.proofs.Options.{some_is, is_some_of, and_true, all_three, no_fault}
 use Rattle.bpf_model.proofs.Slots.{one_slot, length-insns_by_slot, some_at, few}
 use Rattle.bpf_model.proofs.Joins.{IsBelow, arrives}
@@ -93,8 +97,8 @@ record Reached (code : List Insn) (n : ℕ) (m : Machine) : Type 0 where
 -- what a slot's having no fault says
 record IsRight (code : List Insn) (pc : ℕ) (state : AbstractState) (x : Insn) : Type 0 where
   operands : has_operands state x ≡ true
-  inside : all_in_bounds state (reads_of x ++ writes_of x) ≡ true
-  there : are_initialized state (reads_of x) ≡ true
+  inside : all_in_bounds state.ranges (reads_of x ++ writes_of x) ≡ true
+  there : are_initialized state.initialized state.ranges (reads_of x) ≡ true
   behind : (falls_through x && leb (length (insns_by_slot code)) (pc + slots_of x)) ≡ false
   helper : calls_unknown x ≡ false
   r10 : writes_r10 x ≡ false
@@ -117,10 +121,10 @@ module _ (bytes : List ℕ) (code : List Insn) (bound : ℕ) (c : IsCode bytes c
   -- the instruction has no fault
   right : (pc : ℕ) (state : AbstractState) (x : Insn) → state_at code pc ≡ Some state → insn_at code pc ≡ Some x → IsRight code pc state x
   right pc state x known is =
-      let reads : insn_dataflow_fault state x ≡ None = sym (ap (λ (o : Option AbstractState). slot_dataflow_fault o (insn_at code pc)) known ∙ ap (slot_dataflow_fault (Some state)) is) ∙ a.visits pc in
+      let reads : insn_dataflow_fault state x ≡ None = sym (ap (λ (o : Option AbstractState). slot_dataflow_fault o (insn_at code pc)) known ∙ ap (slot_dataflow_fault (Some state)) is) ∙ a.dataflow pc in
       let stands : insn_structure_fault (length (insns_by_slot code)) pc x ≡ None = sym (ap (slot_structure_fault (length (insns_by_slot code)) pc) is) ∙ a.structure pc in
-      let whole = no_fault (falls_through x && leb (length (insns_by_slot code)) (pc + slots_of x)) (calls_unknown x) (writes_r10 x) falls_off_end unknown_helper writes_frame_pointer stands in
-      let known = all_three (has_operands state x) (all_in_bounds state (reads_of x ++ writes_of x)) (are_initialized state (reads_of x)) uninit_register bad_access uninit_bytes reads in
+      let whole = no_fault (falls_through x && leb (length (insns_by_slot code)) (pc + slots_of x)) (calls_unknown x) (writes_r10 x) FallsOffEnd UnknownHelper WritesFramePointer stands in
+      let known = all_three (has_operands state x) (all_in_bounds state.ranges (reads_of x ++ writes_of x)) (are_initialized state.initialized state.ranges (reads_of x)) UninitRegister BadAccess UninitBytes reads in
       record {
         operands = known.0;
         inside = known.1;
@@ -176,13 +180,13 @@ module _ (bytes : List ℕ) (code : List Insn) (bound : ℕ) (c : IsCode bytes c
   helper_at n m number at e None is ok = absurd (let known = sym (ap is_none is) ∙ ok.helper in cc)
   helper_at n m number at e (Some Get) is ok =
       let has = sym (ap (λ (o : Option Helper). list_all (λ r. is_some (at.known.ranges r)) (helper_operands o)) is) ∙ ok.operands in
-      let inside = sym (ap (λ (o : Option Helper). all_in_bounds at.known (helper_reads o ++ helper_writes o)) is) ∙ ok.inside in
-      let there = sym (ap (λ (o : Option Helper). are_initialized at.known (helper_reads o)) is) ∙ ok.there in
+      let inside = sym (ap (λ (o : Option Helper). all_in_bounds at.known.ranges (helper_reads o ++ helper_writes o)) is) ∙ ok.inside in
+      let there = sym (ap (λ (o : Option Helper). are_initialized at.known.initialized at.known.ranges (helper_reads o)) is) ∙ ok.there in
       helped n m number Get at e is (get_answers at.known m number is at.means at.callers at.values has inside there)
   helper_at n m number at e (Some Put) is ok =
       let has = sym (ap (λ (o : Option Helper). list_all (λ r. is_some (at.known.ranges r)) (helper_operands o)) is) ∙ ok.operands in
-      let inside = sym (ap (λ (o : Option Helper). all_in_bounds at.known (helper_reads o ++ helper_writes o)) is) ∙ ok.inside in
-      let there = sym (ap (λ (o : Option Helper). are_initialized at.known (helper_reads o)) is) ∙ ok.there in
+      let inside = sym (ap (λ (o : Option Helper). all_in_bounds at.known.ranges (helper_reads o ++ helper_writes o)) is) ∙ ok.inside in
+      let there = sym (ap (λ (o : Option Helper). are_initialized at.known.initialized at.known.ranges (helper_reads o)) is) ∙ ok.there in
       helped n m number Put at e is (put_answers at.known m number is at.means at.values has inside there)
 
   progress_at : (n : ℕ) (m : Machine) (x : Insn) → (at : Reached code n m) → at.insn ≡ x → Progresses n m
@@ -199,8 +203,8 @@ module _ (bytes : List ℕ) (code : List Insn) (bound : ℕ) (c : IsCode bytes c
       let x : Insn = Alu width op dst src in
       let is : insn_at code m.frame.pc ≡ Some x = at.insn_is ∙ ap Some e in
       let ok = right m.frame.pc at.known x at.known_is is in
-      let small = imm_in_range width op dst src (insn_fits code m.frame.pc x c.fit is) in
-      let fit = well_formed_at code c.fit m.frame.pc at.known at.known_is in
+      let small = imm_in_range width op dst src (insn_fits code m.frame.pc x c.in_range is) in
+      let fit = well_formed_at code c.in_range m.frame.pc at.known at.known_is in
       let moves = alu_moves at.known m width op dst src at.means fit small ok.operands ok.r10 in
       onward n m (moved m (slots_of x) dst.number moves.value) x (with_range at.known dst.number (alu_range at.known x)) at e refl refl moves.goes refl refl at.values (λ j below. moved_means at.known j m x dst.number at.means moves below)
 

@@ -26,9 +26,12 @@ use Rattle.bpf_decode.specs.Encoding.{IsInsn}
 use Rattle.bpf_model.specs.Code.{slots_of}
 use Rattle.tenant_maps.specs.Entries.{Entries, has_place, put}
 use Rattle.bpf_model.specs.Machine.{Machine, Memory, Registers, Call, IsCall, start, arguments_start, frame_end, is_in_bounds, bytes_at, stored}
-use Rattle.bpf_model.specs.Helpers.{Helper, Get, Put, Answer, helper_of, reads, writes, get_effect, put_effect, zeros, answer_of}
+use Rattle.bpf_model.specs.declared.helper.Helper.{Helper}
+use Rattle.bpf_model.specs.declared.helper.Helper.TheVariants.{Get, Put}
+use Rattle.bpf_model.specs.Helpers.{Answer, helper_of, reads, writes, get_effect, put_effect, zeros, answer_of}
 use Rattle.bpf_model.specs.Ranges.{Range, single, is_single, transfer}
-use Rattle.bpf_model.specs.Step.{Continues, alu_of, source_value, destination_value, reads_destination, effect}
+use Rattle.bpf_num.specs.Arithmetic.{alu_of, reads_destination}
+use Rattle.bpf_model.specs.Step.{Continues, source_value, destination_value, effect}
 use Rattle.bpf_model.specs.AbstractState.{AbstractState, start_state, has_operands, source_operands, all_initialized, extent, in_bounds, is_initialized, source_range, destination_range, with_range, alu_range, is_written, after_helper, all_in_bounds, are_initialized}
 use Rattle.bpf_model.proofs.Options.{some_is, is_some_of, and_true}
 use Rattle.bpf_model.proofs.RangeLaws.{In, WellFormed, transfer_in, transfer_well_formed}
@@ -384,7 +387,7 @@ reading state m r size means at there =
 in_frame : (m : Machine) (a size : ℕ) → m.callers ≡ [] → is_in_bounds 0 a size ≡ true → is_in_bounds (length m.callers) a size ≡ true
 in_frame m a size alone h = rw alone h
 
-pub get_answers : (state : AbstractState) (m : Machine) (number : ℤ) → helper_of number ≡ Some Get → Abstracts state m → m.callers ≡ [] → AreValues m.entries → list_all (λ r. is_some (state.ranges r)) (1 ∷ 2 ∷ []) ≡ true → all_in_bounds state (reads Get ++ writes Get) ≡ true → are_initialized state (reads Get) ≡ true → Answers state m Get number
+pub get_answers : (state : AbstractState) (m : Machine) (number : ℤ) → helper_of number ≡ Some Get → Abstracts state m → m.callers ≡ [] → AreValues m.entries → list_all (λ r. is_some (state.ranges r)) (1 ∷ 2 ∷ []) ≡ true → all_in_bounds state.ranges (reads Get ++ writes Get) ≡ true → are_initialized state.initialized state.ranges (reads Get) ≡ true → Answers state m Get number
 unfolding AreValues
 get_answers state m number is means alone values has inside there =
     let has1 = and_true (is_some (state.ranges 1)) (is_some (state.ranges 2) && true) has in
@@ -421,7 +424,7 @@ get_answers state m number is means alone values has inside there =
       or_false true e = refl
       or_false false e = e
 
-pub put_answers : (state : AbstractState) (m : Machine) (number : ℤ) → helper_of number ≡ Some Put → Abstracts state m → AreValues m.entries → list_all (λ r. is_some (state.ranges r)) (1 ∷ 2 ∷ []) ≡ true → all_in_bounds state (reads Put ++ writes Put) ≡ true → are_initialized state (reads Put) ≡ true → Answers state m Put number
+pub put_answers : (state : AbstractState) (m : Machine) (number : ℤ) → helper_of number ≡ Some Put → Abstracts state m → AreValues m.entries → list_all (λ r. is_some (state.ranges r)) (1 ∷ 2 ∷ []) ≡ true → all_in_bounds state.ranges (reads Put ++ writes Put) ≡ true → are_initialized state.initialized state.ranges (reads Put) ≡ true → Answers state m Put number
 put_answers state m number is means values has inside there =
     let has1 = and_true (is_some (state.ranges 1)) (is_some (state.ranges 2) && true) has in
     let has2 = and_true (is_some (state.ranges 2)) true has1.1 in

@@ -11,9 +11,9 @@ use Rattle.bpf_decode.specs.declared.insn.Insn.TheVariants.{Alu, CallHelper, Exi
 use Rattle.bpf_decode.specs.declared.insn.Source.{Source}
 use Rattle.bpf_decode.specs.declared.insn.Source.TheVariants as source
 use Rattle.bpf_decode.specs.Encoding.{IsInsn}
-use Rattle.bpf_model.specs.Bind.{◌>>=◌}
+use Rattle.bpf_num.specs.Bind.{◌>>=◌}
 use Rattle.bpf_model.specs.Code.{insn_at}
-use Rattle.bpf_model.specs.Helpers.{Access}
+use Rattle.bpf_model.specs.declared.helper.Access.{Access}
 use Rattle.bpf_model.specs.Ranges.{Range, hull, transfer}
 use Rattle.bpf_model.specs.AbstractState.{AbstractState, Edge, start_state, join_option, join, join_all, source_range, destination_range, with_range, alu_range, after_helper, edges}
 use Rattle.bpf_model.specs.Dataflow.{edges_of, flows_to, incoming, state_at}

@@ -1,4 +1,4 @@
--- What is known of the machine at a slot, whatever it is called with, and what an instruction makes of it.
+-- Statement: the abstract state at a slot, and what an instruction makes of it.
 use Rattle.std.specs.Prelude.{◌≡◌, ◌⊎◌, ℕ, zero, suc, ◌+◌, ◌-◌, Bool, true, false, ◌&&◌, ◌||◌, ◌==◌, nat_le, nat_lt, if◌then◌else◌, List, [], ◌∷◌, ◌++◌, fold, Option, Some, None}
 use Rattle.std.specs.Int.{w64, cast_unsigned}
 use Rattle.std.specs.List.{list_all, list_any}
@@ -8,20 +8,23 @@ use Rattle.bpf_decode.specs.declared.insn.Insn.{Insn}
 use Rattle.bpf_decode.specs.declared.insn.Insn.TheVariants.{Alu, CallHelper, Exit}
 use Rattle.bpf_decode.specs.declared.insn.Source.{Source}
 use Rattle.bpf_decode.specs.declared.insn.Source.TheVariants as source
-use Rattle.bpf_model.specs.Bind.{◌>>=◌}
+use Rattle.bpf_num.specs.Bind.{◌>>=◌}
 use Rattle.bpf_model.specs.Code.{slots_of}
 use Rattle.bpf_model.specs.Machine.{arguments_start, frame_end, is_in_bounds}
-use Rattle.bpf_model.specs.Step.{reads_destination}
-use Rattle.bpf_model.specs.Helpers.{Helper, Access, helper_of, arguments_of, reads, writes}
+use Rattle.bpf_num.specs.Arithmetic.{reads_destination}
+use Rattle.bpf_model.specs.declared.helper.Access.{Access}
+use Rattle.bpf_model.specs.declared.helper.Helper.{Helper}
+use Rattle.bpf_model.specs.Helpers.{helper_of, arguments_of, reads, writes}
 use Rattle.bpf_model.specs.Ranges.{Range, single, is_single, hull, transfer}
 
--- The range of each register that holds a number for certain, and the bytes of the stack that are there for certain:
--- they are initialized.
+-- The range of each register that holds a number for certain, and the bytes of the stack that are initialized for
+-- certain, whatever the code is called with.
 pub record AbstractState : Type 0 where
   pub ranges : ℕ → Option Range
   pub initialized : ℕ → Bool
 
--- As a call begins: r1 has the address of the arguments, r2 their length, r10 the frame's end.
+-- As a call begins: r1 has the address of the arguments, r2 their length, r10, the frame pointer, the
+-- end of the frame. (RFC 9669, 2.1)
 abbrev pub start_state : AbstractState
 start_state = record {
   ranges = λ r.
@@ -32,19 +35,20 @@ start_state = record {
   initialized = λ a. false;
 }
 
+-- The join of what two states say of a register.
 abbrev pub join_option : Option Range → Option Range → Option Range
 join_option (Some a) (Some b) = Some (hull a b)
 join_option (Some a) None = None
 join_option None b = None
 
--- What is known where two ways join: what is known on join_option.
+-- The join of two states: what is certain in both.
 abbrev pub join : AbstractState → AbstractState → AbstractState
 join a b = record {
   ranges = λ r. join_option (a.ranges r) (b.ranges r);
   initialized = λ address. a.initialized address && b.initialized address;
 }
 
--- What is known where all these ways join; nothing leads here where there is none.
+-- The join of all these states; there is none where no edge leads to a slot.
 abbrev pub join_all : List AbstractState → Option AbstractState
 join_all [] = None
 join_all (s ∷ ss) = Some (fold join s ss)
@@ -59,14 +63,22 @@ abbrev pub helper_operands : Option Helper → List ℕ
 helper_operands None = []
 helper_operands (Some helper) = arguments_of helper
 
--- The registers that an instruction reads, in the order in which they are judged.
+-- The registers that an arithmetic instruction reads.
+abbrev pub alu_operands : AluOp → ℕ → Source → List ℕ
+alu_operands op dst src = (if reads_destination op then dst ∷ [] else []) ++ source_operands src
+
+-- The registers that an instruction reads, in the order in which they are checked.
 abbrev pub operands : Insn → List ℕ
-operands (Alu width op dst src) = (if reads_destination op then dst.number ∷ [] else []) ++ source_operands src
+operands (Alu width op dst src) = alu_operands op dst.number src
 operands (CallHelper number) = helper_operands (helper_of number)
 operands Exit = 0 ∷ []
 
+-- Whether all these registers hold a number for certain.
+abbrev pub has_all : (ℕ → Option Range) → List ℕ → Bool
+has_all ranges registers = list_all (λ r. is_some (ranges r)) registers
+
 abbrev pub has_operands : AbstractState → Insn → Bool
-has_operands state insn = list_all (λ r. is_some (state.ranges r)) (operands insn)
+has_operands state insn = has_all state.ranges (operands insn)
 
 -- ---- accesses to memory
 
@@ -84,7 +96,7 @@ abbrev pub in_bounds : Option Range → ℕ → Bool
 in_bounds None size = false
 in_bounds (Some range) size = is_in_bounds 0 range.lo (extent range size)
 
--- Whether all bytes of the stack that an access may touch are initialized. The arguments are always there.
+-- Whether all bytes of the stack that an access may touch are initialized. The arguments always are.
 abbrev pub is_initialized : (ℕ → Bool) → Option Range → ℕ → Bool
 is_initialized initialized None size = false
 is_initialized initialized (Some range) size =
@@ -108,12 +120,12 @@ writes_of (Alu width op dst src) = []
 writes_of (CallHelper number) = helper_writes (helper_of number)
 writes_of Exit = []
 
-abbrev pub all_in_bounds : AbstractState → List Access → Bool
-all_in_bounds state accesses = list_all (λ access. in_bounds (state.ranges access.register) access.size) accesses
+abbrev pub all_in_bounds : (ℕ → Option Range) → List Access → Bool
+all_in_bounds ranges accesses = list_all (λ access. in_bounds (ranges access.register) access.size) accesses
 
-abbrev pub are_initialized : AbstractState → List Access → Bool
-are_initialized state accesses =
-    list_all (λ access. is_initialized state.initialized (state.ranges access.register) access.size) accesses
+abbrev pub are_initialized : (ℕ → Bool) → (ℕ → Option Range) → List Access → Bool
+are_initialized initialized ranges accesses =
+    list_all (λ access. is_initialized initialized (ranges access.register) access.size) accesses
 
 -- ---- what an instruction makes of a state
 
@@ -146,7 +158,7 @@ after_helper state written = record {
       || state.initialized address;
 }
 
--- An edge: a slot that may run next, and what is known there.
+-- An edge: a slot that may run next, and the abstract state that flows to it.
 pub record Edge : Type 0 where
   pub target : ℕ
   pub state : AbstractState
@@ -159,21 +171,22 @@ alu_range state (Alu width op dst src) = do
 alu_range state (CallHelper number) = None
 alu_range state Exit = None
 
+-- Whether the slot behind an instruction may run next.
+abbrev pub falls_through : Insn → Bool
+falls_through (Alu width op dst src) = true
+falls_through (CallHelper number) = true
+falls_through Exit = false
+
+-- The state behind an instruction that falls through.
+abbrev pub after_insn : AbstractState → Insn → AbstractState
+after_insn state (Alu width op dst src) = with_range state dst.number (alu_range state (Alu width op dst src))
+after_insn state (CallHelper number) = after_helper state (writes_of (CallHelper number))
+after_insn state Exit = state
+
 -- The edges out of an instruction at a slot.
 abbrev pub edges : ℕ → AbstractState → Insn → List Edge
-edges slot state (Alu width op dst src) =
-    record {
-      target = slot + slots_of (Alu width op dst src);
-      state = with_range state dst.number (alu_range state (Alu width op dst src));
-    }
-    ∷ []
-edges slot state (CallHelper number) =
-    record {
-      target = slot + slots_of (CallHelper number);
-      state = after_helper state (writes_of (CallHelper number));
-    }
-    ∷ []
-edges slot state Exit = []
+edges slot state insn =
+    if falls_through insn then record { target = slot + slots_of insn; state = after_insn state insn } ∷ [] else []
 
 -- x is an element of the list.
 abbrev pub IsOneOf : {X : Type 0} → X → List X → Type 0

@@ -1,5 +1,5 @@
--- The state at a slot is where all edges to it join. Edges lead to later slots, so a slot's state depends on earlier
--- slots alone.
+-- Statement: the data flow. The abstract state at a slot is the join over all edges to it. Edges lead to later slots, so
+-- a slot's state depends on earlier slots alone.
 use Rattle.std.specs.Prelude.{◌≡◌, ℕ, zero, suc, ◌+◌, ◌≤◌, ◌==◌, if◌then◌else◌, List, [], ◌∷◌, ◌++◌, map, filter, Option, Some, None}
 use Rattle.bpf_decode.specs.declared.insn.Insn.{Insn}
 use Rattle.bpf_model.specs.Code.{insn_at}
@@ -10,16 +10,16 @@ edges_of slot (Some state) (Some insn) = edges slot state insn
 edges_of slot (Some state) None = []
 edges_of slot None insn = []
 
--- What these edges know where they lead to this slot.
+-- The states of those of these edges that lead to this slot.
 abbrev pub flows_to : ℕ → List Edge → List AbstractState
 flows_to t es = map (λ e. e.state) (filter (λ e. e.target == t) es)
 
--- What the edges out of the first n slots, and the start, know at slot t.
+-- The states that come to slot t over the edges out of the first n slots, and from the start.
 abbrev pub incoming : List Insn → ℕ → ℕ → List AbstractState
 incoming code zero t = if t == 0 then start_state ∷ [] else []
 incoming code (suc n) t = incoming code n t ++ flows_to t (edges_of n (join_all (incoming code n n)) (insn_at code n))
 
--- The state at a slot, or none where nothing leads to it.
+-- The state at a slot, or none where no edge leads to it.
 abbrev pub state_at : List Insn → ℕ → Option AbstractState
 state_at code t = join_all (incoming code t t)
 

@@ -1,6 +1,6 @@
-pub mod Bind
 pub mod Code
 pub mod Machine
+pub mod Faults
 pub mod Helpers
 pub mod Ranges
 pub mod Step
@@ -9,6 +9,6 @@ pub mod AbstractState
 pub mod Dataflow
 pub mod Verdict
 pub use Rattle.bpf_num.specs.Arithmetic
-pub use Rattle.bpf_decode.specs.Faults
+pub use Rattle.bpf_num.specs.Bind
 pub use Rattle.bpf_decode.specs.Encoding
 pub use Rattle.tenant_maps.specs.Entries

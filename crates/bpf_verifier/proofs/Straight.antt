@@ -4,20 +4,19 @@ use Rattle.std.specs.Prelude.{slice_get}
 use Rattle.std.proofs.lemmas.Bool.{leb-false, eqb-true, eq-eqb, cases_lt}
 use Rattle.std.proofs.lemmas.Option.{slice_get-get_or}
 use Rattle.bpf_decode.specs.declared.insn.Insn.{Insn}
-use Rattle.bpf_decode.specs.declared.insn.Insn.TheVariants.{Exit}
 use Rattle.bpf_model.proofs.Options.{no_fault}
 use Rattle.bpf_model.specs.Code.{slots_of, insns_by_slot, insn_at}
-use Rattle.bpf_model.specs.AbstractState.{AbstractState, Edge, start_state, edges, join_all, IsOneOf}
+use Rattle.bpf_model.specs.AbstractState.{AbstractState, falls_through, after_insn, Edge, start_state, edges, join_all, IsOneOf}
 use Rattle.bpf_model.specs.Dataflow.{edges_of, flows_to, incoming, state_at, edges_at, Path, IsBound}
-use Rattle.bpf_model.specs.Verdict.{Refuses, falls_through, calls_unknown, writes_r10, falls_off_end, unknown_helper, writes_frame_pointer, IsFirst, IsAccepted, insn_structure_fault, slot_structure_fault, structure_fault, slot_dataflow_fault, insn_dataflow_fault, dataflow_fault}
+use Rattle.bpf_model.specs.declared.fault.VerifyFault.{VerifyFault}
+use Rattle.bpf_model.specs.declared.fault.VerifyFault.TheVariants.{FallsOffEnd, UnknownHelper, WritesFramePointer, Decode, Memory}
+use Rattle.bpf_model.specs.Faults.{verify_fault_of}
+use Rattle.bpf_model.specs.Verdict.{Refuses, calls_unknown, writes_r10, IsFirst, IsAccepted, insn_structure_fault, slot_structure_fault, structure_fault, slot_dataflow_fault, insn_dataflow_fault, dataflow_fault}
 use Rattle.bpf_model.proofs.Slots.{one_slot, length-insns_by_slot, insn_at-is}
 use Rattle.bpf_model.proofs.Safety.{edge_from, safe, bounded}
-use Rattle.bpf_decode.specs.Faults.{IsCode, IsRefused, number_of}
+use Rattle.bpf_decode.specs.Faults.{IsCode, IsRefused}
 use Rattle.bpf_decode.specs.declared.refusal.DecodeFault.{DecodeFault}
 use Rattle.bpf_decode.specs.declared.refusal.DecodeFault.TheVariants as decode
-use Rattle.bpf_verifier.specs.declared.refusal.VerifyFault.{VerifyFault}
-use Rattle.bpf_verifier.specs.declared.refusal.VerifyFault.TheVariants.{Memory}
-use Rattle.bpf_verifier.specs.Faults.{from_decode, number_of as fault_number}
 use Rattle.bpf_decode.proofs.Encodings.{same_code}
 use Rattle.bpf_model.specs.Run.{IsSafe}
 use Rattle.bpf_verifier.specs.Verified.{IsProcedure}
@@ -93,7 +92,7 @@ none_incoming code (suc n) t h =
 pub state_next : (code : List Insn) (t : ℕ) → state_at code (suc t) ≡ join_all (flows_to (suc t) (edges_at code t))
 state_next code t = ap (λ (xs : List AbstractState). join_all (xs ++ flows_to (suc t) (edges_at code t))) (none_incoming code t t (omega arith))
 
--- nothing is known behind an exit, since nothing leads there
+-- there is no state behind an exit, since no edge leads there
 none_after : (code : List Insn) (slot : ℕ) → edges_at code slot ≡ [] → (d : ℕ) → state_at code (suc (slot + d)) ≡ None
 none_after code slot e zero =
     let at : slot + 0 ≡ slot = omega arith in
@@ -104,9 +103,9 @@ none_after code slot e (suc d) =
     let idle : edges_at code (suc (slot + d)) ≡ [] = ap (λ (o : Option AbstractState). edges_of (suc (slot + d)) o (insn_at code (suc (slot + d)))) before in
     subst (λ (k : ℕ). state_at code (suc k) ≡ None) (sym at) (state_next code (suc (slot + d)) ∙ ap (λ (es : List Edge). join_all (flows_to (suc (suc (slot + d))) es)) idle)
 
--- ---- the pass
+-- ---- the data flow
 
--- what the pass has found as it comes to a slot
+-- what the data flow has found as it comes to a slot
 pub record DataflowAt (code : List Insn) (slot : ℕ) (ranges : List (Option Range)) (initialized : List Bool) : Type 0 where
   pub state : AbstractState
   pub here : state_at code slot ≡ Some state
@@ -127,21 +126,25 @@ module _ (code : List Insn) (slot : ℕ) (ranges : List (Option Range)) (initial
   leaving : (x : Insn) → insn_at code slot ≡ Some x → edges_at code slot ≡ edges slot p.state x
   leaving x is = ap (λ (o : Option AbstractState). edges_of slot o (insn_at code slot)) p.here ∙ ap (edges_of slot (Some p.state)) is
 
-  pub faulty : (x : Insn) (number : ℕ) → insn_at code slot ≡ Some x → insn_dataflow_fault p.state x ≡ Some number → IsFirst (dataflow_fault code) number slot
-  faulty x number is wrong = (visited x is ∙ wrong, p.before)
+  no_edges : (x : Insn) → insn_at code slot ≡ Some x → falls_through x ≡ false → edges_at code slot ≡ []
+  no_edges x is ends =
+      leaving x is ∙ ap (λ (b : Bool). let e : Edge = record { target = slot + slots_of x; state = after_insn p.state x } in cond b (e ∷ []) []) ends
 
-  -- an exit ends the pass
-  pub exit_right : insn_at code slot ≡ Some Exit → insn_dataflow_fault p.state Exit ≡ None → (k : ℕ) → dataflow_fault code k ≡ None
-  exit_right is right k =
+  pub faulty : (x : Insn) (fault : VerifyFault) → insn_at code slot ≡ Some x → insn_dataflow_fault p.state x ≡ Some fault → IsFirst (dataflow_fault code) fault slot
+  faulty x fault is wrong = (visited x is ∙ wrong, p.before)
+
+  -- an instruction that doesn't fall through ends the data flow
+  pub exit_right : (x : Insn) → insn_at code slot ≡ Some x → falls_through x ≡ false → insn_dataflow_fault p.state x ≡ None → (k : ℕ) → dataflow_fault code k ≡ None
+  exit_right x is ends right k =
       elim (cases_lt k slot) [
         | inl lt ↦ p.before k lt
         | inr le ↦ elim (cases_lt slot k) [
           | inl gt ↦
               let at : suc (slot + (k - suc slot)) ≡ k = omega arith in
-              let none = subst (λ (j : ℕ). state_at code j ≡ None) at (none_after code slot (leaving Exit is) (k - suc slot)) in
+              let none = subst (λ (j : ℕ). state_at code j ≡ None) at (none_after code slot (no_edges x is ends) (k - suc slot)) in
               ap (λ (o : Option AbstractState). slot_dataflow_fault o (insn_at code k)) none
           | inr ge ↦
-              let same : slot ≡ k = omega arith in subst (λ (j : ℕ). dataflow_fault code j ≡ None) same (visited Exit is ∙ right)
+              let same : slot ≡ k = omega arith in subst (λ (j : ℕ). dataflow_fault code j ≡ None) same (visited x is ∙ right)
         ]
       ]
 
@@ -163,9 +166,9 @@ module _ (code : List Insn) (slot : ℕ) (ranges : List (Option Range)) (initial
             absurd (subst (λ (es : List Edge). IsOneOf e es) out (subst (λ (k : ℕ). IsOneOf e (edges_at code k)) same one))
       ]
 
-  pub exit_bound : insn_at code slot ≡ Some Exit → IsBound code (slot + 1)
-  exit_bound is = record {
-    enough = λ n t path. let short = path_short (leaving Exit is) n t path in omega arith;
+  pub exit_bound : (x : Insn) → insn_at code slot ≡ Some x → falls_through x ≡ false → IsBound code (slot + 1)
+  exit_bound x is ends = record {
+    enough = λ n t path. let short = path_short (no_edges x is ends) n t path in omega arith;
     met = (slot, slot, p.path, refl);
   }
 
@@ -195,9 +198,9 @@ module _ (code : List Insn) (slot : ℕ) (ranges : List (Option Range)) (initial
 
 -- what the two passes find together
 pub accepted_by : (code a b : List Insn) (bound : ℕ) → a ≡ code → b ≡ code → ((k : ℕ) → structure_fault a k ≡ None) → ((k : ℕ) → dataflow_fault b k ≡ None) → IsBound b bound → IsAccepted code bound
-accepted_by code a b bound is-a is-b structure visits longest = record {
+accepted_by code a b bound is-a is-b structure dataflow longest = record {
   structure = subst (λ (c : List Insn). (k : ℕ) → structure_fault c k ≡ None) is-a structure;
-  visits = subst (λ (c : List Insn). (k : ℕ) → dataflow_fault c k ≡ None) is-b visits;
+  dataflow = subst (λ (c : List Insn). (k : ℕ) → dataflow_fault c k ≡ None) is-b dataflow;
   longest = subst (λ (c : List Insn). IsBound c bound) is-b longest;
 }
 
@@ -210,11 +213,11 @@ pub safe_of : (bytes : List ℕ) (code : List Insn) (bound : ℕ) → IsProcedur
 safe_of bytes code bound p insns is =
     subst (λ (c : List Insn). IsSafe c bound) (same_code bytes code insns p.is_code is) p.safe
 
--- an instruction that goes on is not the last, and the helper that it calls is known
+-- an instruction that falls through is not the last, and the helper that it calls is known
 pub well_structured : (code : List Insn) (slot : ℕ) (x : Insn) → insn_at code slot ≡ Some x → structure_fault code slot ≡ None → ((falls_through x && leb (length code) (slot + slots_of x)) ≡ false) × (calls_unknown x ≡ false)
 well_structured code slot x is none =
     let stands : insn_structure_fault (length code) slot x ≡ None = sym (structure_is code slot x is) ∙ none in
-    let all = no_fault (falls_through x && leb (length code) (slot + slots_of x)) (calls_unknown x) (writes_r10 x) falls_off_end unknown_helper writes_frame_pointer stands in
+    let all = no_fault (falls_through x && leb (length code) (slot + slots_of x)) (calls_unknown x) (writes_r10 x) FallsOffEnd UnknownHelper WritesFramePointer stands in
     (all.0, all.1)
 
 pub inside_next : (code : List Insn) (slot : ℕ) (x : Insn) → falls_through x ≡ true → (falls_through x && leb (length code) (slot + slots_of x)) ≡ false → suc slot < length code
@@ -227,23 +230,21 @@ inside_next code slot x goes h =
 
 -- ---- the decoder's refusals
 
-decoded_number : (fault : DecodeFault) → (from_decode fault ≡ Memory) ⊎ (number_of fault ≡ fault_number (from_decode fault))
-decoded_number decode.Empty = inr refl
-decoded_number decode.NotSlots = inr refl
-decoded_number decode.TooLong = inr refl
-decoded_number decode.BadOpcode = inr refl
-decoded_number decode.BadRegister = inr refl
-decoded_number decode.FieldNotZero = inr refl
-decoded_number decode.BadOffset = inr refl
-decoded_number decode.Memory = inl refl
+decoded : (fault : DecodeFault) → (fault ≡ decode.Memory) ⊎ (verify_fault_of fault ≡ Decode fault)
+decoded decode.Empty = inr refl
+decoded decode.NotSlots = inr refl
+decoded decode.TooLong = inr refl
+decoded decode.BadOpcode = inr refl
+decoded decode.BadRegister = inr refl
+decoded decode.FieldNotZero = inr refl
+decoded decode.BadOffset = inr refl
+decoded decode.Memory = inl refl
 
--- a refusal of the decoder's, reported by the verifier's name
-pub reported : (bytes : List ℕ) (fault : DecodeFault) (slot : ℕ) (name : VerifyFault) (at : ℕ) → name ≡ from_decode fault → at ≡ slot → (fault ≡ decode.Memory) ⊎ IsRefused bytes fault slot → (name ≡ Memory) ⊎ Refuses bytes (fault_number name) at
-reported bytes fault slot name at e same (inl memory) = inl (e ∙ ap from_decode memory)
-reported bytes fault slot name at e same (inr refused) =
-    elim (decoded_number fault) [
-      | inl memory ↦ inl (e ∙ memory)
-      | inr number ↦
-          let is : fault_number name ≡ number_of fault = ap fault_number e ∙ sym number in
-          inr (inl (fault, subst (λ (k : ℕ). IsRefused bytes fault k) (sym same) refused, is))
+-- a refusal of the decoder's, as the verifier reports it
+pub reported : (bytes : List ℕ) (reason : DecodeFault) (slot : ℕ) (fault : VerifyFault) (at : ℕ) → fault ≡ verify_fault_of reason → at ≡ slot → (reason ≡ decode.Memory) ⊎ IsRefused bytes reason slot → (fault ≡ Memory) ⊎ Refuses bytes fault at
+reported bytes reason slot fault at e same (inl memory) = inl (e ∙ ap verify_fault_of memory)
+reported bytes reason slot fault at e same (inr refused) =
+    elim (decoded reason) [
+      | inl memory ↦ inl (e ∙ ap verify_fault_of memory)
+      | inr is ↦ inr (inl (reason, subst (λ (k : ℕ). IsRefused bytes reason k) (sym same) refused, e ∙ is))
     ]

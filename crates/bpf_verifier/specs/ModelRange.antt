@@ -1,4 +1,4 @@
--- A range of the verifier, as the definitions have it.
+-- Internal: a range of the verifier, as the definitions have it.
 use Rattle.bpf_model.specs.Ranges as model
 use Rattle.bpf_verifier.specs.declared.range.Range.{Range}
 

@@ -1,52 +1,36 @@
-ghost use Rattle.std.specs.Prelude.{◌≡◌, ◌≤◌, Some};
+//! The abstract state at a slot: the ranges of the registers and the initialized bytes of the frame.
+
+ghost use Rattle.std.specs.Prelude.{◌≡◌, ◌≤◌, Some, None, not, if◌then◌else◌};
+ghost use Rattle.bpf_model.specs.declared.fault.VerifyFault.TheVariants.{UninitRegister};
 ghost use Rattle.bpf_model.specs.AbstractState.{in_bounds};
 ghost use Rattle.bpf_verifier.specs.ModelRange.{model_range};
 
-use crate::helpers::{GET, KEY, PUT, VALUE};
 use crate::range::Range;
-use crate::refusal::VerifyFault;
 use crate::transfer::transfer;
 use bpf_decode::{Insn, Reg, Source};
+use bpf_model::layout::{
+    ARGUMENTS_END, ARGUMENTS_START, FRAME_END, FRAME_SIZE, FRAME_START, REGISTERS,
+};
+use bpf_model::{Access, Helper, VerifyFault};
 use bpf_num::{AluOp, AluWidth};
 
-/// How many registers there are.
-const REGISTERS: usize = 11;
-
-/// The bytes of the frame.
-const FRAME: usize = 512;
-
-/// The initialized of a value.
-const INITIALIZED: [bool; VALUE as usize] = [true; VALUE as usize];
-
-/// Where the frame begins.
-const FRAME_START: u64 = 0x1_0000_0000;
-
-/// Where the frame ends.
-const FRAME_END: u64 = 0x1_0000_0200;
-
-/// Where the arguments begin.
-const ARGUMENTS: u64 = 0x2_0000_0000;
-
-/// Where the arguments end.
-const ARGUMENTS_END: u64 = 0x2_0000_0100;
-
-/// What is known at a slot: the range of each register that holds a number for certain, and which
-/// bytes of the frame are there for certain.
+/// The range of each register that holds a number for certain, and which bytes of the frame are
+/// initialized for certain.
 #[derive(Drop)]
 pub struct AbstractState {
     ranges: [Option<Range>; REGISTERS],
-    initialized: [bool; FRAME],
+    initialized: [bool; FRAME_SIZE],
 }
 
 impl AbstractState {
     ghost use Rattle.std.specs.Prelude.{◌≡◌, ℕ, ◌+◌, ◌<◌, ◌≤◌, ◌||◌, true, false, Some, None, slice_index_or};
     ghost use Rattle.std.specs.Option.{option_map, is_some};
     ghost use Rattle.bpf_decode.specs.declared.insn.Insn.TheVariants.{Alu, CallHelper};
+    ghost use Rattle.bpf_model.specs.Helpers.{arguments_of, reads, writes};
     ghost use Rattle.bpf_model.specs.Machine.{frame_start};
-    ghost use Rattle.bpf_model.specs.AbstractState.{AbstractState as ModelState, start_state, has_operands, source_range, alu_range, with_range, in_bounds, is_initialized, is_written, after_helper, writes_of};
-    ghost use Rattle.bpf_model.specs.Verdict.{insn_dataflow_fault, calls_unknown};
-    ghost use Rattle.bpf_verifier.specs.Faults.{number_of};
-    ghost use Rattle.bpf_verifier.specs.Represents.{Represents};
+    ghost use Rattle.bpf_model.specs.AbstractState.{AbstractState as ModelState, start_state, source_operands, alu_operands, falls_through, source_range, alu_range, with_range, in_bounds, is_initialized, is_written, has_all, all_in_bounds, are_initialized, after_helper, after_insn};
+    ghost use Rattle.bpf_model.specs.Verdict.{insn_dataflow_fault, access_fault, calls_unknown};
+    ghost use Rattle.bpf_verifier.specs.Represents.{Represents, ranges_of};
     ghost use Rattle.bpf_verifier.specs.ModelRange.{model_range};
 
     /// As a call begins.
@@ -56,7 +40,7 @@ impl AbstractState {
         AbstractState {
             ranges: [
                 None,
-                Some(Range::single(ARGUMENTS)),
+                Some(Range::single(ARGUMENTS_START)),
                 Some(Range::new(0, 256)),
                 None,
                 None,
@@ -67,78 +51,141 @@ impl AbstractState {
                 None,
                 Some(Range::single(FRAME_END)),
             ],
-            initialized: [false; FRAME],
+            initialized: [false; FRAME_SIZE],
         }
     }
 
     /// What is wrong with an instruction that is reached.
-    pub fn fault(&self, insn: &Insn) -> Option<VerifyFault>
+    pub fn insn_dataflow_fault(&self, insn: &Insn) -> Option<VerifyFault>
         requires { calls_unknown insn.now ≡ false }
         ensures { (state : ModelState) → Represents self.now.ranges self.now.initialized state →
-            option_map number_of result ≡ insn_dataflow_fault state insn.now }
+            result ≡ insn_dataflow_fault state insn.now }
     {
         match insn {
-            Insn::Alu { op, dst, src, .. } => {
-                if (*op == AluOp::Mov || self.has(*dst)) && self.has_source(*src) {
-                    None
-                } else {
-                    Some(VerifyFault::UninitRegister)
-                }
-            }
-            Insn::CallHelper { helper } => self.call_fault(*helper),
-            Insn::Exit => {
-                if self.ranges[0].is_some() {
-                    None
-                } else {
-                    Some(VerifyFault::UninitRegister)
-                }
-            }
+            Insn::Alu { op, dst, src, .. } => register_fault(self.has_operands(*op, *dst, *src)),
+            Insn::CallHelper { helper } => match Helper::of(*helper) {
+                Some(helper) => self.helper_fault(helper),
+                None => unreachable!(),
+            },
+            Insn::Exit => register_fault(self.has(0)),
         }
     }
 
-    fn has(&self, reg: Reg) -> bool
-        ensures { (state : ModelState) → Represents self.now.ranges self.now.initialized state →
-            result ≡ is_some (state.ranges reg.number) }
+    /// The range of a register, where it has one.
+    fn range_of(&self, register: u8) -> Option<Range>
+        ensures { option_map model_range result ≡ ranges_of self.now.ranges register }
     {
-        self.ranges[reg.number as usize].is_some()
+        if (register as usize) < REGISTERS {
+            self.ranges[register as usize]
+        } else {
+            None
+        }
+    }
+
+    fn has(&self, register: u8) -> bool
+        ensures { result ≡ is_some (ranges_of self.now.ranges register) }
+    {
+        self.range_of(register).is_some()
+    }
+
+    fn has_all(&self, registers: &[u8]) -> bool
+        ensures { result ≡ has_all (ranges_of self.now.ranges) registers.now }
+    {
+        for register in registers {
+            if !self.has(*register) {
+                return false;
+            }
+        }
+        true
+    }
+
+    fn has_operands(&self, op: AluOp, dst: Reg, src: Source) -> bool
+        ensures { result ≡ has_all (ranges_of self.now.ranges) (alu_operands op dst.number src) }
+    {
+        (!op.reads_destination() || self.has(dst.number)) && self.has_source(src)
     }
 
     fn has_source(&self, src: Source) -> bool
-        ensures { (state : ModelState) → Represents self.now.ranges self.now.initialized state →
-            result ≡ is_some (source_range state src) }
+        ensures { result ≡ has_all (ranges_of self.now.ranges) (source_operands src) }
     {
         match src {
             Source::Imm(_) => true,
-            Source::Reg(reg) => self.has(reg),
+            Source::Reg(reg) => self.has(reg.number),
         }
     }
 
-    /// What is wrong with a call of a helper: both take the addresses of a key and of a value.
-    fn call_fault(&self, helper: i32) -> Option<VerifyFault>
-        requires { calls_unknown (CallHelper helper) ≡ false }
+    /// What is wrong with a call of a helper, by the table of what it takes, reads and writes.
+    fn helper_fault(&self, helper: Helper) -> Option<VerifyFault>
         ensures { (state : ModelState) → Represents self.now.ranges self.now.initialized state →
-            option_map number_of result ≡ insn_dataflow_fault state (CallHelper helper) }
+            result ≡ access_fault state (arguments_of helper) (reads helper) (writes helper) }
     {
-        let (Some(key), Some(value)) = (self.ranges[1], self.ranges[2]) else {
+        if !self.has_all(helper.arguments()) {
             return Some(VerifyFault::UninitRegister);
-        };
-        if !in_bounds(key, KEY) || !in_bounds(value, VALUE) {
+        }
+        if !self.all_in_bounds(helper.reads()) {
             return Some(VerifyFault::BadAccess);
         }
-        if !self.is_initialized(key, KEY) || helper == PUT && !self.is_initialized(value, VALUE) {
+        if !self.all_in_bounds(helper.writes()) {
+            return Some(VerifyFault::BadAccess);
+        }
+        if !self.are_initialized(helper.reads()) {
             return Some(VerifyFault::UninitBytes);
         }
         None
     }
 
+    fn is_in_bounds(&self, access: Access) -> bool
+        ensures { result ≡ in_bounds (ranges_of self.now.ranges access.register) access.size }
+    {
+        match self.range_of(access.register) {
+            Some(range) => in_bounds(range, u64::from(access.size)),
+            None => false,
+        }
+    }
+
+    fn all_in_bounds(&self, accesses: &[Access]) -> bool
+        ensures { result ≡ all_in_bounds (ranges_of self.now.ranges) accesses.now }
+    {
+        for access in accesses {
+            if !self.is_in_bounds(*access) {
+                return false;
+            }
+        }
+        true
+    }
+
+    fn is_initialized(&self, access: Access) -> bool
+        requires { in_bounds (ranges_of self.now.ranges access.register) access.size ≡ true }
+        ensures { (state : ModelState) → Represents self.now.ranges self.now.initialized state →
+            result ≡ is_initialized state.initialized (ranges_of self.now.ranges access.register) access.size }
+    {
+        match self.range_of(access.register) {
+            Some(range) => self.are_bytes_initialized(range, u64::from(access.size)),
+            None => unreachable!(),
+        }
+    }
+
+    fn are_initialized(&self, accesses: &[Access]) -> bool
+        requires { all_in_bounds (ranges_of self.now.ranges) accesses.now ≡ true }
+        ensures { (state : ModelState) → Represents self.now.ranges self.now.initialized state →
+            result ≡ are_initialized state.initialized (ranges_of self.now.ranges) accesses.now }
+    {
+        for access in accesses {
+            if !self.is_initialized(*access) {
+                return false;
+            }
+        }
+        true
+    }
+
     /// Whether all bytes of the stack that an access may touch are initialized.
-    fn is_initialized(&self, range: Range, size: u64) -> bool
+    fn are_bytes_initialized(&self, range: Range, size: u64) -> bool
         requires small { size ≤ 256 }
         requires inside { in_bounds (Some (model_range range)) size ≡ true }
         ensures { (state : ModelState) → Represents self.now.ranges self.now.initialized state →
             result ≡ is_initialized state.initialized (Some (model_range range)) size }
     {
-        if range.lo >= ARGUMENTS {
+        if range.lo >= ARGUMENTS_START {
             return true;
         }
         let from = (range.lo - FRAME_START) as usize;
@@ -152,14 +199,15 @@ impl AbstractState {
     }
 
     /// What an arithmetic instruction makes of its operands.
-    pub fn alu_range(&self, width: AluWidth, op: AluOp, dst: Reg, src: Source) -> Option<Range>
+    fn alu_range(&self, width: AluWidth, op: AluOp, dst: Reg, src: Source) -> Option<Range>
         ensures { (state : ModelState) → Represents self.now.ranges self.now.initialized state →
             option_map model_range result ≡ alu_range state (Alu width op dst src) }
     {
         let b = self.source_range(src)?;
-        let a = match op {
-            AluOp::Add => self.ranges[dst.number as usize]?,
-            AluOp::Mov => Range::single(0),
+        let a = if op.reads_destination() {
+            self.range_of(dst.number)?
+        } else {
+            Range::single(0)
         };
         Some(transfer(width, op, a, b))
     }
@@ -170,28 +218,45 @@ impl AbstractState {
     {
         match src {
             Source::Imm(value) => Some(Range::single(i64::from(value).cast_unsigned())),
-            Source::Reg(reg) => self.ranges[reg.number as usize],
+            Source::Reg(reg) => self.range_of(reg.number),
         }
     }
 
-    /// The register has this range from now on.
-    pub fn set_range(&mut self, reg: Reg, range: Option<Range>)
+    /// Goes over an instruction that falls through and has no fault.
+    pub fn after_insn(&mut self, insn: &Insn)
+        requires known { calls_unknown insn.now ≡ false }
+        requires inside { (state : ModelState) → Represents self.old.ranges self.old.initialized state →
+            insn_dataflow_fault state insn.now ≡ None }
+        requires falls { falls_through insn.now ≡ true }
         ensures { (state : ModelState) → Represents self.old.ranges self.old.initialized state →
-            Represents self.new.ranges self.new.initialized (with_range state reg.number (option_map model_range range)) }
+            Represents self.new.ranges self.new.initialized (after_insn state insn.now) }
     {
-        self.ranges[reg.number as usize] = range;
+        match insn {
+            Insn::Alu {
+                width,
+                op,
+                dst,
+                src,
+            } => {
+                self.ranges[dst.number as usize] = self.alu_range(*width, *op, *dst, *src);
+            }
+            Insn::CallHelper { helper } => match Helper::of(*helper) {
+                Some(helper) => self.after_helper(helper),
+                None => unreachable!(),
+            },
+            Insn::Exit => unreachable!(),
+        }
     }
 
-    /// After a helper r0 has its answer, and r1 to r5 hold nothing. What it wrote is there where it is
-    /// known where that is.
-    pub fn after_helper(&mut self, helper: i32)
-        requires { calls_unknown (CallHelper helper) ≡ false }
+    /// After a helper r0 has its answer, and r1 to r5 hold nothing. What it wrote is initialized where
+    /// its address is a single number.
+    fn after_helper(&mut self, helper: Helper)
+        requires { all_in_bounds (ranges_of self.old.ranges) (writes helper) ≡ true }
         ensures { (state : ModelState) → Represents self.old.ranges self.old.initialized state →
-            insn_dataflow_fault state (CallHelper helper) ≡ None →
-            Represents self.new.ranges self.new.initialized (after_helper state (writes_of (CallHelper helper))) }
+            Represents self.new.ranges self.new.initialized (after_helper state (writes helper)) }
     {
-        if helper == GET {
-            self.initialize();
+        for access in helper.writes() {
+            self.initialize(*access);
         }
         let answer = Some(Range::new(0, 1));
         self.ranges = [
@@ -209,21 +274,34 @@ impl AbstractState {
         ];
     }
 
-    /// StateLemmas the value that a get writes, where its address is a single number in the frame.
-    fn initialize(&mut self)
+    /// Initializes the bytes of a write, where its address is a single number in the frame.
+    fn initialize(&mut self, access: Access)
+        requires { in_bounds (ranges_of self.old.ranges access.register) access.size ≡ true }
         ensures ranges { self.new.ranges ≡ self.old.ranges }
-        ensures initialized { (state : ModelState) → Represents self.old.ranges self.old.initialized state →
-            in_bounds (state.ranges 2) 32 ≡ true → (i : ℕ) → i < 512 →
+        ensures initialized { (i : ℕ) → i < 512 →
             slice_index_or self.new.initialized i false ≡
-            (is_written (state.ranges 2) 32 (frame_start 0 + i) || state.initialized (frame_start 0 + i)) }
+            (is_written (ranges_of self.old.ranges access.register) access.size (frame_start 0 + i)
+            || slice_index_or self.old.initialized i false) }
     {
-        let Some(range) = self.ranges[2] else {
+        let Some(range) = self.range_of(access.register) else {
             return;
         };
-        if range.is_single() && range.lo >= FRAME_START && range.hi <= FRAME_END - VALUE {
+        let size = access.size as usize;
+        if range.is_single() && range.lo >= FRAME_START && range.lo <= FRAME_END - size as u64 {
             let from = (range.lo - FRAME_START) as usize;
-            self.initialized[from..from + VALUE as usize].copy_from_slice(&INITIALIZED);
+            self.initialized[from..from + size].fill(true);
         }
+    }
+}
+
+/// The fault of an instruction that reads registers alone.
+fn register_fault(has_operands: bool) -> Option<VerifyFault>
+    ensures { result ≡ (if not has_operands then Some UninitRegister else None) }
+{
+    if has_operands {
+        None
+    } else {
+        Some(VerifyFault::UninitRegister)
     }
 }
 
@@ -233,5 +311,5 @@ fn in_bounds(range: Range, size: u64) -> bool
     ensures { result ≡ in_bounds (Some (model_range range)) size }
 {
     range.lo >= FRAME_START && range.hi <= FRAME_END - size
-        || range.lo >= ARGUMENTS && range.hi <= ARGUMENTS_END - size
+        || range.lo >= ARGUMENTS_START && range.hi <= ARGUMENTS_END - size
 }

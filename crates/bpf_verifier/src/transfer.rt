@@ -1,3 +1,5 @@
+//! What an operation makes of its operands' ranges.
+
 ghost use Rattle.std.specs.Prelude.{◌≡◌, ◌<◌, ◌^◌};
 ghost use Rattle.bpf_model.specs.Ranges.{truncate, transfer, range_of};
 ghost use Rattle.bpf_verifier.specs.ModelRange.{model_range};
@@ -46,7 +48,7 @@ pub fn transfer(width: AluWidth, op: AluOp, a: Range, b: Range) -> Range
     }
 }
 
-/// What is known of the low half of a number.
+/// The range of the low half of a number.
 fn truncate(range: Range) -> Range
     ensures value { model_range result ≡ truncate (model_range range) }
     ensures narrow { result.hi < 2 ^ 32 }

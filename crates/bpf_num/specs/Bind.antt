@@ -1,4 +1,4 @@
--- Partial functions in turn: first x, then f of it, unless there is none.
+-- Statement: partial functions in turn: first x, then f of it, unless there is none.
 use Rattle.std.specs.Prelude.{Option, Some, None}
 
 infixl 10 ◌>>=◌
