@@ -1,3 +1,3 @@
 pub mod Faults
 pub mod Opcodes
-pub mod Spelling
+pub mod Encoding

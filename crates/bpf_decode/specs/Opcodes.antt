@@ -1,5 +1,6 @@
--- Opcode bytes (RFC 9669, sections 3.1, 4 and 4.3).
-use Rattle.std.specs.Prelude.{ℕ, ◌+◌, ◌*◌, ◌==◌, List, [], ◌∷◌, Option, find}
+-- Statement: opcode bytes and what they stand for (RFC 9669, 3.1, 4 and 4.3).
+use Rattle.std.specs.Prelude.{ℕ, ◌+◌, ◌*◌, ◌/◌, ◌%◌, ◌==◌, if◌then◌else◌, List, [], ◌∷◌, Option, Some, find}
+use Rattle.bpf_num.specs.Bind.{◌>>=◌}
 use Rattle.bpf_num.specs.declared.AluOp.{AluOp}
 use Rattle.bpf_num.specs.declared.AluOp.TheVariants.{Add, Mov}
 use Rattle.bpf_num.specs.declared.AluWidth.{AluWidth}
@@ -9,34 +10,56 @@ use Rattle.bpf_decode.specs.declared.opcode.Opcode.TheVariants.{Alu, Call, Exit}
 use Rattle.bpf_decode.specs.declared.opcode.SourceKind.{SourceKind}
 use Rattle.bpf_decode.specs.declared.opcode.SourceKind.TheVariants.{K, X}
 
--- The low three bits: the class.
-abbrev pub class_of : AluWidth → ℕ
-class_of W32 = 0x4
-class_of W64 = 0x7
+-- The class, the low three bits: ALU and ALU64. (RFC 9669, 3.1)
+abbrev pub class_bits : AluWidth → ℕ
+class_bits W32 = 0x4
+class_bits W64 = 0x7
 
--- The bit above them: the source of the second operand.
-abbrev pub source_of : SourceKind → ℕ
-source_of K = 0
-source_of X = 1
+-- The source of the second operand, the bit above them. (RFC 9669, 4)
+abbrev pub source_bit : SourceKind → ℕ
+source_bit K = 0
+source_bit X = 1
 
--- The high four bits: the operation.
-abbrev pub code_of : AluOp → ℕ
-code_of Add = 0x0
-code_of Mov = 0xb
+-- The operation, the high four bits. (RFC 9669, 4.1)
+abbrev pub operation_bits : AluOp → ℕ
+operation_bits Add = 0x0
+operation_bits Mov = 0xb
 
--- The byte of an opcode. CALL and EXIT are operations 8 and 9 of the class JMP, 5.
+-- CALL of class JMP. (RFC 9669, 4.3)
+abbrev pub call_byte : ℕ
+call_byte = 0x85
+
+-- EXIT of class JMP. (RFC 9669, 4.3)
+abbrev pub exit_byte : ℕ
+exit_byte = 0x95
+
+-- The byte of an opcode. (RFC 9669, 3.1)
 abbrev pub opcode_byte : Opcode → ℕ
-opcode_byte (Alu width op source) = 16 * code_of op + 8 * source_of source + class_of width
-opcode_byte Call = 16 * 0x8 + 8 * 0 + 0x5
-opcode_byte Exit = 16 * 0x9 + 8 * 0 + 0x5
+opcode_byte (Alu width op source) = 16 * operation_bits op + 8 * source_bit source + class_bits width
+opcode_byte Call = call_byte
+opcode_byte Exit = exit_byte
 
--- The opcodes of this host.
-abbrev pub opcodes : List Opcode
-opcodes =
-    Alu W32 Add K ∷ Alu W32 Add X ∷ Alu W32 Mov K ∷ Alu W32 Mov X
-    ∷ Alu W64 Add K ∷ Alu W64 Add X ∷ Alu W64 Mov K ∷ Alu W64 Mov X
-    ∷ Call ∷ Exit ∷ []
+-- The operations, widths and sources: an arithmetic opcode is one of each.
+abbrev pub operations : List AluOp
+operations = Add ∷ Mov ∷ []
 
--- The opcode that a byte stands for.
+abbrev pub widths : List AluWidth
+widths = W32 ∷ W64 ∷ []
+
+abbrev pub sources : List SourceKind
+sources = K ∷ X ∷ []
+
+-- The arithmetic opcode of a class, a source and an operation. (RFC 9669, 4.1)
+abbrev pub alu_opcode_of : ℕ → ℕ → ℕ → Option Opcode
+alu_opcode_of class source operation = do
+  width ← find (λ w. class_bits w == class) widths
+  op ← find (λ o. operation_bits o == operation) operations
+  kind ← find (λ s. source_bit s == source) sources
+  Some (Alu width op kind)
+
+-- The opcode that a byte stands for, if it is one of this host.
 abbrev pub opcode_of : ℕ → Option Opcode
-opcode_of byte = find (λ opcode. opcode_byte opcode == byte) opcodes
+opcode_of byte =
+    if byte == call_byte then Some Call
+    else if byte == exit_byte then Some Exit
+    else alu_opcode_of (byte % 8) (byte / 8 % 2) (byte / 16)

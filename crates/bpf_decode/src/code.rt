@@ -1,8 +1,10 @@
+//! Code as a whole: reads and writes lists of instructions.
+
 ghost use Rattle.std.specs.Prelude.{◌≡◌, ◌+◌, ◌*◌, ◌≤◌, ◌<◌, ◌⊎◌, List, length, IfOk, IfErr, MatchResult};
 ghost use Rattle.bpf_decode.specs.declared.insn.Insn.{Insn};
 ghost use Rattle.bpf_decode.specs.declared.refusal.DecodeFault.TheVariants.{Memory};
 ghost use Rattle.bpf_decode.specs.Faults.{IsCode, IsRefused, FaultyAt, length_fault};
-ghost use Rattle.bpf_decode.specs.Spelling.{spelling, SpelledAt};
+ghost use Rattle.bpf_decode.specs.Encoding.{encoding, EncodesAt};
 
 use crate::insn::Insn;
 use crate::refusal::{DecodeFault, Refusal};
@@ -12,16 +14,16 @@ use std::alloc::{AllocError, Global};
 /// The bytes of a slot.
 const SLOT: usize = 8;
 
-/// The most slots that code has.
-const MOST_SLOTS: usize = 1024;
+/// The most slots that code has (a limit of this host).
+const MAX_SLOTS: usize = 1024;
 
-/// Reads code: 1 to 1,024 slots that spell instructions (RFC 9669, section 3). A refusal is the
+/// Reads code: 1 to 1,024 slots that encode instructions (RFC 9669, section 3). A refusal is the
 /// first fault: of the length, or of the first slot that has one.
 pub fn decode_all(alloc: Global, bytes: &[u8]) -> Result<Vec<Insn>, Refusal>
-    // What is read is spelled so.
+    // What is read is encoded so.
     ensures found { IfOk result (λ code. IsCode bytes.now code.items) }
 
-    // What is spelled so is read, unless memory runs out.
+    // What is encoded so is read, unless memory runs out.
     ensures only { (code : List Insn) → IsCode bytes.now code →
         MatchResult result (λ found. found.items ≡ code) (λ refusal. refusal.fault ≡ Memory) }
     ensures refused { IfErr result (λ refusal.
@@ -47,11 +49,11 @@ fn read_code(alloc: Global, bytes: &[u8]) -> Result<Vec<Insn>, Refusal>
     Ok(code)
 }
 
-/// The instruction that one slot spells, or the slot's first fault.
+/// The instruction that one slot encodes, or the slot's first fault.
 fn read_slot(bytes: &[u8], slot: usize) -> Result<Insn, Refusal>
     requires within { 8 * slot + 8 ≤ length bytes.now }
     requires few { slot < 1024 }
-    ensures found { IfOk result (λ insn. SpelledAt bytes.now slot insn) }
+    ensures found { IfOk result (λ insn. EncodesAt bytes.now slot insn) }
     ensures refused { IfErr result (λ refusal.
         (refusal.slot ≡ slot) × FaultyAt bytes.now refusal.fault slot) }
 {
@@ -72,16 +74,16 @@ fn length_fault(bytes: usize) -> Option<DecodeFault>
         Some(DecodeFault::Empty)
     } else if bytes % SLOT != 0 {
         Some(DecodeFault::NotSlots)
-    } else if bytes > SLOT * MOST_SLOTS {
+    } else if bytes > SLOT * MAX_SLOTS {
         Some(DecodeFault::TooLong)
     } else {
         None
     }
 }
 
-/// The bytes that spell the instructions.
+/// The bytes that encode the instructions.
 pub fn encode_all(alloc: Global, code: &[Insn]) -> Result<Vec<u8>, AllocError>
-    ensures { IfOk result (λ bytes. bytes.items ≡ spelling code.now) }
+    ensures { IfOk result (λ bytes. bytes.items ≡ encoding code.now) }
 {
     let mut bytes = Vec::new(alloc);
     for insn in code {

@@ -1,9 +1,11 @@
+//! Registers, operands and instructions.
+
 ghost use Rattle.std.specs.Prelude.{◌≡◌, ◌≤◌, ◌↔◌, IsSome, IfSome};
 
 use bpf_num::{AluOp, AluWidth};
 
-/// One of the registers r0 to r10 (RFC 9669, section 2.1). r10 holds the frame's end and is never
-/// written.
+/// One of the registers r0 to r10 (RFC 9669, section 2.1). r10 is the frame pointer: it holds
+/// the end of the function's frame and is never written.
 #[derive(Clone, Copy, Debug, PartialEq, Eq)]
 pub struct Reg {
     /// Its number, 0 to 10.
@@ -28,13 +30,13 @@ impl Reg {
 /// The second operand of an instruction (RFC 9669, section 4).
 #[derive(Clone, Copy, Debug, PartialEq, Eq)]
 pub enum Source {
-    /// A constant, of 32 bits in the slot.
+    /// An immediate, a signed number of 32 bits.
     Imm(i32),
     /// What a register holds.
     Reg(Reg),
 }
 
-/// An instruction. Each value has one spelling in slots.
+/// An instruction. Each value has one encoding in slots.
 #[derive(Clone, Copy, Debug, PartialEq, Eq)]
 pub enum Insn {
     /// Arithmetic on `dst` (RFC 9669, section 4.1).

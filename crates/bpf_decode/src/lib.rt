@@ -1,5 +1,5 @@
 //! BPF instructions and their encoding in slots of 8 bytes (RFC 9669, section 3), read and written
-//! exactly.
+//! exactly: the bytes `95 00 00 00 00 00 00 00` are `Insn::Exit`, and no others are.
 #![tactic(auto)]
 
 mod code;
@@ -7,6 +7,8 @@ mod insn;
 mod opcode;
 mod refusal;
 mod slot;
+#[cfg(test)]
+mod tests;
 
 pub use code::{decode_all, encode_all};
 pub use insn::{Insn, Reg, Source};

@@ -1,10 +1,12 @@
+//! The decoder's faults, and a fault with its slot.
+
 ghost use Rattle.std.specs.Prelude.{◌≡◌};
 ghost use Rattle.bpf_decode.specs.Faults.{number_of};
 
 use std::alloc::AllocFailed;
 use thiserror::Error;
 
-/// Why bytes are no code. Where several faults stand, the first one is told: first those of the
+/// Why bytes are no code. Of several faults the first one is reported: first those of the
 /// whole, then slot by slot, at a slot in the order `BadOpcode`, `BadRegister`, `BadOffset`,
 /// `FieldNotZero`.
 #[derive(Clone, Copy, Debug, PartialEq, Eq, Error)]
@@ -44,7 +46,7 @@ impl DecodeFault {
     }
 }
 
-/// A fault and the slot where it stands, counted from 0. For want of memory the slot says nothing.
+/// A fault and its slot, counted from 0. Where memory ran out the slot says nothing.
 #[derive(Clone, Copy, Debug, PartialEq, Eq, Error)]
 #[error("{fault} at {slot}")]
 pub struct Refusal {

@@ -1,13 +1,15 @@
+//! Slots as fields: between their bytes and the instructions that they encode.
+
 ghost use Rattle.std.specs.Prelude.{◌≡◌, [], ◌∷◌, length, IfOk, IfErr, Some};
-ghost use Rattle.bpf_decode.specs.Spelling.{slot_bytes, spelled, IsSlot, IsInsn};
-ghost use Rattle.bpf_decode.specs.Faults.{slot_fault, has_bad_offset, has_stray_field};
+ghost use Rattle.bpf_decode.specs.Encoding.{slot_bytes, insn_slots, IsSlot, IsInsn};
+ghost use Rattle.bpf_decode.specs.Faults.{slot_fault, opcode_has_bad_offset, has_stray_field};
 
 use crate::insn::{Insn, Reg, Source};
 use crate::opcode::{Opcode, SourceKind};
 use crate::refusal::DecodeFault;
 use bpf_num::AluOp;
 
-/// A slot of code: 8 bytes as fields, each judged by nobody yet (RFC 9669, section 3.1).
+/// A slot of code: 8 bytes as fields, none of them checked (RFC 9669, section 3.1).
 #[derive(Clone, Copy, Debug, PartialEq, Eq)]
 pub struct Slot {
     /// The opcode byte.
@@ -18,7 +20,7 @@ pub struct Slot {
     pub src: u8,
     /// The offset; its use is the opcode's.
     pub offset: i16,
-    /// The constant; its use is the opcode's.
+    /// The immediate; its use is the opcode's.
     pub imm: i32,
 }
 
@@ -26,7 +28,7 @@ impl Slot {
     /// The fields of 8 bytes.
     pub fn from_bytes(bytes: &[u8]) -> Slot
         requires { length bytes.now ≡ 8 }
-        ensures spelled { slot_bytes result ≡ bytes.now }
+        ensures encoded { slot_bytes result ≡ bytes.now }
         ensures fits { IsSlot result }
     {
         Slot {
@@ -58,9 +60,9 @@ impl Slot {
         ]
     }
 
-    /// The instruction that the slot spells, or the slot's first fault.
+    /// The instruction that the slot encodes, or the slot's first fault.
     pub fn to_insn(self) -> Result<Insn, DecodeFault>
-        ensures found { IfOk result (λ insn. (spelled insn ≡ self ∷ []) × IsInsn insn) }
+        ensures found { IfOk result (λ insn. (insn_slots insn ≡ self ∷ []) × IsInsn insn) }
         ensures refused { IfErr result (λ fault. slot_fault self ≡ Some fault) }
     {
         let Some(opcode) = Opcode::of(self.opcode) else {
@@ -94,7 +96,7 @@ impl Slot {
     }
 
     fn has_bad_offset(self, opcode: Opcode) -> bool
-        ensures { result ≡ has_bad_offset opcode self }
+        ensures { result ≡ opcode_has_bad_offset opcode self }
     {
         match opcode {
             Opcode::Alu { op, .. } => match op {
@@ -121,11 +123,11 @@ impl Slot {
 
 impl Insn {
     ghost use Rattle.std.specs.Prelude.{◌≡◌, [], ◌∷◌};
-    ghost use Rattle.bpf_decode.specs.Spelling.{spelled, IsSlot};
+    ghost use Rattle.bpf_decode.specs.Encoding.{insn_slots, IsSlot};
 
-    /// The slot that spells the instruction.
+    /// The slot that encodes the instruction.
     pub fn to_slot(self) -> Slot
-        ensures spelled { spelled self ≡ result ∷ [] }
+        ensures encoded { insn_slots self ≡ result ∷ [] }
         ensures fits { IsSlot result }
     {
         match self {

@@ -1,2 +1,2 @@
-pub mod Shows
+pub mod Represents
 pub mod Stops

@@ -1,49 +1,41 @@
+//! The bytes that a procedure can reach.
+
 ghost use Rattle.std.specs.Prelude.{◌≡◌};
-ghost use Rattle.bpf_machine.specs.Shows.{LiesInside, place};
+ghost use Rattle.bpf_machine.specs.Represents.{InBounds, index_of};
 
-/// The bytes of the frame.
-const FRAME: usize = 512;
-
-/// The bytes of the arguments.
-const ARGUMENTS: usize = 256;
-
-/// Where the frame begins.
-const FRAME_START: u64 = 0x1_0000_0000;
-
-/// Where the arguments begin.
-const ARGUMENTS_START: u64 = 0x2_0000_0000;
+use bpf_model::layout::{ARGUMENTS_SIZE, ARGUMENTS_START, FRAME_SIZE, FRAME_START};
 
 /// The bytes that code can reach: the frame's, and behind them those of the arguments. A byte of the
 /// frame that was never written has some value that is never read.
 #[derive(Drop)]
 pub struct Memory {
-    bytes: [u8; FRAME + ARGUMENTS],
+    bytes: [u8; FRAME_SIZE + ARGUMENTS_SIZE],
 }
 
 impl Memory {
     ghost use Rattle.std.specs.Prelude.{◌≡◌, ℕ, List, ◌≤◌, Some, length};
     ghost use Rattle.tenant_maps.specs.Entries.{Entries};
     ghost use Rattle.bpf_model.specs.Machine.{Memory as Bytes, bytes_at, start, stored};
-    ghost use Rattle.bpf_machine.specs.Shows.{LiesInside, ShowsMemory, call_of};
+    ghost use Rattle.bpf_machine.specs.Represents.{InBounds, RepresentsMemory, call_of};
 
     /// As a call begins: the arguments, with zeros behind them.
     pub fn at_start(args: &[u8]) -> Memory
         requires { length args.now ≤ 256 }
         ensures { (client : ℕ) (entries : Entries) →
-            let m = start (call_of args.now client entries) in ShowsMemory result.bytes m.memory }
+            let m = start (call_of args.now client entries) in RepresentsMemory result.bytes m.memory }
     {
-        let mut bytes = [0; FRAME + ARGUMENTS];
-        bytes[FRAME..FRAME + args.len()].copy_from_slice(args);
+        let mut bytes = [0; FRAME_SIZE + ARGUMENTS_SIZE];
+        bytes[FRAME_SIZE..FRAME_SIZE + args.len()].copy_from_slice(args);
         Memory { bytes }
     }
 
     /// The 16 bytes of a key.
     pub fn key_at(&self, address: u64) -> [u8; 16]
-        requires { LiesInside address 16 }
-        ensures { (memory : Bytes) (key : List ℕ) → ShowsMemory self.now.bytes memory →
+        requires { InBounds address 16 }
+        ensures { (memory : Bytes) (key : List ℕ) → RepresentsMemory self.now.bytes memory →
             bytes_at memory address 16 ≡ Some key → result ≡ key }
     {
-        let at = place(address);
+        let at = index_of(address);
         let mut key = [0; 16];
         key.copy_from_slice(&self.bytes[at..at + 16]);
         key
@@ -51,11 +43,11 @@ impl Memory {
 
     /// The 32 bytes of a value.
     pub fn value_at(&self, address: u64) -> [u8; 32]
-        requires { LiesInside address 32 }
-        ensures { (memory : Bytes) (value : List ℕ) → ShowsMemory self.now.bytes memory →
+        requires { InBounds address 32 }
+        ensures { (memory : Bytes) (value : List ℕ) → RepresentsMemory self.now.bytes memory →
             bytes_at memory address 32 ≡ Some value → result ≡ value }
     {
-        let at = place(address);
+        let at = index_of(address);
         let mut value = [0; 32];
         value.copy_from_slice(&self.bytes[at..at + 32]);
         value
@@ -63,23 +55,23 @@ impl Memory {
 
     /// Writes a value.
     pub fn put_value(&mut self, address: u64, value: &[u8; 32])
-        requires { LiesInside address 32 }
-        ensures { (memory : Bytes) → ShowsMemory self.old.bytes memory →
-            ShowsMemory self.new.bytes (stored memory address value.now) }
+        requires { InBounds address 32 }
+        ensures { (memory : Bytes) → RepresentsMemory self.old.bytes memory →
+            RepresentsMemory self.new.bytes (stored memory address value.now) }
     {
-        let at = place(address);
+        let at = index_of(address);
         self.bytes[at..at + 32].copy_from_slice(value);
     }
 }
 
-/// Where the byte at an address stands.
-fn place(address: u64) -> usize
-    requires { LiesInside address 16 }
-    ensures { result ≡ place address }
+/// The index of the byte at an address.
+fn index_of(address: u64) -> usize
+    requires { InBounds address 16 }
+    ensures { result ≡ index_of address }
 {
     if address < ARGUMENTS_START {
         (address - FRAME_START) as usize
     } else {
-        FRAME + (address - ARGUMENTS_START) as usize
+        FRAME_SIZE + (address - ARGUMENTS_START) as usize
     }
 }

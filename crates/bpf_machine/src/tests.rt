@@ -1,5 +1,8 @@
+//! Runs at worked values.
+
 use super::*;
 use bpf_verifier::verify;
+use std::alloc::{AllocError, Global};
 use std::process::Abort;
 use std::test::Fail;
 use tenant_maps::{MapPort, TenantMap};
@@ -44,5 +47,98 @@ fn a_map_fills_up(rt: HostRuntime) -> Result<(), Fail> {
     assert_eq!(rt; found.result, 0);
     let absent = run(&get, &arguments(4096), ClientId(16), &mut map)?;
     assert_eq!(rt; absent.result, 1);
+    Ok(())
+}
+
+#[test]
+fn an_entry_is_overwritten(rt: HostRuntime) -> Result<(), Fail> {
+    let put = verify(rt.alloc(), &PUT)?;
+    let mut map = TenantMap::new(rt.alloc());
+    let mut bytes = arguments(7);
+    let first = run(&put, &bytes, ClientId(16), &mut map)?;
+    assert_eq!(rt; first.result, 0);
+    bytes[47] = 9;
+    let again = run(&put, &bytes, ClientId(16), &mut map)?;
+    assert_eq!(rt; again.result, 0);
+    assert_eq!(rt; map.len(), 1);
+    let mut key = [0; 16];
+    key.copy_from_slice(&bytes[..16]);
+    let mut value = [0; 32];
+    value.copy_from_slice(&bytes[16..48]);
+    assert_eq!(rt; map.get(&key), Some(value));
+    Ok(())
+}
+
+/// Copies the slots that are written as words, the first byte foremost.
+fn code(alloc: Global, slots: &[u64]) -> Result<Vec<u8>, AllocError> {
+    let mut bytes = Vec::new(alloc);
+    for slot in slots {
+        bytes.extend_from_slice(&slot.to_be_bytes())?;
+    }
+    Ok(bytes)
+}
+
+#[test]
+fn what_a_call_begins_with(rt: HostRuntime) -> Result<(), Fail> {
+    let rows = [
+        (
+            "r1 is the arguments' address",
+            0xbf10_0000_0000_0000u64,
+            0x2_0000_0000u64,
+        ),
+        ("r2 is their length", 0xbf20_0000_0000_0000, 48),
+        (
+            "r10 is the frame's end",
+            0xbfa0_0000_0000_0000,
+            0x1_0000_0200,
+        ),
+        (
+            "mov sign-extends its immediate",
+            0xb700_0000_feff_ffff,
+            0xffff_ffff_ffff_fffe,
+        ),
+        (
+            "mov32 clears the upper half",
+            0xb400_0000_feff_ffff,
+            0xffff_fffe,
+        ),
+    ];
+    for (name, first, result) in rows {
+        let bytes = code(rt.alloc(), &[first, 0x9500_0000_0000_0000])?;
+        let procedure = verify(rt.alloc(), &bytes)?;
+        let mut map = TenantMap::new(rt.alloc());
+        let finished = run(&procedure, &arguments(1), ClientId(16), &mut map)?;
+        assert_eq!(rt; finished.result, result, "{name}");
+        assert_eq!(rt; finished.steps, 2, "{name}");
+        assert_eq!(rt; finished.out.len(), 0, "{name}");
+    }
+    Ok(())
+}
+
+#[test]
+fn zeros_behind_the_arguments_and_for_an_absent_key(rt: HostRuntime) -> Result<(), Fail> {
+    let put = verify(rt.alloc(), &PUT)?;
+    let mut map = TenantMap::new(rt.alloc());
+    // without arguments the key and the value are zeros
+    run(&put, &[], ClientId(16), &mut map)?;
+    assert_eq!(rt; map.get(&[0; 16]), Some([0; 32]));
+    // reads an absent key's value over the arguments, and writes that value for the key
+    let slots = [
+        0xbf16_0000_0000_0000,
+        0xbf12_0000_0000_0000,
+        0x0702_0000_1000_0000,
+        0x8500_0000_0100_0000,
+        0xbf61_0000_0000_0000,
+        0xbf62_0000_0000_0000,
+        0x0702_0000_1000_0000,
+        0x8500_0000_0200_0000,
+        0x9500_0000_0000_0000,
+    ];
+    let both = verify(rt.alloc(), &code(rt.alloc(), &slots)?)?;
+    let bytes = arguments(5);
+    run(&both, &bytes, ClientId(16), &mut map)?;
+    let mut key = [0; 16];
+    key.copy_from_slice(&bytes[..16]);
+    assert_eq!(rt; map.get(&key), Some([0; 32]));
     Ok(())
 }

@@ -1,10 +1,10 @@
 pub mod Options
 pub mod Pasted
-pub mod Places
-pub mod Arrivals
+pub mod Slots
+pub mod Joins
 pub mod Memories
 pub mod RangeLaws
-pub mod Meaning
-pub mod Fitting
+pub mod Soundness
+pub mod WellFormedness
 pub mod Safety
 pub mod Runs

@@ -1,8 +1,8 @@
 -- Options, tests and elements of lists.
-use Rattle.std.proofs.Common.{◌≡◌, ℕ, Bool, true, false, ◌&&◌, not, cond, Option, Some, None, List, [], ◌∷◌, ◌++◌, refl, inl, inr}
+use Rattle.std.proofs.Common.{◌≡◌, Bool, true, false, ◌&&◌, not, cond, Option, Some, None, List, [], ◌∷◌, ◌++◌, refl, inl, inr}
 use Rattle.std.specs.Prelude.{IsSome}
-use Rattle.bpf_model.specs.Bind.{◌>>=◌}
-use Rattle.bpf_model.specs.State.{IsOneOf}
+use Rattle.bpf_num.specs.Bind.{◌>>=◌}
+use Rattle.bpf_model.specs.AbstractState.{IsOneOf}
 
 pub some_of : {A : Type 0} (o : Option A) → IsSome o → (x : A) × (o ≡ Some x)
 some_of None h = absurd cc
@@ -17,13 +17,13 @@ and_true true b e = (refl, e)
 and_true false b e = absurd cc
 
 -- a chain of tests that finds nothing
-pub no_fault : (a b c : Bool) (m n k : ℕ) → cond a (Some m) (cond b (Some n) (cond c (Some k) None)) ≡ None → (a ≡ false) × (b ≡ false) × (c ≡ false)
+pub no_fault : {X : Type 0} (a b c : Bool) (m n k : X) → cond a (Some m) (cond b (Some n) (cond c (Some k) None)) ≡ None → (a ≡ false) × (b ≡ false) × (c ≡ false)
 no_fault true b c m n k e = absurd cc
 no_fault false true c m n k e = absurd cc
 no_fault false false true m n k e = absurd cc
 no_fault false false false m n k e = (refl, refl, refl)
 
-pub all_three : (a b c : Bool) (m n k : ℕ) → cond (not a) (Some m) (cond (not b) (Some n) (cond (not c) (Some k) None)) ≡ None → (a ≡ true) × (b ≡ true) × (c ≡ true)
+pub all_three : {X : Type 0} (a b c : Bool) (m n k : X) → cond (not a) (Some m) (cond (not b) (Some n) (cond (not c) (Some k) None)) ≡ None → (a ≡ true) × (b ≡ true) × (c ≡ true)
 all_three false b c m n k e = absurd cc
 all_three true false c m n k e = absurd cc
 all_three true true false m n k e = absurd cc

@@ -10,29 +10,33 @@ use Rattle.std.proofs.lemmas.Bool.{leb-false}
 use Rattle.bpf_decode.specs.declared.insn.Insn.{Insn}
 use Rattle.bpf_decode.specs.declared.insn.Insn.TheVariants.{Alu, CallHelper, Exit}
 use Rattle.bpf_decode.specs.Faults.{IsCode}
-use Rattle.bpf_model.specs.Bind.{◌>>=◌}
-use Rattle.bpf_model.specs.Code.{slots_of, placed, insn_at}
+use Rattle.bpf_num.specs.Bind.{◌>>=◌}
+use Rattle.bpf_model.specs.Code.{slots_of, insns_by_slot, insn_at}
 use Rattle.tenant_maps.specs.Entries.{Entries, IsTenantMap}
 use Rattle.bpf_model.specs.Machine.{Machine, Call, IsCall, start}
-use Rattle.bpf_model.specs.Helpers.{Helper, Access, Get, Put, helper_of, writes}
+use Rattle.bpf_model.specs.declared.fault.VerifyFault.TheVariants.{FallsOffEnd, UnknownHelper, WritesFramePointer, UninitRegister, BadAccess, UninitBytes}
+use Rattle.bpf_model.specs.declared.helper.Access.{Access}
+use Rattle.bpf_model.specs.declared.helper.Helper.{Helper}
+use Rattle.bpf_model.specs.declared.helper.Helper.TheVariants.{Get, Put}
+use Rattle.bpf_model.specs.Helpers.{helper_of, writes}
 use Rattle.bpf_model.specs.Ranges.{Range}
-use Rattle.bpf_model.specs.Step.{Goes, Ends, effect, step}
+use Rattle.bpf_model.specs.Step.{Continues, Ends, effect, step}
 use Rattle.bpf_model.specs.Run.{Run, Ending, EndsSo, IsSafe}
-use Rattle.bpf_model.specs.State.{State, Edge, start_state, has_operands, helper_operands, helper_reads, helper_writes, reads_of, writes_of, are_inside, are_there, edges, with_range, alu_range, after_helper, IsOneOf}
-use Rattle.bpf_model.specs.Arrival.{edges_of, state_at, edges_at, Path}
-use Rattle.bpf_model.specs.Verdict.{IsAccepted, falls_off_end, unknown_helper, writes_frame_pointer, uninit_register, bad_access, uninit_bytes, insn_fault, place_fault, known_fault, insn_known_fault, goes_on, calls_unknown, writes_r10}
+use Rattle.bpf_model.specs.AbstractState.{AbstractState, Edge, falls_through, start_state, has_operands, helper_operands, helper_reads, helper_writes, reads_of, writes_of, all_in_bounds, are_initialized, edges, with_range, alu_range, after_helper, IsOneOf}
+use Rattle.bpf_model.specs.Dataflow.{edges_of, state_at, edges_at, Path}
+use Rattle.bpf_model.specs.Verdict.{IsAccepted, insn_structure_fault, slot_structure_fault, slot_dataflow_fault, insn_dataflow_fault, calls_unknown, writes_r10}
 use Rattle.bpf_model.proofs.Options.{some_is, is_some_of, and_true, all_three, no_fault}
-use Rattle.bpf_model.proofs.Places.{one_slot, length-placed, some_at, few}
-use Rattle.bpf_model.proofs.Arrivals.{IsBelow, arrives}
-use Rattle.bpf_model.proofs.Meaning.{Means, source_fits, start_means, moved, alu_moves, moved_means, AreValues, Answers, after, get_answers, put_answers, helper_means}
-use Rattle.bpf_model.proofs.Fitting.{fit_at, insn_fits}
+use Rattle.bpf_model.proofs.Slots.{one_slot, length-insns_by_slot, some_at, few}
+use Rattle.bpf_model.proofs.Joins.{IsBelow, arrives}
+use Rattle.bpf_model.proofs.Soundness.{Abstracts, imm_in_range, start_means, moved, alu_moves, moved_means, AreValues, Answers, after, get_answers, put_answers, helper_means}
+use Rattle.bpf_model.proofs.WellFormedness.{well_formed_at, insn_fits}
 
 -- ---- one instruction
 
 exit_effect : (m : Machine) (a : ℕ) → finite.get m.frame.registers 0 ≡ Some a → m.callers ≡ [] → effect m Exit ≡ Some (Ends a)
 exit_effect m a a-is alone = rw (a-is, alone) refl
 
-exit_step : (m : Machine) (state : State) → Means state m → has_operands state Exit ≡ true → m.callers ≡ [] → (value : ℕ) × (effect m Exit ≡ Some (Ends value))
+exit_step : (m : Machine) (state : AbstractState) → Abstracts state m → has_operands state Exit ≡ true → m.callers ≡ [] → (value : ℕ) × (effect m Exit ≡ Some (Ends value))
 exit_step m state means h alone =
     let known = some_known (state.ranges 0) (and_true _ _ h).0 in
     let a = means.ranges 0 known.0 known.1 in
@@ -42,7 +46,7 @@ exit_step m state means h alone =
       some_known (Some x) e = (x, refl)
 
 -- where an edge comes from and leads to
-pub edge_from : (s : ℕ) (o : Option State) (i : Option Insn) (e : Edge) → IsOneOf e (edges_of s o i) → (state : State) × (x : Insn) × (o ≡ Some state) × (i ≡ Some x) × (goes_on x ≡ true) × (e.target ≡ s + slots_of x)
+pub edge_from : (s : ℕ) (o : Option AbstractState) (i : Option Insn) (e : Edge) → IsOneOf e (edges_of s o i) → (state : AbstractState) × (x : Insn) × (o ≡ Some state) × (i ≡ Some x) × (falls_through x ≡ true) × (e.target ≡ s + slots_of x)
 edge_from s None i e h = absurd h
 edge_from s (Some state) None e h = absurd h
 edge_from s (Some state) (Some Exit) e h = absurd h
@@ -84,18 +88,18 @@ record Reached (code : List Insn) (n : ℕ) (m : Machine) : Type 0 where
   callers : m.callers ≡ []
   values : AreValues m.entries
   path : Path code n m.frame.pc
-  known : State
+  known : AbstractState
   known_is : state_at code m.frame.pc ≡ Some known
-  means : Means known m
+  means : Abstracts known m
   insn : Insn
   insn_is : insn_at code m.frame.pc ≡ Some insn
 
 -- what a slot's having no fault says
-record IsRight (code : List Insn) (pc : ℕ) (state : State) (x : Insn) : Type 0 where
+record IsRight (code : List Insn) (pc : ℕ) (state : AbstractState) (x : Insn) : Type 0 where
   operands : has_operands state x ≡ true
-  inside : are_inside state (reads_of x ++ writes_of x) ≡ true
-  there : are_there state (reads_of x) ≡ true
-  behind : (goes_on x && leb (length (placed code)) (pc + slots_of x)) ≡ false
+  inside : all_in_bounds state.ranges (reads_of x ++ writes_of x) ≡ true
+  there : are_initialized state.initialized state.ranges (reads_of x) ≡ true
+  behind : (falls_through x && leb (length (insns_by_slot code)) (pc + slots_of x)) ≡ false
   helper : calls_unknown x ≡ false
   r10 : writes_r10 x ≡ false
 
@@ -115,12 +119,12 @@ module _ (bytes : List ℕ) (code : List Insn) (bound : ℕ) (c : IsCode bytes c
       }
 
   -- the instruction has no fault
-  right : (pc : ℕ) (state : State) (x : Insn) → state_at code pc ≡ Some state → insn_at code pc ≡ Some x → IsRight code pc state x
+  right : (pc : ℕ) (state : AbstractState) (x : Insn) → state_at code pc ≡ Some state → insn_at code pc ≡ Some x → IsRight code pc state x
   right pc state x known is =
-      let reads : insn_known_fault state x ≡ None = sym (ap (λ (o : Option State). known_fault o (insn_at code pc)) known ∙ ap (known_fault (Some state)) is) ∙ a.visits pc in
-      let stands : insn_fault (length (placed code)) pc x ≡ None = sym (ap (place_fault (length (placed code)) pc) is) ∙ a.structure pc in
-      let whole = no_fault (goes_on x && leb (length (placed code)) (pc + slots_of x)) (calls_unknown x) (writes_r10 x) falls_off_end unknown_helper writes_frame_pointer stands in
-      let known = all_three (has_operands state x) (are_inside state (reads_of x ++ writes_of x)) (are_there state (reads_of x)) uninit_register bad_access uninit_bytes reads in
+      let reads : insn_dataflow_fault state x ≡ None = sym (ap (λ (o : Option AbstractState). slot_dataflow_fault o (insn_at code pc)) known ∙ ap (slot_dataflow_fault (Some state)) is) ∙ a.dataflow pc in
+      let stands : insn_structure_fault (length (insns_by_slot code)) pc x ≡ None = sym (ap (slot_structure_fault (length (insns_by_slot code)) pc) is) ∙ a.structure pc in
+      let whole = no_fault (falls_through x && leb (length (insns_by_slot code)) (pc + slots_of x)) (calls_unknown x) (writes_r10 x) FallsOffEnd UnknownHelper WritesFramePointer stands in
+      let known = all_three (has_operands state x) (all_in_bounds state.ranges (reads_of x ++ writes_of x)) (are_initialized state.initialized state.ranges (reads_of x)) UninitRegister BadAccess UninitBytes reads in
       record {
         operands = known.0;
         inside = known.1;
@@ -133,19 +137,19 @@ module _ (bytes : List ℕ) (code : List Insn) (bound : ℕ) (c : IsCode bytes c
   -- one step: on to a machine that is reached in its turn, or out
   abbrev Progresses : ℕ → Machine → Type 0
   Progresses n m =
-      ((next : Machine) × (step code m ≡ Some (Goes next)) × Reached code (suc n) next)
+      ((next : Machine) × (step code m ≡ Some (Continues next)) × Reached code (suc n) next)
       ⊎ ((value : ℕ) × (step code m ≡ Some (Ends value)))
 
   -- on over the one edge out of an instruction
-  onward : (n : ℕ) (m next : Machine) (x : Insn) (after : State) → (at : Reached code n m) → at.insn ≡ x → goes_on x ≡ true → edges m.frame.pc at.known x ≡ record { target = m.frame.pc + slots_of x; state = after } ∷ [] → effect m x ≡ Some (Goes next) → next.frame.pc ≡ m.frame.pc + slots_of x → next.callers ≡ m.callers → AreValues next.entries → ((j : State) → IsBelow j after → Means j next) → Progresses n m
+  onward : (n : ℕ) (m next : Machine) (x : Insn) (after : AbstractState) → (at : Reached code n m) → at.insn ≡ x → falls_through x ≡ true → edges m.frame.pc at.known x ≡ record { target = m.frame.pc + slots_of x; state = after } ∷ [] → effect m x ≡ Some (Continues next) → next.frame.pc ≡ m.frame.pc + slots_of x → next.callers ≡ m.callers → AreValues next.entries → ((j : AbstractState) → IsBelow j after → Abstracts j next) → Progresses n m
   onward n m next x after at e goes edge-is does pc-is callers-are values means =
       let is : insn_at code m.frame.pc ≡ Some x = at.insn_is ∙ ap Some e in
       let ok = right m.frame.pc at.known x at.known_is is in
       let one = one_slot x in
-      let behind = leb-false _ _ (and_false (goes_on x) _ goes ok.behind) in
-      let inside : m.frame.pc + slots_of x < length code = omega (arith, behind, length-placed code) in
+      let behind = leb-false _ _ (and_false (falls_through x) _ goes ok.behind) in
+      let inside : m.frame.pc + slots_of x < length code = omega (arith, behind, length-insns_by_slot code) in
       let edge : Edge = record { target = m.frame.pc + slots_of x; state = after } in
-      let edges-are : edges_at code m.frame.pc ≡ edge ∷ [] = ap (λ (o : Option State). edges_of m.frame.pc o (insn_at code m.frame.pc)) at.known_is ∙ ap (edges_of m.frame.pc (Some at.known)) is ∙ edge-is in
+      let edges-are : edges_at code m.frame.pc ≡ edge ∷ [] = ap (λ (o : Option AbstractState). edges_of m.frame.pc o (insn_at code m.frame.pc)) at.known_is ∙ ap (edges_of m.frame.pc (Some at.known)) is ∙ edge-is in
       let one_of : IsOneOf edge (edges_at code m.frame.pc) = subst (λ (es : List Edge). IsOneOf edge es) (sym edges-are) (inl refl) in
       let later : m.frame.pc < m.frame.pc + slots_of x = omega arith in
       let j = arrives code m.frame.pc edge one_of later in
@@ -176,13 +180,13 @@ module _ (bytes : List ℕ) (code : List Insn) (bound : ℕ) (c : IsCode bytes c
   helper_at n m number at e None is ok = absurd (let known = sym (ap is_none is) ∙ ok.helper in cc)
   helper_at n m number at e (Some Get) is ok =
       let has = sym (ap (λ (o : Option Helper). list_all (λ r. is_some (at.known.ranges r)) (helper_operands o)) is) ∙ ok.operands in
-      let inside = sym (ap (λ (o : Option Helper). are_inside at.known (helper_reads o ++ helper_writes o)) is) ∙ ok.inside in
-      let there = sym (ap (λ (o : Option Helper). are_there at.known (helper_reads o)) is) ∙ ok.there in
+      let inside = sym (ap (λ (o : Option Helper). all_in_bounds at.known.ranges (helper_reads o ++ helper_writes o)) is) ∙ ok.inside in
+      let there = sym (ap (λ (o : Option Helper). are_initialized at.known.initialized at.known.ranges (helper_reads o)) is) ∙ ok.there in
       helped n m number Get at e is (get_answers at.known m number is at.means at.callers at.values has inside there)
   helper_at n m number at e (Some Put) is ok =
       let has = sym (ap (λ (o : Option Helper). list_all (λ r. is_some (at.known.ranges r)) (helper_operands o)) is) ∙ ok.operands in
-      let inside = sym (ap (λ (o : Option Helper). are_inside at.known (helper_reads o ++ helper_writes o)) is) ∙ ok.inside in
-      let there = sym (ap (λ (o : Option Helper). are_there at.known (helper_reads o)) is) ∙ ok.there in
+      let inside = sym (ap (λ (o : Option Helper). all_in_bounds at.known.ranges (helper_reads o ++ helper_writes o)) is) ∙ ok.inside in
+      let there = sym (ap (λ (o : Option Helper). are_initialized at.known.initialized at.known.ranges (helper_reads o)) is) ∙ ok.there in
       helped n m number Put at e is (put_answers at.known m number is at.means at.values has inside there)
 
   progress_at : (n : ℕ) (m : Machine) (x : Insn) → (at : Reached code n m) → at.insn ≡ x → Progresses n m
@@ -199,22 +203,22 @@ module _ (bytes : List ℕ) (code : List Insn) (bound : ℕ) (c : IsCode bytes c
       let x : Insn = Alu width op dst src in
       let is : insn_at code m.frame.pc ≡ Some x = at.insn_is ∙ ap Some e in
       let ok = right m.frame.pc at.known x at.known_is is in
-      let small = source_fits width op dst src (insn_fits code m.frame.pc x c.fit is) in
-      let fit = fit_at code c.fit m.frame.pc at.known at.known_is in
+      let small = imm_in_range width op dst src (insn_fits code m.frame.pc x c.in_range is) in
+      let fit = well_formed_at code c.in_range m.frame.pc at.known at.known_is in
       let moves = alu_moves at.known m width op dst src at.means fit small ok.operands ok.r10 in
       onward n m (moved m (slots_of x) dst.number moves.value) x (with_range at.known dst.number (alu_range at.known x)) at e refl refl moves.goes refl refl at.values (λ j below. moved_means at.known j m x dst.number at.means moves below)
 
   progress : (n : ℕ) (m : Machine) → Reached code n m → Progresses n m
   progress n m at = progress_at n m at.insn at refl
 
-  goes_is : (x y : Machine) → Some (Goes x) ≡ Some (Goes y) → x ≡ y
-  goes_is x y e = cc
+  continues_is : (x y : Machine) → Some (Continues x) ≡ Some (Continues y) → x ≡ y
+  continues_is x y e = cc
 
   reached : (call : Call) → IsCall call → (n : ℕ) (m : Machine) → Run code (start call) n m → Reached code n m
   reached call is zero m run = subst (Reached code 0) run (reached_start call is)
   reached call is (suc n) m (mid, run, goes) =
       elim (progress n mid (reached call is n mid run)) [
-        | inl (next, there, at) ↦ subst (Reached code (suc n)) (goes_is next m (sym there ∙ goes)) at
+        | inl (next, there, at) ↦ subst (Reached code (suc n)) (continues_is next m (sym there ∙ goes)) at
         | inr (value, out) ↦ absurd (let both = sym out ∙ goes in cc)
       ]
 
@@ -237,7 +241,7 @@ module _ (bytes : List ℕ) (code : List Insn) (bound : ℕ) (c : IsCode bytes c
   safe = record {
     unstuck = λ call is n m run.
         elim (progress n m (reached call is n m run)) [
-          | inl (next, goes, at) ↦ is_some_of (step code m) (Goes next) goes
+          | inl (next, goes, at) ↦ is_some_of (step code m) (Continues next) goes
           | inr (value, out) ↦ is_some_of (step code m) (Ends value) out
         ];
     ends = λ call is. ends_within call is bound 0 (start call) refl (omega arith);
@@ -251,10 +255,10 @@ module _ (bytes : List ℕ) (code : List Insn) (bound : ℕ) (c : IsCode bytes c
       let before = path_within n s path in
       let from = edge_from s (state_at code s) (insn_at code s) e one_of in
       let ok = right s from.0 from.1 from.2 from.3 in
-      let inside = and_false (goes_on from.1) _ from.4 ok.behind in
+      let inside = and_false (falls_through from.1) _ from.4 ok.behind in
       let one = one_slot from.1 in
       let lands = from.5 in
-      (omega arith, omega (arith, leb-false _ _ inside, length-placed code))
+      (omega arith, omega (arith, leb-false _ _ inside, length-insns_by_slot code))
 
   pub bounded : bound ≤ 65536
   bounded =

@@ -1,4 +1,4 @@
--- Ranges of numbers, and what an operation makes of them. Both ends belong to a range.
+-- Statement: ranges of numbers, and what an operation makes of them. Both ends belong to a range.
 use Rattle.std.specs.Prelude.{ℕ, ◌+◌, ◌%◌, ◌^◌, ◌-◌, Bool, ◌&&◌, ◌||◌, not, ◌==◌, nat_le, nat_lt, if◌then◌else◌}
 use Rattle.bpf_num.specs.declared.AluOp.{AluOp}
 use Rattle.bpf_num.specs.declared.AluOp.TheVariants.{Add, Mov}
@@ -21,7 +21,7 @@ is_single r = r.lo == r.hi
 abbrev pub full : ℕ → Range
 full bits = record { lo = 0; hi = 2 ^ bits - 1 }
 
--- The least range that holds both.
+-- The hull: the least range that holds both.
 abbrev pub hull : Range → Range → Range
 hull a b = record {
   lo = if nat_le a.lo b.lo then a.lo else b.lo;
@@ -32,7 +32,7 @@ hull a b = record {
 abbrev pub alike : Bool → Bool → Bool
 alike a b = a && b || not (a || b)
 
--- A sum's ends wrap, both or neither; where one wraps alone, nothing is known.
+-- A sum's ends wrap, both or neither; where one wraps alone, the range is full.
 abbrev pub sum_range : ℕ → Range → Range → Range
 sum_range bits a b =
     if alike (nat_le (2 ^ bits) (a.lo + b.lo)) (nat_le (2 ^ bits) (a.hi + b.hi)) then
@@ -49,14 +49,14 @@ range_of bits op a b =
     if is_single a && is_single b then single (result_of bits op a.lo b.lo)
     else wide_range bits op a b
 
--- What is known of the low half of a number.
-abbrev pub cut : Range → Range
-cut r =
+-- The range of the low half of a number.
+abbrev pub truncate : Range → Range
+truncate r =
     if is_single r then single (r.lo % 2 ^ 32)
     else if nat_lt r.hi (2 ^ 32) then r
     else full 32
 
 -- What an instruction of a width makes of its operands' ranges.
 abbrev pub transfer : AluWidth → AluOp → Range → Range → Range
-transfer W32 op a b = range_of 32 op (cut a) (cut b)
+transfer W32 op a b = range_of 32 op (truncate a) (truncate b)
 transfer W64 op a b = range_of 64 op a b

@@ -1,12 +1,24 @@
-//! What BPF code means, and which code is accepted: definitions (`specs/`) and laws about them. There
-//! is no code here; each law is the contract of a function with an empty body.
+//! What BPF code means, and which code is accepted: definitions (`specs/`), laws about them, each the
+//! contract of a function with an empty body, and the lists that verifier and interpreter share: the
+//! layout of memory, the helpers with what they read and write (`Helper::of(1)` is `Helper::Get`, which
+//! reads 16 bytes at r1), and the verifier's faults.
 #![tactic(auto)]
 
-ghost use Rattle.std.specs.Prelude.{ℕ, ◌≤◌, List};
+mod fault;
+mod helper;
+pub mod layout;
+#[cfg(test)]
+mod tests;
+
+ghost use Rattle.std.specs.Prelude.{◌≡◌, ℕ, ◌≤◌, ◌<◌, List};
 ghost use Rattle.bpf_decode.specs.declared.insn.Insn.{Insn};
 ghost use Rattle.bpf_decode.specs.Faults.{IsCode};
-ghost use Rattle.bpf_model.specs.Run.{IsSafe};
+ghost use Rattle.bpf_model.specs.Machine.{Machine, Call, start};
+ghost use Rattle.bpf_model.specs.Run.{Run, Ending, EndsSo, IsSafe};
 ghost use Rattle.bpf_model.specs.Verdict.{IsAccepted};
+
+pub use fault::{Refusal, VerifyFault};
+pub use helper::{Access, Helper};
 
 /// Accepted code cannot go wrong: whatever it is called with, no machine that is reached is stuck,
 /// and the run ends within the bound.
@@ -19,4 +31,16 @@ pub fn accepted_is_safe()
 pub fn accepted_is_bounded()
     ensures { (bytes : List ℕ) (code : List Insn) (bound : ℕ) →
         IsCode bytes code → IsAccepted code bound → bound ≤ 65536 }
+{}
+
+/// A call has at most one ending.
+pub fn ending_is_one()
+    ensures { (code : List Insn) (call : Call) (a b : Ending) →
+        EndsSo code call a → EndsSo code call b → a ≡ b }
+{}
+
+/// A call that ends takes no further step: each machine that it reaches comes before its last step.
+pub fn ending_is_last()
+    ensures { (code : List Insn) (call : Call) (ending : Ending) (n : ℕ) (m : Machine) →
+        EndsSo code call ending → Run code (start call) n m → n < ending.steps }
 {}

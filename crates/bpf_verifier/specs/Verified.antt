@@ -1,4 +1,4 @@
--- What a procedure is to its callers: its code as bytes, and the bound on its steps.
+-- Statement: what a procedure is to its callers: its code as bytes, and the bound on its steps.
 use Rattle.std.specs.Prelude.{ℕ, ◌≤◌, List}
 use Rattle.bpf_decode.specs.declared.insn.Insn.{Insn}
 use Rattle.bpf_decode.specs.Faults.{IsCode}

@@ -1,3 +1,5 @@
+//! A range of 64-bit numbers.
+
 ghost use Rattle.std.specs.Prelude.{◌≤◌};
 
 /// A range of 64-bit numbers; both ends belong to it.

@@ -1,6 +1,8 @@
+//! What an operation makes of its operands' ranges.
+
 ghost use Rattle.std.specs.Prelude.{◌≡◌, ◌<◌, ◌^◌};
-ghost use Rattle.bpf_model.specs.Ranges.{cut, transfer, range_of};
-ghost use Rattle.bpf_verifier.specs.Shown.{shown};
+ghost use Rattle.bpf_model.specs.Ranges.{truncate, transfer, range_of};
+ghost use Rattle.bpf_verifier.specs.ModelRange.{model_range};
 
 use crate::range::Range;
 use bpf_num::{AluOp, AluWidth, alu32, alu64};
@@ -11,26 +13,26 @@ const LOW_HALF: u64 = 0xffff_ffff;
 impl Range {
     ghost use Rattle.std.specs.Prelude.{◌≡◌, ◌≤◌};
     ghost use Rattle.bpf_model.specs.Ranges.{is_single, single};
-    ghost use Rattle.bpf_verifier.specs.Shown.{shown};
+    ghost use Rattle.bpf_verifier.specs.ModelRange.{model_range};
 
     /// The numbers from the first to the second.
     pub fn new(lo: u64, hi: u64) -> Range
         requires { lo ≤ hi }
-        ensures { shown result ≡ record { lo = lo; hi = hi } }
+        ensures { model_range result ≡ record { lo = lo; hi = hi } }
     {
         Range { lo, hi }
     }
 
     /// The range that holds one number alone.
     pub fn single(value: u64) -> Range
-        ensures { shown result ≡ single value }
+        ensures { model_range result ≡ single value }
     {
         Range::new(value, value)
     }
 
     /// Whether the range holds one number alone.
     pub fn is_single(self) -> bool
-        ensures { result ≡ is_single (shown self) }
+        ensures { result ≡ is_single (model_range self) }
     {
         self.lo == self.hi
     }
@@ -38,17 +40,17 @@ impl Range {
 
 /// What an instruction makes of its operands' ranges.
 pub fn transfer(width: AluWidth, op: AluOp, a: Range, b: Range) -> Range
-    ensures { shown result ≡ transfer width op (shown a) (shown b) }
+    ensures { model_range result ≡ transfer width op (model_range a) (model_range b) }
 {
     match width {
-        AluWidth::W32 => narrow(op, cut(a), cut(b)),
+        AluWidth::W32 => narrow(op, truncate(a), truncate(b)),
         AluWidth::W64 => wide(op, a, b),
     }
 }
 
-/// What is known of the low half of a number.
-fn cut(range: Range) -> Range
-    ensures value { shown result ≡ cut (shown range) }
+/// The range of the low half of a number.
+fn truncate(range: Range) -> Range
+    ensures value { model_range result ≡ truncate (model_range range) }
     ensures narrow { result.hi < 2 ^ 32 }
 {
     if range.is_single() {
@@ -63,7 +65,7 @@ fn cut(range: Range) -> Range
 fn narrow(op: AluOp, a: Range, b: Range) -> Range
     requires first { a.hi < 2 ^ 32 }
     requires second { b.hi < 2 ^ 32 }
-    ensures { shown result ≡ range_of 32 op (shown a) (shown b) }
+    ensures { model_range result ≡ range_of 32 op (model_range a) (model_range b) }
 {
     if a.is_single() && b.is_single() {
         return Range::single(alu32(op, a.lo, b.lo));
@@ -83,7 +85,7 @@ fn narrow(op: AluOp, a: Range, b: Range) -> Range
 }
 
 fn wide(op: AluOp, a: Range, b: Range) -> Range
-    ensures { shown result ≡ range_of 64 op (shown a) (shown b) }
+    ensures { model_range result ≡ range_of 64 op (model_range a) (model_range b) }
 {
     if a.is_single() && b.is_single() {
         return Range::single(alu64(op, a.lo, b.lo));

@@ -1,4 +1,4 @@
-use Rattle.bpf_decode.proofs.Spellings.{read_is_only}
+use Rattle.bpf_decode.proofs.Encodings.{read_is_only}
 use Rattle.bpf_decode.proofs.code.decode_all.Goals as goal
 
 pub returns-clause-only : goal.returns-clause-only

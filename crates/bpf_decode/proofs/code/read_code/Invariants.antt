@@ -1,12 +1,12 @@
 use Rattle.std.proofs.Common.{◌≡◌, ◌*◌, take, length, None}
 use Rattle.std.specs.List.{AllByRecursion}
-use Rattle.bpf_decode.specs.Spelling.{spelling, IsInsn}
+use Rattle.bpf_decode.specs.Encoding.{encoding, IsInsn}
 use Rattle.bpf_decode.specs.Faults.{length_fault}
 use Rattle.bpf_decode.proofs.code.read_code.Given as goal
 
 abbrev pub invariant-loop-slot : goal.invariant-loop-slot
 invariant-loop-slot l = record {
-  spelled : take (8 * l.slot) l.bytes ≡ spelling l.code.items;
+  encoded : take (8 * l.slot) l.bytes ≡ encoding l.code.items;
   fit : AllByRecursion IsInsn l.code.items;
   whole : 8 * l.slots ≡ length l.bytes;
   fits : length_fault (length l.bytes) ≡ None;

@@ -2,15 +2,15 @@ use Rattle.std.proofs.Common.{◌≡◌, ℕ, ◌+◌, ◌-◌, List, rules, ari
 use Rattle.std.proofs.Math.Seq.{paste}
 use Rattle.std.proofs.lemmas.Slice.{put_mid-paste}
 use Rattle.bpf_model.specs.Machine.{stored}
-use Rattle.bpf_machine.specs.Shows.{ShowsMemory}
+use Rattle.bpf_machine.specs.Represents.{RepresentsMemory}
 use Rattle.bpf_machine.proofs.Bytes.{written_bytes}
 use Rattle.bpf_machine.proofs.memory.Memory.put_value.Goals as goal
 
 pub returns : goal.returns
-returns c = λ memory shows.
+returns c = λ memory represents.
     let bytes = c.args.self.now.bytes in
     let value = c.args.value.now in
-    let there = written_bytes bytes memory c.args.address 32 value (search rules) (search rules) (omega arith) c.requires shows in
+    let there = written_bytes bytes memory c.args.address 32 value (search rules) (search rules) (omega arith) c.requires represents in
     let copied : c.copy_from_slice.new.self ≡ value = search rules in
-    let made = put_mid-paste c.place-at.result (c.place-at.result + 32 - c.place-at.result) bytes c.copy_from_slice.new.self value 32 copied (omega arith) (search rules) in
-    subst (λ (all : List ℕ). ShowsMemory all (stored memory c.args.address value)) (sym (made ∙ ap (λ (k : ℕ). paste bytes k value 32) c.place-at.ensures)) there
+    let made = put_mid-paste c.index_of-at.result (c.index_of-at.result + 32 - c.index_of-at.result) bytes c.copy_from_slice.new.self value 32 copied (omega arith) (search rules) in
+    subst (λ (all : List ℕ). RepresentsMemory all (stored memory c.args.address value)) (sym (made ∙ ap (λ (k : ℕ). paste bytes k value 32) c.index_of-at.ensures)) there

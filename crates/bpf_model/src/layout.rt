@@ -1,0 +1,25 @@
+//! Where registers and memory lie (RFC 9669, section 2.1; the addresses are this host's).
+
+/// How many registers there are: r0 to r10.
+pub const REGISTERS: usize = 11;
+
+/// The number of the frame pointer, r10.
+pub const FRAME_POINTER: u8 = 10;
+
+/// The bytes of a frame.
+pub const FRAME_SIZE: usize = 512;
+
+/// Where the first frame begins.
+pub const FRAME_START: u64 = 0x1_0000_0000;
+
+/// Where the first frame ends: what r10 holds.
+pub const FRAME_END: u64 = FRAME_START + FRAME_SIZE as u64;
+
+/// The bytes of the arguments.
+pub const ARGUMENTS_SIZE: usize = 256;
+
+/// Where the arguments begin: what r1 holds as a call begins.
+pub const ARGUMENTS_START: u64 = 0x2_0000_0000;
+
+/// Where the arguments end.
+pub const ARGUMENTS_END: u64 = ARGUMENTS_START + ARGUMENTS_SIZE as u64;

@@ -1,0 +1,175 @@
+//! Verdicts at worked values.
+
+use super::*;
+use bpf_decode::DecodeFault;
+use std::alloc::{AllocError, Global};
+use std::test::Fail;
+
+/// The bytes of slots that are written as words, the first byte foremost.
+fn code(alloc: Global, slots: &[u64]) -> Result<Vec<u8>, AllocError> {
+    let mut bytes = Vec::new(alloc);
+    for slot in slots {
+        bytes.extend_from_slice(&slot.to_be_bytes())?;
+    }
+    Ok(bytes)
+}
+
+const EXIT: u64 = 0x9500_0000_0000_0000;
+
+const GET: u64 = 0x8500_0000_0100_0000;
+
+const PUT: u64 = 0x8500_0000_0200_0000;
+
+const R2_IS_FRAME_END: u64 = 0xbfa2_0000_0000_0000;
+
+const R2_LESS_32: u64 = 0x0702_0000_e0ff_ffff;
+
+const R3_IS_FRAME_END: u64 = 0xbfa3_0000_0000_0000;
+
+const R3_ADD_R0: u64 = 0x0f03_0000_0000_0000;
+
+const R3_ADD_R2: u64 = 0x0f23_0000_0000_0000;
+
+const R1_IS_R3: u64 = 0xbf31_0000_0000_0000;
+
+const R1_IS_FRAME_END: u64 = 0xbfa1_0000_0000_0000;
+
+const R1_LESS_16: u64 = 0x0701_0000_f0ff_ffff;
+
+const R0_IS_R5: u64 = 0xbf50_0000_0000_0000;
+
+const R0_IS_0: u64 = 0xb700_0000_0000_0000;
+
+const R10_IS_R1: u64 = 0xbf1a_0000_0000_0000;
+
+const CALL_9: u64 = 0x8500_0000_0900_0000;
+
+/// Code that reads a key at the frame pointer less some, and r2 on.
+fn key_at_r2(less: u64) -> [u64; 8] {
+    [
+        R3_IS_FRAME_END,
+        less,
+        R3_ADD_R2,
+        R1_IS_R3,
+        R2_IS_FRAME_END,
+        R2_LESS_32,
+        GET,
+        EXIT,
+    ]
+}
+
+/// Code that reads a key out of the value that it read, at the frame pointer less some, and r0 on.
+fn key_at_r0(less: u64) -> [u64; 11] {
+    [
+        R2_IS_FRAME_END,
+        R2_LESS_32,
+        GET,
+        R3_IS_FRAME_END,
+        less,
+        R3_ADD_R0,
+        R1_IS_R3,
+        R2_IS_FRAME_END,
+        R2_LESS_32,
+        GET,
+        EXIT,
+    ]
+}
+
+#[test]
+fn refusals(rt: HostRuntime) -> Result<(), Fail> {
+    let at_272 = key_at_r2(0x0703_0000_f0fe_ffff);
+    let at_271 = key_at_r2(0x0703_0000_f1fe_ffff);
+    let at_513 = key_at_r2(0x0703_0000_fffd_ffff);
+    let at_16 = key_at_r0(0x0703_0000_f0ff_ffff);
+    let rows: [(&str, &[u64], VerifyFault, u32); 13] = [
+        ("r2 is at most 256", &at_272, VerifyFault::UninitBytes, 6),
+        ("r2 may be 256", &at_271, VerifyFault::BadAccess, 6),
+        ("r2 may be 0", &at_513, VerifyFault::BadAccess, 6),
+        (
+            "r0 may be 1 after a helper",
+            &at_16,
+            VerifyFault::BadAccess,
+            9,
+        ),
+        ("r2 is no address", &[PUT, EXIT], VerifyFault::BadAccess, 0),
+        (
+            "bounds before bytes",
+            &[R1_IS_FRAME_END, R1_LESS_16, PUT, EXIT],
+            VerifyFault::BadAccess,
+            2,
+        ),
+        (
+            "registers before bounds",
+            &[R2_IS_FRAME_END, R2_LESS_32, GET, PUT, EXIT],
+            VerifyFault::UninitRegister,
+            3,
+        ),
+        (
+            "an absent register",
+            &[R0_IS_R5, EXIT],
+            VerifyFault::UninitRegister,
+            0,
+        ),
+        ("exit without r0", &[EXIT], VerifyFault::UninitRegister, 0),
+        (
+            "the structure before the data flow",
+            &[R0_IS_R5, R10_IS_R1, EXIT],
+            VerifyFault::WritesFramePointer,
+            1,
+        ),
+        (
+            "the end before the helper",
+            &[R0_IS_0, CALL_9],
+            VerifyFault::FallsOffEnd,
+            1,
+        ),
+        (
+            "no helper 9",
+            &[CALL_9, EXIT],
+            VerifyFault::UnknownHelper,
+            0,
+        ),
+        (
+            "the decoder before the structure",
+            &[CALL_9, 0],
+            VerifyFault::Decode(DecodeFault::BadOpcode),
+            1,
+        ),
+    ];
+    for (name, slots, fault, slot) in rows {
+        match verify(rt.alloc(), &code(rt.alloc(), slots)?) {
+            Ok(_) => assert!(rt; false, "{name}: accepted"),
+            Err(refusal) => assert_eq!(rt; refusal, Refusal { fault, slot }, "{name}"),
+        }
+    }
+    Ok(())
+}
+
+#[test]
+fn accepted(rt: HostRuntime) -> Result<(), Fail> {
+    let at_17 = key_at_r0(0x0703_0000_efff_ffff);
+    let rows: [(&str, &[u64], u32); 3] = [
+        (
+            "a read value is initialized, and r0 is at most 1",
+            &at_17,
+            11,
+        ),
+        (
+            "code behind an exit is not reached",
+            &[R0_IS_0, EXIT, R0_IS_R5, EXIT],
+            2,
+        ),
+        (
+            "a helper keeps r6 to r10 and the frame",
+            &[R2_IS_FRAME_END, R2_LESS_32, GET, R2_IS_FRAME_END, EXIT],
+            5,
+        ),
+    ];
+    for (name, slots, bound) in rows {
+        match verify(rt.alloc(), &code(rt.alloc(), slots)?) {
+            Ok(procedure) => assert_eq!(rt; procedure.bound(), bound, "{name}"),
+            Err(refusal) => assert!(rt; false, "{name}: {refusal}"),
+        }
+    }
+    Ok(())
+}
