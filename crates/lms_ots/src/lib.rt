@@ -6,7 +6,7 @@
 //! takes memory.
 #![tactic(auto)]
 
-ghost use Rattle.std.specs.Prelude.{◌≡◌, ℕ, ◌+◌, ◌-◌, ◌/◌, ◌≤◌, ◌<◌, List, drop, length, take};
+ghost use Rattle.std.specs.Prelude.{◌≡◌, ℕ, ◌+◌, ◌-◌, ◌/◌, ◌≤◌, ◌<◌, ◌++◌, List, drop, length, take};
 ghost use Rattle.lms_ots.specs.Ots.{candidate_of, chain, chain_start, checksum, coef, digits_of, message_hash, public_value, randomizer, signature_of};
 
 use hash::{block_hash, hasher, put, u16str, u32str};
@@ -102,13 +102,20 @@ fn randomizer(id: &[u8; 16], leaf: u32, secret: &[u8; 32]) -> [u8; 32]
     block_hash(id, leaf, RANDOMIZER_TAG, SEED_STEP, secret)
 }
 
-// The hash whose digits are signed (RFC 8554, section 4.5).
-fn message_hash(id: &[u8; 16], leaf: u32, randomizer: &[u8; 32], message: &[u8]) -> [u8; 32]
-    ensures { result ≡ message_hash id.now leaf randomizer.now message.now }
+// The hash whose digits are signed (RFC 8554, section 4.5), of a message in two pieces.
+fn message_hash(
+    id: &[u8; 16],
+    leaf: u32,
+    randomizer: &[u8; 32],
+    head: &[u8],
+    tail: &[u8],
+) -> [u8; 32]
+    ensures { result ≡ message_hash id.now leaf randomizer.now (head.now ++ tail.now) }
 {
     let mut hasher = hasher(id, leaf, MESSAGE_TAG);
     hasher.update(randomizer);
-    hasher.update(message);
+    hasher.update(head);
+    hasher.update(tail);
     hasher.finalize()
 }
 
@@ -131,7 +138,7 @@ pub fn ots_sign(id: &[u8; 16], leaf: u32, secret: &[u8; 32], message: &[u8]) -> 
     ensures { result ≡ signature_of id.now leaf secret.now message.now }
 {
     let randomizer = randomizer(id, leaf, secret);
-    let digits = digits(&message_hash(id, leaf, &randomizer, message));
+    let digits = digits(&message_hash(id, leaf, &randomizer, &[], message));
     let mut signature = [0u8; 2180];
     put(&mut signature, 0, &u32str(TYPECODE));
     put(&mut signature, 4, &randomizer);
@@ -144,13 +151,26 @@ pub fn ots_sign(id: &[u8; 16], leaf: u32, secret: &[u8; 32], message: &[u8]) -> 
 }
 
 /// The public value that a signature of `message` leads to (RFC 8554, section 4.6): the signature is
-/// valid where that is the leaf's. All 2,180 bytes are taken as they are, and the type's word in the
-/// first four is the caller's to judge.
+/// valid where that is the leaf's. All 2,180 bytes are taken as they are, and the typecode in the
+/// first four is the caller's to check.
 pub fn ots_candidate(id: &[u8; 16], leaf: u32, message: &[u8], signature: &[u8; 2180]) -> [u8; 32]
     ensures { result ≡ candidate_of id.now leaf message.now signature.now }
 {
+    ots_candidate_of_two(id, leaf, &[], message, signature)
+}
+
+/// As `ots_candidate`, of a message in two pieces, which need not be copied together.
+pub fn ots_candidate_of_two(
+    id: &[u8; 16],
+    leaf: u32,
+    head: &[u8],
+    tail: &[u8],
+    signature: &[u8; 2180],
+) -> [u8; 32]
+    ensures { result ≡ candidate_of id.now leaf (head.now ++ tail.now) signature.now }
+{
     let randomizer = hash_at(signature, 4);
-    let digits = digits(&message_hash(id, leaf, &randomizer, message));
+    let digits = digits(&message_hash(id, leaf, &randomizer, head, tail));
     let mut hasher = hasher(id, leaf, PUBLIC_TAG);
     'chains: for i in 0..CHAIN_COUNT {
         let value = hash_at(signature, 36 + 32 * i);

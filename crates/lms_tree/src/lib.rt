@@ -8,7 +8,7 @@
 pub use fault::{SigFault, SignFault};
 pub use height::Height;
 pub use signer::Signer;
-pub use validity::verify;
+pub use validity::{verify, verify_two};
 
 mod buffer;
 mod fault;

@@ -1,13 +1,13 @@
 // Validity of signatures (RFC 8554, section 5.4.2).
 
-ghost use Rattle.std.specs.Prelude.{◌≡◌, ◌+◌, ◌*◌, ◌^◌, ◌<◌, ◌≤◌, length, take, drop, Some, None, MatchResult};
+ghost use Rattle.std.specs.Prelude.{◌≡◌, ◌+◌, ◌*◌, ◌^◌, ◌<◌, ◌≤◌, ◌++◌, length, take, drop, Some, None, MatchResult};
 ghost use Rattle.std.specs.Str.{bytes_eq};
 ghost use Rattle.lms_tree.specs.Signature.{candidate_root, key_height, key_root, levels_of, signature_fault, word_at};
 
 use crate::fault::SigFault;
 use crate::height::Height;
 use crate::nodes::{leaf_node, parent};
-use lms_ots::ots_candidate;
+use lms_ots::ots_candidate_of_two;
 
 /// The word LMOTS_SHA256_N32_W4 of RFC 8554, section 4.1.
 const OTS_TYPECODE: u32 = 3;
@@ -48,16 +48,16 @@ fn key_height(key: &[u8; 56]) -> Option<Height>
     }
 }
 
-// The root that a signature of `body` leads to.
-fn candidate_root(height: Height, id: &[u8; 16], body: &[u8], sig: &[u8]) -> [u8; 32]
+// The root that a signature of a message in two pieces leads to.
+fn candidate_root(height: Height, id: &[u8; 16], head: &[u8], tail: &[u8], sig: &[u8]) -> [u8; 32]
     requires long { length sig.now ≡ 2188 + 32 * levels_of height }
     requires leaf { word_at sig.now 0 < 2 ^ levels_of height }
-    ensures { result ≡ candidate_root (levels_of height) id.now body.now sig.now }
+    ensures { result ≡ candidate_root (levels_of height) id.now (head.now ++ tail.now) sig.now }
 {
     let leaf = word_at(sig, 0);
     let ots: [u8; 2180] = bytes_at(sig, 4);
     let first = height.leaf_count() + leaf;
-    let mut value = leaf_node(id, first, &ots_candidate(id, leaf, body, &ots));
+    let mut value = leaf_node(id, first, &ots_candidate_of_two(id, leaf, head, tail, &ots));
     'path: for i in 0..height.levels() {
         let sibling_node: [u8; 32] = bytes_at(sig, PATH_OFFSET + 32 * i);
         value = parent(id, first >> i, &value, &sibling_node);
@@ -82,6 +82,14 @@ pub fn verify(key: &[u8; 56], body: &[u8], sig: &[u8]) -> Result<(), SigFault>
     ensures { MatchResult result (λ _. signature_fault key.now body.now sig.now ≡ None)
         (λ fault. signature_fault key.now body.now sig.now ≡ Some fault) }
 {
+    verify_two(key, &[], body, sig)
+}
+
+/// As `verify`, of a body in two pieces, which need not be copied together.
+pub fn verify_two(key: &[u8; 56], head: &[u8], tail: &[u8], sig: &[u8]) -> Result<(), SigFault>
+    ensures { MatchResult result (λ _. signature_fault key.now (head.now ++ tail.now) sig.now ≡ None)
+        (λ fault. signature_fault key.now (head.now ++ tail.now) sig.now ≡ Some fault) }
+{
     let Some(height) = key_height(key) else {
         return Err(SigFault::WrongType);
     };
@@ -94,7 +102,7 @@ pub fn verify(key: &[u8; 56], body: &[u8], sig: &[u8]) -> Result<(), SigFault>
     if word_at(sig, 0) >= height.leaf_count() {
         return Err(SigFault::Leaf);
     }
-    let root = candidate_root(height, &bytes_at(key, 8), body, sig);
+    let root = candidate_root(height, &bytes_at(key, 8), head, tail, sig);
     if is_root(key, &root) {
         Ok(())
     } else {

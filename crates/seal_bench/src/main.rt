@@ -15,7 +15,7 @@ fn main(rt: HostRuntime) -> Result<()> {
     if env::args(&rt)?.any(|word| word.as_str() == "time") {
         return times::print_times(&rt);
     }
-    let commit = messages::signed_commit(rt.alloc())?;
+    let commit = messages::commit(rt.alloc())?;
     if open(rt.alloc(), &commit.config, &commit.bytes).is_err() {
         return Err(anyhow!("the message does not open"));
     }

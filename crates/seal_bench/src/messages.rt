@@ -21,9 +21,9 @@ const SIGNATURE: usize = 2348;
 /// The bytes of a snapshot's state, with which the message comes close to its limit.
 const STATE: usize = 8_380_000;
 
-/// A message that opens, in its pieces.
+/// A message of replica 1 that opens, and what its signature is verified over.
 #[derive(Drop)]
-pub(crate) struct Commit {
+pub(crate) struct Case {
     pub(crate) config: Arc<Config>,
     pub(crate) key: [u8; 56],
     pub(crate) text: Vec<u8>,
@@ -31,7 +31,7 @@ pub(crate) struct Commit {
     pub(crate) bytes: Vec<u8>,
 }
 
-fn put_counted(out: &mut Vec<u8>, bytes: &[u8]) -> Result<()> {
+fn put_length_prefixed(out: &mut Vec<u8>, bytes: &[u8]) -> Result<()> {
     let length = u32::try_from(bytes.len())?;
     out.extend_from_slice(&length.to_be_bytes())?;
     out.extend_from_slice(bytes)?;
@@ -40,8 +40,8 @@ fn put_counted(out: &mut Vec<u8>, bytes: &[u8]) -> Result<()> {
 
 fn put_message(out: &mut Vec<u8>, id: u8, body: &[u8], sig: &[u8]) -> Result<()> {
     out.extend_from_slice(&[REPLICA, 0, 0, 0, id])?;
-    put_counted(out, body)?;
-    put_counted(out, sig)
+    put_length_prefixed(out, body)?;
+    put_length_prefixed(out, sig)
 }
 
 // The body of a PrePrepare (2), a Prepare (3) or a Commit (4).
@@ -105,35 +105,42 @@ pub(crate) fn new_view(alloc: Global) -> Result<Vec<u8>> {
     Ok(out)
 }
 
-/// A Snapshot of some eight million bytes.
-pub(crate) fn snapshot(alloc: Global) -> Result<Vec<u8>> {
+/// The body of a Snapshot of some eight million bytes.
+fn snapshot_body(alloc: Global) -> Result<Vec<u8>> {
     let state = Vec::from_elem(alloc, 7u8, STATE)?;
     let mut body = Vec::new(alloc);
     body.extend_from_slice(&[10, 0, 0, 0, 0, 0, 0, 0, 8])?;
-    put_counted(&mut body, &state)?;
-    let mut out = Vec::new(alloc);
-    put_message(&mut out, 1, &body, &[0; SIGNATURE])?;
-    Ok(out)
+    put_length_prefixed(&mut body, &state)?;
+    Ok(body)
 }
 
-/// A Commit of replica 1, where one replica may be faulty.
-pub(crate) fn signed_commit(alloc: Global) -> Result<Commit> {
+/// A message of replica 1 with this body, where one replica may be faulty.
+fn signed(alloc: Global, body: &[u8]) -> Result<Case> {
     let mut signer = Signer::from_seed(alloc, Height::H5, [1; 16], [2; 32])?;
     let key = signer.public_key();
-    let body = vote(alloc, 4, 1)?;
     let mut text = Vec::new(alloc);
     text.extend_from_slice(&[REPLICA, 0, 0, 0, 1])?;
-    text.extend_from_slice(&body)?;
+    text.extend_from_slice(body)?;
     let sig = signer.sign(&text)?;
     let mut bytes = Vec::new(alloc);
-    put_message(&mut bytes, 1, &body, &sig)?;
+    put_message(&mut bytes, 1, body, &sig)?;
     let keys = Vec::from_slice(alloc, &[[0; 56], key, [0; 56], [0; 56]])?;
     let config = Arc::new(alloc, Config::new(1, 8, keys, Vec::new(alloc))?)?;
-    Ok(Commit {
+    Ok(Case {
         config,
         key,
         text,
         sig,
         bytes,
     })
+}
+
+/// A Commit.
+pub(crate) fn commit(alloc: Global) -> Result<Case> {
+    signed(alloc, &vote(alloc, 4, 1)?)
+}
+
+/// A Snapshot of some eight million bytes.
+pub(crate) fn snapshot(alloc: Global) -> Result<Case> {
+    signed(alloc, &snapshot_body(alloc)?)
 }

@@ -1,11 +1,13 @@
 // Times in one run: the least of a few rounds of each.
 
-use crate::messages;
+use crate::messages::{self, Case};
 use anyhow::{Result, anyhow};
 use lms_tree::verify;
 use pbft_codec::decode;
 use seal::open;
 use std::time::Instant;
+
+const ROUNDS: u32 = 30;
 
 fn print_ratio(rt: &HostRuntime, work: &str, taken: u128, beside: &str, other: u128) -> Result<()> {
     let ratio = taken.saturating_mul(1000) / other.max(1);
@@ -20,7 +22,7 @@ fn print_ratio(rt: &HostRuntime, work: &str, taken: u128, beside: &str, other: u
 // The time of reading the bytes as a message.
 fn nanoseconds_of_reading(rt: &HostRuntime, bytes: &[u8]) -> Result<u128> {
     let mut least = u128::MAX;
-    for _ in 0..30 {
+    for _ in 0..ROUNDS {
         let start = Instant::now(rt)?;
         let message = decode(rt.alloc(), bytes);
         least = least.min(start.elapsed(rt)?.as_nanos());
@@ -34,7 +36,7 @@ fn nanoseconds_of_reading(rt: &HostRuntime, bytes: &[u8]) -> Result<u128> {
 // The time of one copy of the bytes into a fresh vector.
 fn nanoseconds_of_copying(rt: &HostRuntime, bytes: &[u8]) -> Result<u128> {
     let mut least = u128::MAX;
-    for _ in 0..30 {
+    for _ in 0..ROUNDS {
         let start = Instant::now(rt)?;
         let mut copy = Vec::new(rt.alloc());
         copy.extend_from_slice(bytes)?;
@@ -52,40 +54,35 @@ fn print_decode(rt: &HostRuntime, work: &str, bytes: &[u8]) -> Result<()> {
     print_ratio(rt, work, read, "one copy of the bytes", copied)
 }
 
-// The time of opening a small message, beside that of its signature's verification.
-fn print_open(rt: &HostRuntime) -> Result<()> {
-    let commit = messages::signed_commit(rt.alloc())?;
+// The time of opening a message `count` times, and that of as many verifications of its signature.
+fn print_open(rt: &HostRuntime, work: &str, message: &Case, count: u32) -> Result<()> {
     let mut opened = u128::MAX;
     let mut verified = u128::MAX;
-    for _ in 0..20 {
+    for _ in 0..ROUNDS {
         let start = Instant::now(rt)?;
-        for _ in 0..100 {
-            if open(rt.alloc(), &commit.config, &commit.bytes).is_err() {
+        for _ in 0..count {
+            if open(rt.alloc(), &message.config, &message.bytes).is_err() {
                 return Err(anyhow!("the message does not open"));
             }
         }
         opened = opened.min(start.elapsed(rt)?.as_nanos());
         let start = Instant::now(rt)?;
-        for _ in 0..100 {
-            if verify(&commit.key, &commit.text, &commit.sig).is_err() {
+        for _ in 0..count {
+            if verify(&message.key, &message.text, &message.sig).is_err() {
                 return Err(anyhow!("the signature is not valid"));
             }
         }
         verified = verified.min(start.elapsed(rt)?.as_nanos());
     }
-    print_ratio(
-        rt,
-        "opening a commit",
-        opened / 100,
-        "verification alone",
-        verified / 100,
-    )
+    print_ratio(rt, work, opened, "verification alone", verified)
 }
 
 pub(crate) fn print_times(rt: &HostRuntime) -> Result<()> {
-    let bytes = messages::snapshot(rt.alloc())?;
-    print_decode(rt, "reading a snapshot", &bytes)?;
+    let snapshot = messages::snapshot(rt.alloc())?;
+    print_decode(rt, "reading a snapshot", &snapshot.bytes)?;
     let bytes = messages::new_view(rt.alloc())?;
     print_decode(rt, "reading a new view", &bytes)?;
-    print_open(rt)
+    let commit = messages::commit(rt.alloc())?;
+    print_open(rt, "opening a commit", &commit, 100)?;
+    print_open(rt, "opening a snapshot", &snapshot, 1)
 }

@@ -1,4 +1,4 @@
-use Rattle.std.proofs.Common.{◌∙◌, ap}
+use Rattle.std.proofs.Common.{List, ℕ, ◌++◌, ◌∙◌, ap}
 use Rattle.std.proofs.lemmas.List.{append_assoc}
 use Rattle.sha2.specs.Sha256.{sha256}
 use Rattle.lms_ots.specs.Ots.{tagged_hash}
@@ -7,5 +7,5 @@ use Rattle.lms_ots.proofs.message_hash.Goals as goal
 pub returns : goal.returns
 unfolding tagged_hash
 returns c =
-    c.finalize.ensures _ (c.update-2.ensures _ (c.update.ensures _ c.hasher-hasher.ensures))
-    ∙ ap sha256 (append_assoc _ c.args.randomizer.now c.args.message.now)
+    c.finalize.ensures _ (c.update-3.ensures _ (c.update-2.ensures _ (c.update.ensures _ c.hasher-hasher.ensures)))
+    ∙ ap sha256 (simp append_assoc)

@@ -5,7 +5,7 @@ use Rattle.lms_ots.proofs.DigitLemmas.{get_or-digits_of}
 use Rattle.lms_ots.proofs.Hashing.{Holds-more, Holds-none}
 use Rattle.lms_ots.proofs.Concatenation.{joined_same}
 use Rattle.lms_ots.proofs.Law.{digit-le}
-use Rattle.lms_ots.proofs.ots_candidate.Goals as goal
+use Rattle.lms_ots.proofs.ots_candidate_of_two.Goals as goal
 
 pub chains-init : goal.chains-init
 chains-init c = Holds-none _ _ _ c.hasher-hasher.ensures
@@ -30,12 +30,12 @@ pub returns : goal.returns
 unfolding tagged_hash
 returns c =
     let a = c.args in
-    let q : List ℕ = message_hash a.id.now a.leaf (randomizer_in a.signature.now) a.message.now in
+    let q : List ℕ = message_hash a.id.now a.leaf (randomizer_in a.signature.now) (a.head.now ++ a.tail.now) in
     let over = c.chains-test.false in
     let within = c.chains.auto.i-end in
     let all : c.chains.i ≡ 67 = omega arith in
     let hashed : c.message_hash.result ≡ q =
-    c.message_hash.ensures ∙ ap (λ r. message_hash a.id.now a.leaf r a.message.now) c.hash_at-randomizer.ensures in
+    c.message_hash.ensures ∙ ap (λ r. message_hash a.id.now a.leaf r (a.head.now ++ a.tail.now)) c.hash_at-randomizer.ensures in
     let digits : c.digits-digits.result ≡ digits_of q = c.digits-digits.ensures ∙ ap digits_of hashed in
     let places : (i : ℕ) → i < 67 → get_or c.digits-digits.result i 0 ≡ digit q i =
     λ i h. ap (λ ds. get_or ds i 0) digits ∙ get_or-digits_of q i h in
