@@ -27,6 +27,19 @@ fn arguments(number: u32) -> [u8; 48] {
     bytes
 }
 
+// The key and the value with this number in their first four bytes.
+fn key_of(number: u32) -> [u8; 16] {
+    let mut key = [0; 16];
+    key[..4].copy_from_slice(&number.to_be_bytes());
+    key
+}
+
+fn value_of(number: u32) -> [u8; 32] {
+    let mut value = [0; 32];
+    value[..4].copy_from_slice(&number.to_be_bytes());
+    value
+}
+
 #[test]
 fn a_map_fills_up(rt: HostRuntime) -> Result<(), Fail> {
     let put = verify(rt.alloc(), &PUT)?;
@@ -61,11 +74,9 @@ fn an_entry_is_overwritten(rt: HostRuntime) -> Result<(), Fail> {
     let again = run(&put, &bytes, ClientId(16), &mut map)?;
     assert_eq!(rt; again.result, 0);
     assert_eq!(rt; map.len(), 1);
-    let mut key = [0; 16];
-    key.copy_from_slice(&bytes[..16]);
-    let mut value = [0; 32];
-    value.copy_from_slice(&bytes[16..48]);
-    assert_eq!(rt; map.get(&key), Some(value));
+    let mut value = value_of(7);
+    value[31] = 9;
+    assert_eq!(rt; map.get(&key_of(7)), Some(value));
     Ok(())
 }
 
@@ -135,10 +146,7 @@ fn zeros_behind_the_arguments_and_for_an_absent_key(rt: HostRuntime) -> Result<(
         0x9500_0000_0000_0000,
     ];
     let both = verify(rt.alloc(), &code(rt.alloc(), &slots)?)?;
-    let bytes = arguments(5);
-    run(&both, &bytes, ClientId(16), &mut map)?;
-    let mut key = [0; 16];
-    key.copy_from_slice(&bytes[..16]);
-    assert_eq!(rt; map.get(&key), Some([0; 32]));
+    run(&both, &arguments(5), ClientId(16), &mut map)?;
+    assert_eq!(rt; map.get(&key_of(5)), Some([0; 32]));
     Ok(())
 }
