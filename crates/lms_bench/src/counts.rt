@@ -1,4 +1,4 @@
-// How many blocks of SHA-256 each work takes, counted from the very signature.
+//! How many blocks of SHA-256 each work takes, counted from the very signature.
 
 use lms_ots::digits;
 use sha2::{Digest, Sha256};

@@ -1,5 +1,6 @@
 //! Signs and verifies once. With the argument `time` it prints what keys, signatures and
-//! verification cost beside as many one-block hashes as they take, from one run.
+//! verification cost against as many one-block hashes as they take, from one run, and ends with 1
+//! where a limit is passed.
 #![tactic(auto)]
 
 use anyhow::{Result, anyhow};

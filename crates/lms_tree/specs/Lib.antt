@@ -3,3 +3,4 @@ pub mod Nodes
 pub mod Tree
 pub mod Signature
 pub mod SigningState
+pub mod Keys

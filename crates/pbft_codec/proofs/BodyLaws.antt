@@ -22,9 +22,10 @@ use Rattle.pbft_codec.specs.declared.kind.Kind.TheVariants as kinds
 use Rattle.pbft_codec.specs.declared.signed.Signed.{Signed}
 use Rattle.pbft_codec.specs.Kinds.{kind_byte, kind_of}
 use Rattle.pbft_codec.specs.Reading.{Reading, pair, map, number_at, view_at, client_at, sequence_number_at, digest_at, length_prefixed_at, signed_at, ascending_at, list_at, behind, kind_at, request_at, proposal_at, pre_prepare_at, prepare_at, commit_at, reply_at, checkpoint_at, certificate_at, view_change_at, new_view_at, fetch_at, snapshot_at}
-use Rattle.pbft_codec.specs.WellFormed.{IsSequenceNumber, IsView, IsDigest, CertificateWellFormed, ViewChangeWellFormed, BodyWellFormed, ProposalFieldsInRange}
+use Rattle.pbft_codec.specs.Limits.{IsSequenceNumber, IsView, IsDigest, CertificateWellFormed, ViewChangeWellFormed, ProposalFieldsInRange}
+use Rattle.pbft_codec.specs.Bodies.{BodyWellFormed}
 use Rattle.pbft_codec.proofs.Widths.{LengthInRange, CertificateWidths, ViewChangeWidths, BodyWidths}
-use Rattle.pbft_codec.specs.Encoding.{view, client, number, length_prefixed, encoded_list, of_kind, request, proposal, pre_prepare, prepare, commit, reply, checkpoint, signed_pre_prepare, signed_prepare, signed_checkpoint, certificate, view_change, signed_view_change, new_view, fetch, snapshot}
+use Rattle.pbft_codec.specs.Layouts.{view, client, number, length_prefixed, encoded_list, of_kind, request, proposal, pre_prepare, prepare, commit, reply, checkpoint, signed_pre_prepare, signed_prepare, signed_checkpoint, certificate, view_change, signed_view_change, new_view, fetch, snapshot}
 use Rattle.pbft_codec.proofs.Forms.{IsBytes, IsBytes-rest, bind_ok, ok_is, Takes, IsForm, form_pair, form_map, forms_many, AllFrom}
 use Rattle.pbft_codec.proofs.FieldLaws.{wide64, form_number, form_view, form_client, form_sequence_number, form_digest, form_counted, form_signed, form_listed}
 use Rattle.pbft_codec.proofs.ListLaws.{SignedReadable, split_signed, join_signed, split_ascending, join_ascending, split_any, join_any, split_each, join_each}

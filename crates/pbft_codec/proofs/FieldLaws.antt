@@ -11,9 +11,9 @@ use Rattle.pbft_codec.specs.declared.fault.CodecFault.TheVariants.{Truncated, Ba
 use Rattle.pbft_codec.specs.declared.signed.Role.{Role}
 use Rattle.pbft_codec.specs.declared.signed.Role.TheVariants.{Replica, Client}
 use Rattle.pbft_codec.specs.Reading.{◌>>=◌, Reading, pair, whole, many_at, number_at, number_unless, bounded_list_at, view_at, client_at, sequence_number_at, digest_at, length_prefixed_at, count_at, role_at, id_at, framed, signed_at}
-use Rattle.pbft_codec.specs.WellFormed.{IsSequenceNumber, IsView, IsDigest}
+use Rattle.pbft_codec.specs.Limits.{IsSequenceNumber, IsView, IsDigest}
 use Rattle.pbft_codec.proofs.Widths.{LengthInRange, SignedWidths}
-use Rattle.pbft_codec.specs.Encoding.{role_byte, view, client, number, length_prefixed, encoded_list, signed}
+use Rattle.pbft_codec.specs.Layouts.{role_byte, view, client, number, length_prefixed, encoded_list, signed}
 use Rattle.pbft_codec.proofs.Forms.{IsBytes, IsBytes-drop, IsBytes-take, IsBytes-rest, bind_ok, guard_ok, ok_is, Takes, Takes-then, IsForm, form_pair, form_map, whole_takes, whole_again, AreForms, AllFrom, IsCut, cut}
 
 -- ---- numbers

@@ -5,3 +5,5 @@ pub mod FieldLaws
 pub mod ListLaws
 pub mod BodyLaws
 pub mod MessageLaws
+pub mod LengthLaws
+pub mod EncodingLaws

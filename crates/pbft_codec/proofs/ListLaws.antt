@@ -2,7 +2,7 @@
 use Rattle.std.proofs.Common.{ℕ, ◌+◌, ◌≤◌, List, [], ◌∷◌, arith}
 use Rattle.std.specs.List.{AllByRecursion}
 use Rattle.pbft_codec.specs.declared.signed.Signed.{Signed}
-use Rattle.pbft_codec.specs.WellFormed.{AscendFrom, EachBody}
+use Rattle.pbft_codec.specs.Limits.{AscendFrom, EachBody}
 use Rattle.pbft_codec.proofs.Widths.{SignedWidths}
 use Rattle.pbft_codec.proofs.Forms.{AllFrom}
 

@@ -17,7 +17,9 @@ use Rattle.pbft_codec.specs.Kinds.{kind_byte, kind_of, kinds as every_kind}
 use Rattle.pbft_codec.specs.Reading.{IsUnlessMemory, Reading, pair, map, whole, number_at, role_at, signed_at, request_at, pre_prepare_at, prepare_at, commit_at, reply_at, checkpoint_at, view_change_at, new_view_at, fetch_at, snapshot_at, fields_at, known_at, body_at, reading}
 use Rattle.pbft_codec.specs.WellFormed.{WellFormed, Encodes}
 use Rattle.pbft_codec.proofs.Widths.{SignedWidths, narrow_body, widen_message}
-use Rattle.pbft_codec.specs.Encoding.{request, pre_prepare, prepare, commit, reply, checkpoint, view_change, new_view, fetch, snapshot, kind_in, fields, body, role_byte, encoding, signed_text, max_bytes}
+use Rattle.pbft_codec.specs.Layouts.{request, pre_prepare, prepare, commit, reply, checkpoint, view_change, new_view, fetch, snapshot, role_byte}
+use Rattle.pbft_codec.specs.Bodies.{kind_in, fields}
+use Rattle.pbft_codec.specs.Encoding.{body, encoding, signed_text, max_bytes}
 use Rattle.pbft_codec.proofs.Forms.{IsBytes, IsBytes-rest, bind_ok, ok_is, Takes, IsForm, form_pair, whole_takes, whole_again, whole_behind}
 use Rattle.pbft_codec.proofs.FieldLaws.{wide32, form_number, form_role, form_signed}
 use Rattle.pbft_codec.proofs.BodyLaws.{BodyReadable, form_request, form_pre_prepare, form_prepare, form_commit, form_reply, form_checkpoint, form_view_change, form_new_view, form_fetch, form_snapshot}

@@ -12,12 +12,14 @@ use Rattle.pbft_codec.specs.declared.body.prepare.Prepare.{Prepare}
 use Rattle.pbft_codec.specs.declared.body.view_change.ViewChange.{ViewChange}
 use Rattle.pbft_codec.specs.declared.kind.Kind.TheVariants as kinds
 use Rattle.pbft_codec.specs.declared.signed.Signed.{Signed}
-use Rattle.pbft_codec.specs.Encoding.{of_kind, length_prefixed, encoded_list, signed, request, pre_prepare, prepare, reply, checkpoint, signed_pre_prepare, signed_prepare, signed_checkpoint, certificate, view_change, signed_view_change, new_view, snapshot, body, encoding, max_bytes}
+use Rattle.pbft_codec.specs.Layouts.{of_kind, length_prefixed, encoded_list, signed, request, pre_prepare, prepare, reply, checkpoint, signed_pre_prepare, signed_prepare, signed_checkpoint, certificate, view_change, signed_view_change, new_view, snapshot}
+use Rattle.pbft_codec.specs.Encoding.{body, encoding, max_bytes}
 use Rattle.std.specs.Int.{w32, to_be_bytes}
 use Rattle.std.specs.List.{flat_map}
 use Rattle.std.proofs.lemmas.List.{length-append}
 use Rattle.std.proofs.lemmas.List.Concat.{flat_map-cons}
-use Rattle.pbft_codec.specs.WellFormed.{IsView, IsDigest, ProposalFieldsInRange, SignedFieldsInRange, PrePrepareFieldsInRange, PrepareFieldsInRange, CheckpointFieldsInRange, CertificateFieldsInRange, ViewChangeFieldsInRange, NewViewFieldsInRange, BodyFieldsInRange}
+use Rattle.pbft_codec.specs.Limits.{IsView, IsDigest, ProposalFieldsInRange, SignedFieldsInRange, PrePrepareFieldsInRange, PrepareFieldsInRange, CheckpointFieldsInRange, CertificateFieldsInRange, ViewChangeFieldsInRange, NewViewFieldsInRange}
+use Rattle.pbft_codec.specs.Bodies.{BodyFieldsInRange}
 
 abbrev pub LengthInRange : List ℕ → Type 0
 LengthInRange bytes = length bytes < 2 ^ 32
@@ -66,19 +68,19 @@ BodyWidths (bodies.Snapshot s) = LengthInRange s.state
 
 -- ---- lengths of wholes and of parts
 
-length_length_prefixed : (bytes : List ℕ) → length (length_prefixed bytes) ≡ 4 + length bytes
+pub length_length_prefixed : (bytes : List ℕ) → length (length_prefixed bytes) ≡ 4 + length bytes
 unfolding length_prefixed
 length_length_prefixed bytes = omega (arith, length-append (to_be_bytes w32 (length bytes)) bytes)
 
-length_signed : {B : Type 0} (s : B → List ℕ) (m : Signed B) → length (signed s m) ≡ 13 + length (s m.body) + length m.sig
+pub length_signed : {B : Type 0} (s : B → List ℕ) (m : Signed B) → length (signed s m) ≡ 13 + length (s m.body) + length m.sig
 unfolding signed
 length_signed s m = omega (arith, length-append (length_prefixed (s m.body)) (length_prefixed m.sig), length_length_prefixed (s m.body), length_length_prefixed m.sig)
 
-length_list : {A : Type 0} (s : A → List ℕ) (xs : List A) → length (encoded_list s xs) ≡ 4 + length (flat_map s xs)
+pub length_list : {A : Type 0} (s : A → List ℕ) (xs : List A) → length (encoded_list s xs) ≡ 4 + length (flat_map s xs)
 unfolding encoded_list
 length_list s xs = omega (arith, length-append (to_be_bytes w32 (length xs)) (flat_map s xs))
 
-length_more : {A : Type 0} (s : A → List ℕ) (x : A) (xs : List A) → length (flat_map s (x ∷ xs)) ≡ length (s x) + length (flat_map s xs)
+pub length_more : {A : Type 0} (s : A → List ℕ) (x : A) (xs : List A) → length (flat_map s (x ∷ xs)) ≡ length (s x) + length (flat_map s xs)
 length_more s x xs = ap length (flat_map-cons s x xs) ∙ length-append (s x) (flat_map s xs)
 
 -- ---- lengths left out

@@ -1,5 +1,9 @@
 pub mod Faults
 pub mod Kinds
+pub mod Layouts
+pub mod Limits
+pub mod Lengths
+pub mod Bodies
 pub mod Encoding
 pub mod WellFormed
 pub mod Reading

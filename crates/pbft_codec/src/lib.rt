@@ -6,7 +6,6 @@
 //! certificates. Contracts see each of these types as plain data: bytes and sequences as lists.
 #![tactic(auto)]
 
-mod bodies;
 mod body;
 mod codec;
 mod fault;
@@ -15,9 +14,11 @@ mod kind;
 mod laws;
 mod lists;
 mod message;
-mod nested;
+mod message_body;
+mod sender;
 mod sequence;
 mod signed;
+mod try_clone;
 mod writing;
 
 pub use body::{
@@ -26,10 +27,15 @@ pub use body::{
     ViewChanges,
 };
 pub use fault::CodecFault;
-pub use laws::{bytes_encode_one_message, signed_bytes_determine_signer_and_body};
-pub use message::{decode, encode, signed_bytes};
+pub use laws::{
+    bytes_encode_one_message, encodings_have_these_lengths, signed_bytes_determine_signer_and_body,
+};
+pub use message::{decode, encode, signed_bytes, signed_parts};
+pub use message_body::MessageBody;
+pub use sender::Sender;
 pub use sequence::Sequence;
 pub use signed::{Role, Signed};
+pub use try_clone::TryClone;
 
 #[cfg(test)]
 mod tests;

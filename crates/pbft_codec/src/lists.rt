@@ -3,8 +3,8 @@
 ghost use Rattle.std.specs.Prelude.{◌≡◌, List, ℕ, ◌+◌, ◌++◌, Result, OnOk};
 ghost use Rattle.pbft_codec.specs.Reading.{Gives, whole, framed, signed_at, many_at, ascending_at, list_at};
 ghost use Rattle.std.specs.List.{AllByRecursion};
-ghost use Rattle.pbft_codec.specs.WellFormed.{SignedFieldsInRange};
-ghost use Rattle.pbft_codec.specs.Encoding.{signed, encoded_list};
+ghost use Rattle.pbft_codec.specs.Limits.{SignedFieldsInRange};
+ghost use Rattle.pbft_codec.specs.Layouts.{signed, encoded_list};
 
 use crate::codec::Codec;
 use crate::fault::{CodecFault, ReadError};
@@ -13,6 +13,13 @@ use crate::sequence::Sequence;
 use crate::signed::Signed;
 use crate::writing::{put_length, put_length_prefixed, put_role, put_u32};
 use std::alloc::{AllocError, Global};
+
+/// The most messages of one kind in a list of signers: one of each replica, 3f + 1 with f at most 3.
+pub const MAX_SIGNERS: u32 = 10;
+
+/// The most sequence numbers in a list: those between the water marks, two checkpoint intervals of at
+/// most 8.
+pub const MAX_SEQUENCE_NUMBERS: u32 = 16;
 
 /// A value that fills the bytes.
 pub fn read_whole<T: Codec>(alloc: Global, bytes: &[u8]) -> Result<T, ReadError>
@@ -124,7 +131,7 @@ pub fn read_list<T: Codec>(
 }
 
 /// Writes a signed body.
-#[tactic(auto, unfolding(crate::specs::Encoding::signed))]
+#[tactic(auto, unfolding(crate::specs::Layouts::signed))]
 pub fn put_signed<B: Codec>(
     alloc: Global,
     out: &mut Vec<u8>,
@@ -142,7 +149,7 @@ pub fn put_signed<B: Codec>(
 }
 
 /// Writes a count and the values.
-#[tactic(auto, unfolding(crate::specs::Encoding::encoded_list))]
+#[tactic(auto, unfolding(crate::specs::Layouts::encoded_list))]
 pub fn put_list<T: Codec>(alloc: Global, out: &mut Vec<u8>, values: &[T]) -> Result<(), AllocError>
     ensures text { OnOk result (out.new.items ≡ out.old.items ++ encoded_list T.encoded values.now) }
     ensures fits { OnOk result (AllByRecursion T.fields_in_range values.now) }

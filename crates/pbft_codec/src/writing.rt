@@ -3,8 +3,8 @@
 ghost use Rattle.std.specs.Prelude.{◌≡◌, ◌<◌, ◌^◌, ◌++◌, ◌∷◌, [], List, length, OnOk};
 ghost use Rattle.std.specs.Int.{w32, w64, to_be_bytes};
 ghost use Rattle.pbft_codec.specs.Kinds.{kind_byte};
-ghost use Rattle.pbft_codec.specs.WellFormed.{IsDigest, ProposalFieldsInRange};
-ghost use Rattle.pbft_codec.specs.Encoding.{role_byte, view, number, length_prefixed, proposal};
+ghost use Rattle.pbft_codec.specs.Limits.{IsDigest, ProposalFieldsInRange};
+ghost use Rattle.pbft_codec.specs.Layouts.{role_byte, view, number, length_prefixed, proposal};
 
 use crate::kind::Kind;
 use crate::signed::Role;
@@ -47,7 +47,7 @@ pub fn put_kind(out: &mut Vec<u8>, kind: Kind) -> Result<(), AllocError>
 }
 
 /// Writes a length and the bytes.
-#[tactic(auto, unfolding(crate::specs::Encoding::length_prefixed))]
+#[tactic(auto, unfolding(crate::specs::Layouts::length_prefixed))]
 pub fn put_length_prefixed(out: &mut Vec<u8>, bytes: &[u8]) -> Result<(), AllocError>
     ensures { OnOk result (out.new.items ≡ out.old.items ++ length_prefixed bytes.now) }
 {
@@ -63,7 +63,7 @@ pub fn put_digest(out: &mut Vec<u8>, digest: Digest) -> Result<(), AllocError>
 }
 
 /// Writes a view, a number and a digest.
-#[tactic(auto, unfolding(crate::specs::Encoding::proposal))]
+#[tactic(auto, unfolding(crate::specs::Layouts::proposal))]
 pub fn put_proposal(
     out: &mut Vec<u8>,
     view: View,

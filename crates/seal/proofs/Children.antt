@@ -12,12 +12,14 @@ use Rattle.pbft_codec.specs.declared.body.new_view.NewView.{NewView}
 use Rattle.pbft_codec.specs.declared.body.view_change.ViewChange.{ViewChange}
 use Rattle.pbft_codec.specs.declared.kind.Kind.TheVariants as kinds
 use Rattle.pbft_codec.specs.declared.signed.Signed.{Signed}
-use Rattle.pbft_codec.specs.WellFormed.{BodyWellFormed, CertificateWellFormed, ViewChangeWellFormed, NewViewWellFormed, IsSequenceNumber}
-use Rattle.pbft_codec.specs.Encoding.{max_bytes, of_kind, number, view, encoded_list, signed, signed_pre_prepare, signed_prepare, signed_checkpoint, signed_view_change, pre_prepare, prepare, checkpoint, certificate, view_change, new_view, body, encoding}
+use Rattle.pbft_codec.specs.Limits.{CertificateWellFormed, ViewChangeWellFormed, NewViewWellFormed, IsSequenceNumber}
+use Rattle.pbft_codec.specs.Bodies.{BodyWellFormed}
+use Rattle.pbft_codec.specs.Layouts.{of_kind, number, view, encoded_list, signed, signed_pre_prepare, signed_prepare, signed_checkpoint, signed_view_change, pre_prepare, prepare, checkpoint, certificate, view_change, new_view}
+use Rattle.pbft_codec.specs.Encoding.{max_bytes, body, encoding}
 use Rattle.seal.specs.Opening.{CheckedMessage, IsChecked}
 use Rattle.seal.specs.Parts.{as_message, in_certificate, in_view_change, with_nested, children_of, nested_in, messages_in}
 use Rattle.seal.specs.Signers.{IsAuthentic}
-use Rattle.seal.proofs.EncodingLaws.{length-signed}
+use Rattle.pbft_codec.proofs.Widths.{length_signed}
 use Rattle.seal.proofs.Authenticity.{all_split, all_join}
 
 pub record CanNest (c : Configuration) (m : Signed Body) : Type 0 where
@@ -44,7 +46,7 @@ unfolding body
 leaf_checkpoint = record { well_formed = λ _ h. h; text = λ _. refl; none = λ _. refl }
 
 length_same : {B : Type 0} (kind : B → Body) (fields : B → List ℕ) (m : Signed B) → body (kind m.body) ≡ fields m.body → length (encoding (as_message kind m)) ≡ length (signed fields m)
-length_same kind fields m e = omega (arith, length-signed body (as_message kind m), length-signed fields m, ap length e)
+length_same kind fields m e = omega (arith, length_signed body (as_message kind m), length_signed fields m, ap length e)
 
 one : {B : Type 0} (c : Configuration) (kind : B → Body) (WellFormed : B → Type 0) (fields : B → List ℕ) (m : Signed B) → IsLeaf kind WellFormed fields → WellFormed m.body → length (signed fields m) ≤ max_bytes → IsAuthentic c (as_message kind m) → CanNest c (as_message kind m)
 one c kind WellFormed fields m leaf well_formed le authentic = record {
@@ -144,7 +146,7 @@ in_body c (bodies.Fetch f) well_formed le authentic = tt
 in_body c (bodies.Snapshot s) well_formed le authentic = tt
 
 pub children_stand : (c : Configuration) (m : Signed Body) → BodyWellFormed m.body → length (encoding m) ≤ max_bytes → AllByRecursion (IsAuthentic c) (messages_in m) → AllByRecursion (CanNest c) (children_of m.body)
-children_stand c m well_formed le authentic = in_body c m.body well_formed (omega (arith, length-signed body m)) authentic.1
+children_stand c m well_formed le authentic = in_body c m.body well_formed (omega (arith, length_signed body m)) authentic.1
 
 -- a message among those that a checked one holds
 pub child_stands : (c : CheckedMessage) (items : List (Signed Body)) (i : ℕ) (m : Signed Body) → IsChecked c → items ≡ children_of c.message.body → i < length items → m ≡ get_or items i m → CanNest c.config m

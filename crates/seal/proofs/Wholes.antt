@@ -12,7 +12,8 @@ use Rattle.pbft_codec.specs.declared.body.view_change.ViewChange.{ViewChange}
 use Rattle.pbft_codec.specs.declared.signed.Signed.{Signed}
 use Rattle.seal.specs.declared.part.Part.{Part}
 use Rattle.seal.specs.Opening.{CheckedMessage}
-use Rattle.seal.specs.Parts.{as_message, in_certificate, in_view_change, with_nested, children_of, nested_in, messages_in, part_of, parts_of}
+use Rattle.pbft_codec.specs.Bodies.{Contents, Nothing, InViewChange, InNewView, contents_of}
+use Rattle.seal.specs.Parts.{children_in, descendants_in, as_message, in_certificate, in_view_change, with_nested, children_of, nested_in, messages_in, part_of, parts_of}
 
 leaves : {B : Type 0} (kind : B → Body) (ms : List (Signed B)) → ((b : B) → nested_in (kind b) ≡ []) → flat_map messages_in (map (as_message kind) ms) ≡ map (as_message kind) ms
 leaves kind [] none = refl
@@ -42,19 +43,15 @@ changes_whole : (ms : List (Signed ViewChange)) → flat_map messages_in (map (a
 changes_whole [] = refl
 changes_whole (m ∷ ms) = ap (λ (rest : List (Signed Body)). with_nested m ++ rest) (changes_whole ms)
 
-pub children_whole : (b : Body) → flat_map messages_in (children_of b) ≡ nested_in b
-children_whole (bodies.Request r) = refl
-children_whole (bodies.PrePrepare p) = refl
-children_whole (bodies.Prepare p) = refl
-children_whole (bodies.Commit c) = refl
-children_whole (bodies.Reply r) = refl
-children_whole (bodies.Checkpoint c) = refl
-children_whole (bodies.ViewChange v) = view_change_whole v
-children_whole (bodies.NewView n) =
+contents_whole : (k : Contents) → flat_map messages_in (children_in k) ≡ descendants_in k
+contents_whole Nothing = refl
+contents_whole (InViewChange v) = view_change_whole v
+contents_whole (InNewView n) =
     pair (map (as_message bodies.ViewChange) n.changes) (map (as_message bodies.PrePrepare) n.pre_prepares) (flat_map with_nested n.changes) (map (as_message bodies.PrePrepare) n.pre_prepares)
     (changes_whole n.changes) (leaves bodies.PrePrepare n.pre_prepares (λ _. refl))
-children_whole (bodies.Fetch f) = refl
-children_whole (bodies.Snapshot s) = refl
+
+pub children_whole : (b : Body) → flat_map messages_in (children_of b) ≡ nested_in b
+children_whole b = contents_whole (contents_of b)
 
 parts_of_all : (c : Configuration) (ms : List (Signed Body)) → map part_of (flat_map messages_in ms) ≡ flat_map (λ x. parts_of x.message) (map (λ m. let x : CheckedMessage = record { config = c; message = m } in x) ms)
 parts_of_all c [] = refl

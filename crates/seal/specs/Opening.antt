@@ -1,9 +1,8 @@
--- What opening bytes gives.
-use Rattle.std.specs.Prelude.{◌≡◌, ℕ, ◌+◌, ◌*◌, List, [], Option, Some, None, Result, Ok, Err}
+-- Statement: what opening bytes gives, and what sealing a body gives.
+use Rattle.std.specs.Prelude.{◌≡◌, ℕ, ◌+◌, List, [], Option, Some, None, Result, Ok, Err}
 use Rattle.std.specs.List.{AllByRecursion}
 use Rattle.host_types.specs.Configuration.{Configuration}
-use Rattle.lms_tree.specs.declared.height.Height.{Height}
-use Rattle.lms_tree.specs.Signature.{levels_of, signature_at}
+use Rattle.lms_tree.specs.Keys.{signature_length, signature_of}
 use Rattle.lms_tree.specs.SigningState.{SigningState}
 use Rattle.pbft_codec.specs.declared.body.Body.{Body}
 use Rattle.pbft_codec.specs.declared.fault.CodecFault.{CodecFault}
@@ -52,9 +51,8 @@ IsUnlessMemory (Err fault) is = is ≡ Err fault
 abbrev pub sealed_message : SigningState → Role → ℕ → Body → Signed Body
 sealed_message s role id body =
     let unsigned : Signed Body = record { role = role; id = id; body = body; sig = [] } in
-    record { role = role; id = id; body = body; sig = signature_at s.height s.id s.secret s.next_leaf (signed_text unsigned) }
+    record { role = role; id = id; body = body; sig = signature_of s (signed_text unsigned) }
 
--- The bytes of a message beside its body: role, id, two lengths and the signature (RFC 8554, section
--- 5.4: 2,348 bytes at height 5, 2,508 at height 10).
-abbrev pub around_body : Height → ℕ
-around_body height = 13 + (2188 + 32 * levels_of height)
+-- The bytes of a message around its body: role, id, two lengths and the signature.
+abbrev pub around_body : SigningState → ℕ
+around_body s = 13 + signature_length s

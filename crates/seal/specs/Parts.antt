@@ -1,4 +1,4 @@
--- The parts of a message: what each signer in it says.
+-- Statement: the parts of a message, which are what each signer in it says.
 use Rattle.std.specs.Prelude.{List, [], ◌∷◌, ◌++◌, map}
 use Rattle.std.specs.List.{flat_map}
 use Rattle.pbft_codec.specs.declared.body.Body.{Body}
@@ -6,6 +6,7 @@ use Rattle.pbft_codec.specs.declared.body.Body.TheVariants as bodies
 use Rattle.pbft_codec.specs.declared.body.certificate.Certificate.{Certificate}
 use Rattle.pbft_codec.specs.declared.body.view_change.ViewChange.{ViewChange}
 use Rattle.pbft_codec.specs.declared.signed.Signed.{Signed}
+use Rattle.pbft_codec.specs.Bodies.{Contents, Nothing, InViewChange, InNewView, contents_of}
 use Rattle.seal.specs.declared.part.Part.{Part}
 
 -- A signed body of one kind as a message.
@@ -23,30 +24,22 @@ abbrev pub with_nested : Signed ViewChange → List (Signed Body)
 with_nested m = as_message bodies.ViewChange m ∷ in_view_change m.body
 
 -- The messages that a body holds itself, from left to right.
+abbrev pub children_in : Contents → List (Signed Body)
+children_in Nothing = []
+children_in (InViewChange v) = in_view_change v
+children_in (InNewView n) = map (as_message bodies.ViewChange) n.changes ++ map (as_message bodies.PrePrepare) n.pre_prepares
+
 abbrev pub children_of : Body → List (Signed Body)
-children_of (bodies.Request r) = []
-children_of (bodies.PrePrepare p) = []
-children_of (bodies.Prepare p) = []
-children_of (bodies.Commit c) = []
-children_of (bodies.Reply r) = []
-children_of (bodies.Checkpoint c) = []
-children_of (bodies.ViewChange v) = in_view_change v
-children_of (bodies.NewView n) = map (as_message bodies.ViewChange) n.changes ++ map (as_message bodies.PrePrepare) n.pre_prepares
-children_of (bodies.Fetch f) = []
-children_of (bodies.Snapshot s) = []
+children_of b = children_in (contents_of b)
 
 -- The messages nested in a body, each before those nested in it, from left to right.
+abbrev pub descendants_in : Contents → List (Signed Body)
+descendants_in Nothing = []
+descendants_in (InViewChange v) = in_view_change v
+descendants_in (InNewView n) = flat_map with_nested n.changes ++ map (as_message bodies.PrePrepare) n.pre_prepares
+
 abbrev pub nested_in : Body → List (Signed Body)
-nested_in (bodies.Request r) = []
-nested_in (bodies.PrePrepare p) = []
-nested_in (bodies.Prepare p) = []
-nested_in (bodies.Commit c) = []
-nested_in (bodies.Reply r) = []
-nested_in (bodies.Checkpoint c) = []
-nested_in (bodies.ViewChange v) = in_view_change v
-nested_in (bodies.NewView n) = flat_map with_nested n.changes ++ map (as_message bodies.PrePrepare) n.pre_prepares
-nested_in (bodies.Fetch f) = []
-nested_in (bodies.Snapshot s) = []
+nested_in b = descendants_in (contents_of b)
 
 -- A message and all that is nested in it.
 abbrev pub messages_in : Signed Body → List (Signed Body)

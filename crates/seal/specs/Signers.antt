@@ -1,14 +1,17 @@
--- Who may sign what, and what is wrong with a part.
+-- Statement: who may sign what, and what is wrong with a part.
 use Rattle.std.specs.Prelude.{◌≡◌, ℕ, ◌%◌, ◌==◌, not, Bool, true, false, IsTrue, List, [], ◌∷◌, Option, Some, None, is_some, slice_get, if◌then◌else◌}
 use Rattle.std.specs.Option.{option_map}
 use Rattle.host_types.specs.Configuration.{Configuration, entry_of, replicas_for}
 use Rattle.host_types.specs.declared.View.{View}
+use Rattle.lms_tree.specs.Keys.{IsValid}
 use Rattle.lms_tree.specs.Signature.{signature_fault}
 use Rattle.pbft_codec.specs.declared.body.Body.{Body}
-use Rattle.pbft_codec.specs.declared.body.Body.TheVariants as bodies
+use Rattle.pbft_codec.specs.declared.sender.Sender.{Sender}
+use Rattle.pbft_codec.specs.declared.sender.Sender.TheVariants as senders
 use Rattle.pbft_codec.specs.declared.signed.Role.{Role}
 use Rattle.pbft_codec.specs.declared.signed.Role.TheVariants.{Replica, Client}
 use Rattle.pbft_codec.specs.declared.signed.Signed.{Signed}
+use Rattle.pbft_codec.specs.Bodies.{sender_of}
 use Rattle.pbft_codec.specs.Encoding.{signed_text}
 use Rattle.seal.specs.declared.fault.SealFault.{SealFault}
 use Rattle.seal.specs.declared.fault.SealFault.TheVariants.{UnknownSigner, BadSignature, WrongRole}
@@ -21,43 +24,31 @@ key_of c Client id = option_map (λ entry. entry.key) (entry_of c.clients id)
 abbrev pub primary_of : Configuration → View → ℕ
 primary_of c view = view.0 % replicas_for c.f
 
--- What a client may sign: Requests alone.
-abbrev pub client_may_sign : Body → Bool
-client_may_sign (bodies.Request r) = true
-client_may_sign (bodies.PrePrepare p) = false
-client_may_sign (bodies.Prepare p) = false
-client_may_sign (bodies.Commit c) = false
-client_may_sign (bodies.Reply r) = false
-client_may_sign (bodies.Checkpoint c) = false
-client_may_sign (bodies.ViewChange v) = false
-client_may_sign (bodies.NewView n) = false
-client_may_sign (bodies.Fetch f) = false
-client_may_sign (bodies.Snapshot s) = false
+-- Whether a client is such a sender.
+abbrev pub client_may_send : Sender → Bool
+client_may_send senders.Client = true
+client_may_send senders.Replica = false
+client_may_send (senders.Primary view) = false
+client_may_send (senders.Backup view) = false
 
--- What a replica may sign: all but Requests. PrePrepares and NewViews come from their view's primary,
--- Prepares from the others.
-abbrev pub replica_may_sign : Configuration → ℕ → Body → Bool
-replica_may_sign c id (bodies.Request r) = false
-replica_may_sign c id (bodies.PrePrepare p) = primary_of c p.view == id
-replica_may_sign c id (bodies.Prepare p) = not (primary_of c p.view == id)
-replica_may_sign c id (bodies.Commit m) = true
-replica_may_sign c id (bodies.Reply r) = true
-replica_may_sign c id (bodies.Checkpoint m) = true
-replica_may_sign c id (bodies.ViewChange v) = true
-replica_may_sign c id (bodies.NewView n) = primary_of c n.view == id
-replica_may_sign c id (bodies.Fetch f) = true
-replica_may_sign c id (bodies.Snapshot s) = true
+-- Whether the replica with this id is such a sender.
+abbrev pub replica_may_send : Configuration → ℕ → Sender → Bool
+replica_may_send c id senders.Client = false
+replica_may_send c id senders.Replica = true
+replica_may_send c id (senders.Primary view) = primary_of c view == id
+replica_may_send c id (senders.Backup view) = not (primary_of c view == id)
 
+-- Whether a body may come from this signer.
 abbrev pub may_sign : Configuration → Role → ℕ → Body → Bool
-may_sign c Replica id body = replica_may_sign c id body
-may_sign c Client id body = client_may_sign body
+may_sign c Replica id body = replica_may_send c id (sender_of body)
+may_sign c Client id body = client_may_send (sender_of body)
 
 -- A message whose signer is listed, may sign its body, and did.
 pub record IsAuthentic (c : Configuration) (m : Signed Body) : Type 0 where
   pub key : List ℕ
   pub listed : key_of c m.role m.id ≡ Some key
   pub role : IsTrue (may_sign c m.role m.id m.body)
-  pub signature : signature_fault key (signed_text m) m.sig ≡ None
+  pub signature : IsValid key (signed_text m) m.sig
 
 -- ---- the first fault
 

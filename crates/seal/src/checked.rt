@@ -1,6 +1,7 @@
 ghost use Rattle.std.specs.Prelude.{◌≡◌, ◌≤◌, length, IfOk};
 ghost use Rattle.std.specs.List.{AllByRecursion};
-ghost use Rattle.pbft_codec.specs.WellFormed.{BodyWellFormed, Encodes};
+ghost use Rattle.pbft_codec.specs.Bodies.{BodyWellFormed};
+ghost use Rattle.pbft_codec.specs.WellFormed.{Encodes};
 ghost use Rattle.pbft_codec.specs.Encoding.{max_bytes, encoding};
 ghost use Rattle.seal.specs.Opening.{CheckedMessage, IsChecked};
 ghost use Rattle.seal.specs.Parts.{messages_in};
@@ -127,7 +128,8 @@ impl Checked {
         Ok(Checked { inner })
     }
 
-    pub(crate) fn message(&self) -> &Signed
+    /// The message, with its signature: a list of such messages can be nested in another body (`TryClone`).
+    pub fn message(&self) -> &Signed
         ensures value { result.now ≡ self.now.message }
         ensures checked { IsChecked self.now }
     {

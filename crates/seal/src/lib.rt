@@ -6,14 +6,12 @@
 
 mod checked;
 mod fault;
-mod nested_body;
 mod nested_messages;
 mod opening;
 mod part;
 mod sealing;
 #[cfg(test)]
 mod tests;
-mod try_clone;
 mod verify_parts;
 
 pub use checked::Checked;

@@ -4,12 +4,10 @@ ghost use Rattle.std.specs.Prelude.{◌≡◌, ◌++◌, ◌∷◌, [], List, ma
 ghost use Rattle.std.specs.List.{flat_map};
 ghost use Rattle.seal.specs.Parts.{as_message, in_certificate, in_view_change, with_nested, children_of, nested_in};
 
-use crate::nested_body::NestedBody;
-use crate::try_clone::TryClone;
-use pbft_codec::{Body, Certificate, Signed, ViewChange};
+use pbft_codec::{Body, Certificate, MessageBody, Signed, TryClone, ViewChange};
 use std::alloc::{AllocError, Global};
 
-fn clone_message<B: NestedBody>(alloc: Global, message: &Signed<B>) -> Result<Signed, AllocError>
+fn clone_message<B: MessageBody>(alloc: Global, message: &Signed<B>) -> Result<Signed, AllocError>
     ensures { IfOk result (λ copy. copy ≡ as_message B.as_body message.now) }
 {
     let Signed {
@@ -26,7 +24,7 @@ fn clone_message<B: NestedBody>(alloc: Global, message: &Signed<B>) -> Result<Si
     })
 }
 
-fn push_message<B: NestedBody>(
+fn push_message<B: MessageBody>(
     alloc: Global,
     out: &mut Vec<Signed>,
     message: &Signed<B>,
@@ -37,7 +35,7 @@ fn push_message<B: NestedBody>(
     Ok(())
 }
 
-fn push_messages<B: NestedBody>(
+fn push_messages<B: MessageBody>(
     alloc: Global,
     out: &mut Vec<Signed>,
     messages: &[Signed<B>],

@@ -14,10 +14,9 @@ use crate::checked::Checked;
 use crate::fault::SealFault;
 use crate::nested_messages::{children, descendants};
 use crate::part::Part;
-use crate::try_clone::TryClone;
 use crate::verify_parts::verify_message;
 use host_types::{Bytes, Config, Digest};
-use pbft_codec::{Signed, decode};
+use pbft_codec::{Signed, TryClone, decode, signed_parts};
 use sha2::{Digest as _, Sha256};
 use std::alloc::{AllocError, Global};
 use std::sync::Arc;
@@ -49,7 +48,7 @@ fn opened(alloc: Global, config: &Arc<Config>, bytes: &[u8]) -> Result<Checked, 
     ensures proper { IfErr result IsProper }
 {
     let message = decode(alloc, bytes)?;
-    verify_message(alloc, config, &message)?;
+    verify_message(alloc, config, &message, bytes)?;
     let copy = Vec::from_slice(alloc, bytes)?;
     Ok(Checked::new(alloc, config, message, Bytes::from_vec(copy))?)
 }
@@ -102,11 +101,8 @@ fn messages_within(alloc: Global, message: &Checked) -> Result<Vec<Checked>, All
 pub fn request_digest(message: &Checked) -> Digest
     ensures { result.0 ≡ sha256 (signed_text message.now.message) }
 {
-    let (signer, rest) = message.bytes().split_at(5);
-    let (_, rest) = rest.split_at(4);
-    let behind = 4 + message.message().sig.as_slice().len();
-    let (said, _) = rest.split_at(rest.len() - behind);
-    Digest(digest_of_both(signer, said))
+    let (head, body) = signed_parts(message.message(), message.bytes());
+    Digest(digest_of_both(head, body))
 }
 
 fn digest_of_both(front: &[u8], back: &[u8]) -> [u8; 32]

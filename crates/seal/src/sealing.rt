@@ -1,9 +1,8 @@
-ghost use Rattle.std.specs.Prelude.{◌≡◌, ◌⊎◌, ◌↔◌, ◌+◌, ◌≤◌, [], IsTrue, IfOk, IsErrOf, Some, length};
+ghost use Rattle.std.specs.Prelude.{◌≡◌, ◌⊎◌, ◌↔◌, ◌+◌, ◌≤◌, [], IsTrue, IfOk, IsErrOf, IsSomeAnd, length};
 ghost use Rattle.std.specs.List.{AllByRecursion};
 ghost use Rattle.lms_tree.specs.declared.fault.SignFault.{SignFault};
-ghost use Rattle.lms_tree.specs.Signature.{public_key_of};
-ghost use Rattle.lms_tree.specs.SigningState.{leaf_count_of};
-ghost use Rattle.pbft_codec.specs.WellFormed.{BodyWellFormed};
+ghost use Rattle.lms_tree.specs.Keys.{IsKeyOf, after_signing, leaf_count};
+ghost use Rattle.pbft_codec.specs.Bodies.{BodyWellFormed};
 ghost use Rattle.pbft_codec.specs.Encoding.{body as encoded_body, max_bytes};
 ghost use Rattle.seal.specs.Opening.{sealed_message, around_body};
 ghost use Rattle.seal.specs.Parts.{nested_in};
@@ -41,17 +40,17 @@ pub fn seal(
     id: u32,
     body: Body,
 ) -> Result<Checked, SignFault>
-    requires key { key_of config.now.value role id ≡ Some (public_key_of signer.old.height signer.old.id signer.old.secret) }
+    requires key { IsSomeAnd (key_of config.now.value role id) (λ key. IsKeyOf key signer.old) }
     requires role { IsTrue (may_sign config.now.value role id body) }
     requires well_formed { BodyWellFormed body }
-    requires within { length (encoded_body body) + around_body signer.old.height ≤ max_bytes }
+    requires within { length (encoded_body body) + around_body signer.old ≤ max_bytes }
     requires nested { AllByRecursion (IsAuthentic config.now.value) (nested_in body) }
     ensures signed { IfOk result (λ c. c ≡ record { config = config.now.value; message = sealed_message signer.old role id body }) }
-    ensures used { IfOk result (λ _. signer.new ≡ record signer.old { next_leaf = signer.old.next_leaf + 1 }) }
-    ensures exhausted { IsErrOf result SignFault.Exhausted ↔ (signer.old.next_leaf ≡ leaf_count_of signer.old.height) }
+    ensures used { IfOk result (λ _. signer.new ≡ after_signing signer.old) }
+    ensures exhausted { IsErrOf result SignFault.Exhausted ↔ (signer.old.next_leaf ≡ leaf_count signer.old) }
     ensures unchanged { IsErrOf result SignFault.Exhausted → signer.new ≡ signer.old }
     ensures memory { IsErrOf result SignFault.Memory →
-        (signer.new ≡ signer.old) ⊎ (signer.new ≡ record signer.old { next_leaf = signer.old.next_leaf + 1 }) }
+        (signer.new ≡ signer.old) ⊎ (signer.new ≡ after_signing signer.old) }
 {
     if signer.leaves_left() == 0 {
         return Err(SignFault::Exhausted);

@@ -1,5 +1,5 @@
 ghost use Rattle.std.specs.Prelude.{◌≡◌, [], IfOk};
-ghost use Rattle.pbft_codec.specs.WellFormed.{BodyWellFormed};
+ghost use Rattle.pbft_codec.specs.Bodies.{BodyWellFormed};
 ghost use Rattle.seal.specs.Parts.{nested_in};
 
 use super::*;

@@ -1,6 +1,6 @@
 //! Opens a Commit and reads a full NewView. With the argument `time` it prints what reading
-//! messages costs beside copying their bytes, and what opening one costs beside the verification of
-//! its signature, from one run.
+//! messages costs against copying their bytes, and what opening one costs against the verification of
+//! its signature, from one run, and ends with 1 where a limit is passed.
 #![tactic(auto)]
 
 use anyhow::{Result, anyhow};

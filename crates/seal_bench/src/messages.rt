@@ -1,4 +1,4 @@
-// Messages as bytes, put together by hand.
+//! Messages as bytes, put together by hand.
 
 use anyhow::Result;
 use host_types::Config;
@@ -115,7 +115,7 @@ fn snapshot_body(alloc: Global) -> Result<Vec<u8>> {
 }
 
 /// A message of replica 1 with this body, where one replica may be faulty.
-fn signed(alloc: Global, body: &[u8]) -> Result<Case> {
+fn sign(alloc: Global, body: &[u8]) -> Result<Case> {
     let mut signer = Signer::from_seed(alloc, Height::H5, [1; 16], [2; 32])?;
     let key = signer.public_key();
     let mut text = Vec::new(alloc);
@@ -137,10 +137,10 @@ fn signed(alloc: Global, body: &[u8]) -> Result<Case> {
 
 /// A Commit.
 pub(crate) fn commit(alloc: Global) -> Result<Case> {
-    signed(alloc, &vote(alloc, 4, 1)?)
+    sign(alloc, &vote(alloc, 4, 1)?)
 }
 
 /// A Snapshot of some eight million bytes.
 pub(crate) fn snapshot(alloc: Global) -> Result<Case> {
-    signed(alloc, &snapshot_body(alloc)?)
+    sign(alloc, &snapshot_body(alloc)?)
 }

@@ -1,4 +1,4 @@
-// Times in one run: the least of a few rounds of each.
+//! Times in one run: the least of a few rounds of each.
 
 use crate::messages::{self, Case};
 use anyhow::{Result, anyhow};
@@ -9,14 +9,30 @@ use std::time::Instant;
 
 const ROUNDS: u32 = 30;
 
-fn print_ratio(rt: &HostRuntime, work: &str, taken: u128, beside: &str, other: u128) -> Result<()> {
-    let ratio = taken.saturating_mul(1000) / other.max(1);
+/// What reading may cost, in thousandths of one copy of the bytes.
+const READING: u128 = 3000;
+
+/// What opening may cost, in thousandths of the verification of its signature.
+const OPENING: u128 = 1050;
+
+// Prints a ratio, and returns whether it is within its limit, in thousandths.
+fn print_ratio(
+    rt: &HostRuntime,
+    work: &str,
+    taken: u128,
+    against: (&str, u128),
+    limit: u128,
+) -> Result<bool> {
+    let (other, floor) = against;
+    let ratio = taken.saturating_mul(1000) / floor.max(1);
     println!(rt;
-        "{work}: {taken} ns, {beside} {other} ns, ratio {}.{:03}",
+        "{work}: {taken} ns, {other} {floor} ns, ratio {}.{:03}, limit {}.{:03}",
         ratio / 1000,
-        ratio % 1000
+        ratio % 1000,
+        limit / 1000,
+        limit % 1000
     )?;
-    Ok(())
+    Ok(ratio <= limit)
 }
 
 // The time of reading the bytes as a message.
@@ -48,14 +64,14 @@ fn nanoseconds_of_copying(rt: &HostRuntime, bytes: &[u8]) -> Result<u128> {
     Ok(least)
 }
 
-fn print_decode(rt: &HostRuntime, work: &str, bytes: &[u8]) -> Result<()> {
+fn print_decode(rt: &HostRuntime, work: &str, bytes: &[u8]) -> Result<bool> {
     let read = nanoseconds_of_reading(rt, bytes)?;
     let copied = nanoseconds_of_copying(rt, bytes)?;
-    print_ratio(rt, work, read, "one copy of the bytes", copied)
+    print_ratio(rt, work, read, ("one copy of the bytes", copied), READING)
 }
 
 // The time of opening a message `count` times, and that of as many verifications of its signature.
-fn print_open(rt: &HostRuntime, work: &str, message: &Case, count: u32) -> Result<()> {
+fn print_open(rt: &HostRuntime, work: &str, message: &Case, count: u32) -> Result<bool> {
     let mut opened = u128::MAX;
     let mut verified = u128::MAX;
     for _ in 0..ROUNDS {
@@ -74,15 +90,21 @@ fn print_open(rt: &HostRuntime, work: &str, message: &Case, count: u32) -> Resul
         }
         verified = verified.min(start.elapsed(rt)?.as_nanos());
     }
-    print_ratio(rt, work, opened, "verification alone", verified)
+    print_ratio(rt, work, opened, ("verification alone", verified), OPENING)
 }
 
+/// Prints all ratios; an error where one passes its limit.
 pub(crate) fn print_times(rt: &HostRuntime) -> Result<()> {
     let snapshot = messages::snapshot(rt.alloc())?;
-    print_decode(rt, "reading a snapshot", &snapshot.bytes)?;
     let bytes = messages::new_view(rt.alloc())?;
-    print_decode(rt, "reading a new view", &bytes)?;
     let commit = messages::commit(rt.alloc())?;
-    print_open(rt, "opening a commit", &commit, 100)?;
-    print_open(rt, "opening a snapshot", &snapshot, 1)
+    let read = print_decode(rt, "reading a snapshot", &snapshot.bytes)?;
+    let read_nested = print_decode(rt, "reading a new view", &bytes)?;
+    let opened = print_open(rt, "opening a commit", &commit, 100)?;
+    let opened_long = print_open(rt, "opening a snapshot", &snapshot, 1)?;
+    if read && read_nested && opened && opened_long {
+        Ok(())
+    } else {
+        Err(anyhow!("a limit is passed"))
+    }
 }
