@@ -1,3 +1,5 @@
+//! The commands: what the words ask for, and the lines that are written.
+
 use crate::failure::Failure;
 use crate::input::{read_hex, read_input};
 use bpf_machine::{Finished, run};
@@ -12,10 +14,22 @@ use tenant_maps::TenantMap;
 const DEFAULT_CLIENT: u32 = 16;
 
 /// The most bytes of arguments that a call has.
-const MOST_ARGUMENTS: usize = 256;
+const MAX_ARGUMENTS: usize = 256;
 
-/// Does what the words ask for, the program's name the first of them, and answers the status: 0 done,
-/// 1 a refusal, 2 a fault of the command line, 3 want of memory, 4 a read or a write that failed. All
+/// What `--help` says below the options.
+const EXAMPLES: &str = "\
+Code and --args are hex, of either case; spaces, tabs and line ends are skipped.
+No command means exec.
+
+Examples:
+  echo 'b700000007000000 9500000000000000' | bpf_host exec
+  echo 'bf20000000000000 9500000000000000' | bpf_host exec --args '0a 0b' --client 100
+  bpf_host verify < code.hex
+
+Status: 0 done, 1 refused, 2 a fault of the command line, 3 out of memory, 4 a read or write failed";
+
+/// Does what the words ask for, the program's name the first of them, and returns the status: 0 done,
+/// 1 a refusal, 2 a fault of the command line, 3 out of memory, 4 a read or a write that failed. All
 /// lines, faults too, go to the writer.
 pub fn run_command<'a, R: AllocGlobal, I: Read, O: Write>(
     rt: &R,
@@ -23,22 +37,21 @@ pub fn run_command<'a, R: AllocGlobal, I: Read, O: Write>(
     reader: &mut I,
     writer: &mut O,
 ) -> u8 {
-    let alloc = rt.alloc();
-    match dispatch(alloc, words, reader, writer) {
+    match dispatch(rt.alloc(), words, reader, writer) {
         Ok(()) => 0,
-        Err(failure) if failure.is_told() => match tell(alloc, &failure, writer) {
-            Ok(()) => failure.status(),
-            Err(other) => other.status(),
-        },
-        Err(failure) => failure.status(),
+        Err(failure) => report(&failure, writer),
     }
 }
 
-/// Writes why a command ended early.
-fn tell<O: Write>(alloc: Global, failure: &Failure, writer: &mut O) -> Result<(), Failure> {
-    let line = format!(in alloc; "{failure}\n")?;
-    writer.write_all(line.as_bytes())?;
-    Ok(())
+/// Writes why a command ended early, where that is written, and returns the status. Takes no memory.
+pub(crate) fn report<O: Write>(failure: &Failure, writer: &mut O) -> u8 {
+    if !failure.is_reported() {
+        return failure.status();
+    }
+    match writeln!(writer, "{failure}") {
+        Ok(()) => failure.status(),
+        Err(error) => Failure::from(error).status(),
+    }
 }
 
 /// The commands and their options.
@@ -46,19 +59,20 @@ fn command_line<'a>(alloc: Global) -> Result<Command<'a>, AllocError> {
     let arguments = Arg::new(alloc, "args")
         .long("args")
         .value_name("HEX")
-        .help("the argument bytes of the call, at most 256");
+        .help("the argument bytes of the call as hex, at most 256");
     let client = Arg::new(alloc, "client")
         .long("client")
         .value_name("N")
         .value_parser(value_parser!(u32))
         .help("the client that calls [default: 16]");
-    let verify = Command::new(alloc, "verify").about("Judges code, given as hex");
+    let verify = Command::new(alloc, "verify").about("Verifies code and prints the verdict");
     let exec = Command::new(alloc, "exec")
-        .about("Judges code, given as hex, and runs it over an empty map")
+        .about("Verifies code and runs it over an empty map")
         .arg(arguments)?
         .arg(client)?;
     Command::new(alloc, "bpf_host")
-        .about("Verified BPF procedures")
+        .about("Verifies and runs BPF procedures, given as hex on standard input")
+        .after_help(EXAMPLES)
         .subcommand(verify)?
         .subcommand(exec)
 }
@@ -73,7 +87,7 @@ fn dispatch<'a, I: Read, O: Write>(
     match matches.subcommand() {
         Some(("verify", _)) => {
             let code = read_code(alloc, reader)?;
-            tell_verdict(alloc, &code, writer)?;
+            write_verdict(alloc, &code, writer)?;
             Ok(())
         }
         Some((_, options)) => exec(alloc, options, reader, writer),
@@ -81,14 +95,14 @@ fn dispatch<'a, I: Read, O: Write>(
     }
 }
 
-/// The code that the input spells in hex.
+/// The code that the input has in hex.
 fn read_code<I: Read>(alloc: Global, reader: &mut I) -> Result<Vec<u8>, Failure> {
     let input = read_input(alloc, reader)?;
     read_hex(alloc, &input)
 }
 
-/// Judges the code and writes the verdict.
-fn tell_verdict<O: Write>(
+/// Verifies the code and writes the verdict.
+fn write_verdict<O: Write>(
     alloc: Global,
     code: &[u8],
     writer: &mut O,
@@ -99,7 +113,7 @@ fn tell_verdict<O: Write>(
     Ok(procedure)
 }
 
-/// Judges the code, runs it over an empty map, and writes how it ended.
+/// Verifies the code, runs it over an empty map, and writes how it ended.
 fn exec<I: Read, O: Write>(
     alloc: Global,
     options: &ArgMatches<'_>,
@@ -108,18 +122,18 @@ fn exec<I: Read, O: Write>(
 ) -> Result<(), Failure> {
     let code = read_code(alloc, reader)?;
     let arguments = read_hex(alloc, options.get_str("args").unwrap_or("").as_bytes())?;
-    if arguments.len() > MOST_ARGUMENTS {
+    if arguments.len() > MAX_ARGUMENTS {
         return Err(Failure::ArgsTooLong);
     }
     let client = ClientId(options.get_one::<u32>("client").unwrap_or(DEFAULT_CLIENT));
-    let procedure = tell_verdict(alloc, &code, writer)?;
+    let procedure = write_verdict(alloc, &code, writer)?;
     let mut map = TenantMap::new(alloc);
     let finished = run(&procedure, &arguments, client, &mut map)?;
-    tell_ending(alloc, &finished, writer)
+    write_ending(alloc, &finished, writer)
 }
 
 /// Writes how a call ended.
-fn tell_ending<O: Write>(
+fn write_ending<O: Write>(
     alloc: Global,
     finished: &Finished,
     writer: &mut O,

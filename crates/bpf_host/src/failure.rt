@@ -1,3 +1,5 @@
+//! Why a command ends early, and with which status.
+
 use bpf_verifier::{Refusal, VerifyFault};
 use std::alloc::{AllocError, AllocFailed};
 use std::io;
@@ -21,6 +23,9 @@ pub enum Failure {
     /// The words of the command line are wrong, or ask for help.
     #[error("{0}")]
     CommandLine(clap::Error),
+    /// A word of the command line isn't UTF-8.
+    #[error("a word of the command line is not UTF-8")]
+    WordNotUtf8,
     /// Memory ran out.
     #[error("out of memory")]
     Memory,
@@ -35,14 +40,23 @@ impl Failure {
         match self {
             Failure::InputTooLong | Failure::NotHex | Failure::ArgsTooLong | Failure::Refused(_) =>
                 1,
-            Failure::CommandLine(_) => 2,
+            Failure::CommandLine(_) | Failure::WordNotUtf8 => 2,
             Failure::Memory => 3,
             Failure::Stream(_) => 4,
         }
     }
 
-    /// Whether its text is written: want of memory and a broken stream say no more.
-    pub(crate) fn is_told(&self) -> bool {
+    /// The fault of a command line whose words could not be read: one that isn't UTF-8, or no memory
+    /// for them.
+    pub(crate) fn from_words(error: &io::Error) -> Failure {
+        match error.kind() {
+            io::ErrorKind::OutOfMemory => Failure::Memory,
+            _ => Failure::WordNotUtf8,
+        }
+    }
+
+    /// Whether its text is written: nothing is said where memory ran out or a stream failed.
+    pub(crate) fn is_reported(&self) -> bool {
         self.status() < 3
     }
 }

@@ -1,9 +1,11 @@
+//! Standard input, up to the program's limit, and hex.
+
 use crate::failure::Failure;
 use std::alloc::Global;
 use std::io::Read;
 
 /// The most bytes of input that the program takes.
-const MOST_INPUT: usize = 1_048_576;
+const MAX_INPUT: usize = 1_048_576;
 
 /// How many bytes are asked for at a time.
 const CHUNK: usize = 4096;
@@ -12,20 +14,20 @@ const CHUNK: usize = 4096;
 pub(crate) fn read_input<I: Read>(alloc: Global, reader: &mut I) -> Result<Vec<u8>, Failure> {
     let mut input = Vec::new(alloc);
     let mut chunk = [0; CHUNK];
-    for _ in 0..=MOST_INPUT {
+    for _ in 0..=MAX_INPUT {
         let count = reader.read(&mut chunk)?;
         if count == 0 {
             return Ok(input);
         }
         input.extend_from_slice(&chunk[..count])?;
-        if input.len() > MOST_INPUT {
+        if input.len() > MAX_INPUT {
             break;
         }
     }
     Err(Failure::InputTooLong)
 }
 
-/// The bytes that hex digits of either case spell; spaces, tabs and line ends are passed over.
+/// Reads hex digits of either case; spaces, tabs and line ends are skipped.
 pub(crate) fn read_hex(alloc: Global, text: &[u8]) -> Result<Vec<u8>, Failure> {
     let mut digits = Vec::new(alloc);
     for byte in text {

@@ -1,27 +1,30 @@
-//! The program: judges and runs BPF code that it reads as hex.
+//! The program: verifies and runs BPF code that it reads as hex.
+//!
+//! ```sh
+//! echo 'b700000007000000 9500000000000000' | bpf_host exec
+//! ```
 #![tactic(auto)]
 
 mod command;
 mod failure;
 mod input;
 
-use command::run_command;
+use command::{report, run_command};
+use failure::Failure;
 use std::process::ExitCode;
 use std::rt::Env;
 use std::{env, io};
 
-/// The status where memory runs out before the command line is known.
-const NO_MEMORY: u8 = 3;
-
 fn main(rt: HostRuntime) -> ExitCode {
     let status = match run(&rt) {
         Ok(status) => status,
-        Err(_) => NO_MEMORY,
+        Err(error) => report(&Failure::from_words(&error), &mut io::writer(&rt)),
     };
     ExitCode::from(status)
 }
 
-/// Hands the words of the command line and the standard streams to the command.
+/// Hands the words of the command line and the standard streams to the command. Words that can't be
+/// read are an error.
 fn run<R: Env + Input + Print + AllocGlobal>(rt: &R) -> io::Result<u8> {
     let alloc = rt.alloc();
     let arguments: Vec<String> = env::args(rt)?.collect(alloc)?;

@@ -80,6 +80,19 @@ fn reply_to(alloc: Global, state: &mut State, time: u64, op: Bytes) -> Result<St
     }
 }
 
+/// Wants this number and result, in hex, for an operation of client 100.
+fn expect<R: Abort + AllocGlobal>(
+    rt: &R,
+    state: &mut State,
+    time: u64,
+    op: Bytes,
+    wanted: &str,
+) -> Result<(), Fail> {
+    let reply = reply_to(rt.alloc(), state, time, op)?;
+    assert_eq!(rt; reply.as_str(), wanted);
+    Ok(())
+}
+
 #[test]
 fn a_time_is_answered_once(rt: HostRuntime) -> Result<(), Fail> {
     let alloc = rt.alloc();
@@ -107,42 +120,25 @@ fn operations_have_their_results(rt: HostRuntime) -> Result<(), Fail> {
     let alloc = rt.alloc();
     let mut state = State::genesis(alloc, config(alloc, &[(100, 1)])?)?;
     let falls_off = [0xb7, 0, 0, 0, 0, 0, 0, 0];
+    expect(&rt, &mut state, 1, install(alloc, &falls_off)?, "1 02")?;
+    expect(&rt, &mut state, 2, raw(alloc, &[3])?, "2 01")?;
+    expect(&rt, &mut state, 3, raw(alloc, &[])?, "3 01")?;
+    expect(&rt, &mut state, 4, raw(alloc, &[2, 0, 0, 0])?, "4 01")?;
+    expect(&rt, &mut state, 5, install(alloc, &[])?, "5 02")?;
+    expect(&rt, &mut state, 6, call(alloc, 9, &[])?, "6 03")?;
+    expect(&rt, &mut state, 7, install(alloc, SEVEN)?, "7 0000000000")
+}
+
+#[test]
+fn calls_have_their_results(rt: HostRuntime) -> Result<(), Fail> {
+    let alloc = rt.alloc();
+    let mut state = State::genesis(alloc, config(alloc, &[(100, 1)])?)?;
     let long = [0; 257];
-    let rows = [
-        (
-            "code that falls off its end",
-            install(alloc, &falls_off)?,
-            "02",
-        ),
-        ("no operation has number 3", raw(alloc, &[3])?, "01"),
-        ("an empty operation", raw(alloc, &[])?, "01"),
-        ("an id of three bytes", raw(alloc, &[2, 0, 0, 0])?, "01"),
-        ("no code", install(alloc, &[])?, "02"),
-        ("an id without procedure", call(alloc, 9, &[])?, "03"),
-        ("the first procedure", install(alloc, SEVEN)?, "0000000000"),
-        ("257 argument bytes", call(alloc, 0, &long)?, "05"),
-        (
-            "an id without procedure is judged first",
-            call(alloc, 1, &long)?,
-            "03",
-        ),
-        (
-            "256 argument bytes",
-            call(alloc, 0, &long[..256])?,
-            "000000000000000007",
-        ),
-    ];
-    let mut time = 0u64;
-    for (name, op, wanted) in rows {
-        time = time.saturating_add(1);
-        let wanted = format!(in alloc; "{time} {wanted}")?;
-        assert_eq!(rt;
-            reply_to(alloc, &mut state, time, op)?.as_str(),
-            wanted.as_str(),
-            "{name}"
-        );
-    }
-    Ok(())
+    expect(&rt, &mut state, 1, install(alloc, SEVEN)?, "1 0000000000")?;
+    expect(&rt, &mut state, 2, call(alloc, 0, &long)?, "2 05")?;
+    expect(&rt, &mut state, 3, call(alloc, 1, &long)?, "3 03")?;
+    let seven = "4 000000000000000007";
+    expect(&rt, &mut state, 4, call(alloc, 0, &long[..256])?, seven)
 }
 
 #[test]
@@ -242,17 +238,12 @@ fn a_full_state_as_bytes(rt: HostRuntime) -> Result<(), Fail> {
     let mut state = State::genesis(alloc, config(alloc, &clients)?)?;
     let mut high = [0xee; 48];
     high[0] = 2;
-    let requests = [
-        request(300, 70, install(alloc, SEVEN)?),
-        request(200, 90, install(alloc, PUT)?),
-        request(200, 91, install(alloc, COPY)?),
-        request(100, 5, call(alloc, 0, &high)?),
-        request(200, 92, call(alloc, 0, &[1, 1, 1])?),
-        request(100, 6, call(alloc, 1, &[9; 48])?),
-    ];
-    for request in &requests {
-        apply(&mut state, request)?;
-    }
+    apply(&mut state, &request(300, 70, install(alloc, SEVEN)?))?;
+    apply(&mut state, &request(200, 90, install(alloc, PUT)?))?;
+    apply(&mut state, &request(200, 91, install(alloc, COPY)?))?;
+    apply(&mut state, &request(100, 5, call(alloc, 0, &high)?))?;
+    apply(&mut state, &request(200, 92, call(alloc, 0, &[1, 1, 1])?))?;
+    apply(&mut state, &request(100, 6, call(alloc, 1, &[9; 48])?))?;
     assert_eq!(rt;
         encode(alloc, state.to_bytes()?.as_slice())?.as_str(),
         FULL_STATE
