@@ -16,13 +16,13 @@ use Rattle.host_types.specs.declared.config.ClientEntry.{ClientEntry}
 use Rattle.host_types.specs.declared.request.Reply.{Reply}
 use Rattle.host_types.specs.Configuration.{Configuration, insert_sorted, client_ids_of, tenants_of, entry_of, IsAscending}
 use Rattle.host_types.proofs.AscendingLemmas.{tenants_ascending}
-use Rattle.tenant_maps.specs.Entries.{Entries, IsKey, IsValue, IsTenantMap}
+use Rattle.tenant_maps.specs.Entries.{Entries}
 use Rattle.tenant_maps.proofs.EntriesLemmas.{order, order_tells}
 use Rattle.service_core.specs.Words.{four_bytes, eight_bytes}
 use Rattle.service_core.specs.TenantStates.{Replies, TenantState, Service, tenant_at, last_reply_of}
 use Rattle.service_core.specs.Encoding.{encoded, encoded_reply, encoded_replies, encoded_tenant, encoded_procedures, encoded_entries, length_prefixed, last_replies_of}
 use Rattle.service_core.specs.Sound.{IsSoundTenant, IsSound}
-use Rattle.service_core.specs.Bounded.{IsBoundedReply, IsBoundedTenant, IsBounded}
+use Rattle.service_core.specs.Bounded.{IsSizedMap, IsBoundedReply, IsBoundedTenant, IsBounded}
 use Rattle.service_core.proofs.PrefixFree.{InRange, same_length, free_bytes, free_four, free_eight, free_length_prefixed, free_items, free_list, free_reply}
 use Rattle.service_core.proofs.Clients.{Each, Ascends, OwnReplies, has, listed, client_ids_ascend, same_found}
 
@@ -35,12 +35,12 @@ free_entry x y r t p q h =
     let value = free_bytes 32 x.1 y.1 r t p.1 q.1 key.1 in
     (λ i. (key.0 i, value.0 i), value.1)
 
-entry_lengths : (es : List (List ℕ × List ℕ)) → All IsKey (map (λ e. e.0) es) → All IsValue (map (λ e. e.1) es) → All (λ e. (length e.0 ≡ 16) × (length e.1 ≡ 32)) es
+entry_lengths : (es : List (List ℕ × List ℕ)) → All (λ key. length key ≡ 16) (map (λ e. e.0) es) → All (λ value. length value ≡ 32) (map (λ e. e.1) es) → All (λ e. (length e.0 ≡ 16) × (length e.1 ≡ 32)) es
 entry_lengths [] k v = All-nil (λ (e : List ℕ × List ℕ). (length e.0 ≡ 16) × (length e.1 ≡ 32))
 entry_lengths (e ∷ es) k v =
     All-cons (λ (x : List ℕ × List ℕ). (length x.0 ≡ 16) × (length x.1 ≡ 32)) e es
-    ((All-head IsKey e.0 (map (λ x. x.0) es) k).0, (All-head IsValue e.1 (map (λ x. x.1) es) v).0)
-    (entry_lengths es (All-tail IsKey e.0 (map (λ x. x.0) es) k) (All-tail IsValue e.1 (map (λ x. x.1) es) v))
+    (All-head (λ (key : List ℕ). length key ≡ 16) e.0 (map (λ x. x.0) es) k, All-head (λ (value : List ℕ). length value ≡ 32) e.1 (map (λ x. x.1) es) v)
+    (entry_lengths es (All-tail (λ (key : List ℕ). length key ≡ 16) e.0 (map (λ x. x.0) es) k) (All-tail (λ (value : List ℕ). length value ≡ 32) e.1 (map (λ x. x.1) es) v))
 
 -- two maps with the same entries are the same
 same_entries : (a b : Entries) → finite.entries a ≡ finite.entries b → a ≡ b
@@ -58,11 +58,11 @@ procedures_free : (xs ys : List (List ℕ)) (r t : List ℕ) → length xs ≤ 6
 procedures_free xs ys r t fx fy cx cy h =
     free_list length_prefixed (λ code. length code < 2 ^ 32) free_length_prefixed xs ys r t (small _ 64 fx (omega arith), codes_short xs cx) (small _ 64 fy (omega arith), codes_short ys cy) h
 
-entries_free : (a b : Entries) (r t : List ℕ) → IsTenantMap a → IsTenantMap b → encoded_entries a ++ r ≡ encoded_entries b ++ t → (a ≡ b) × (r ≡ t)
+entries_free : (a b : Entries) (r t : List ℕ) → IsSizedMap a → IsSizedMap b → encoded_entries a ++ r ≡ encoded_entries b ++ t → (a ≡ b) × (r ≡ t)
 entries_free a b r t fa fb h =
     let count : (m : Entries) → four_bytes (finite.len m) ≡ four_bytes (length (finite.entries m)) = λ m. ap four_bytes (finite.len-entries m) in
     let spread : (m : Entries) → List ℕ = λ m. flat_map (λ entry. entry.0 ++ entry.1) (finite.entries m) in
-    let few : (m : Entries) → IsTenantMap m → length (finite.entries m) < 2 ^ 32 = λ m is. omega (arith, finite.len-entries m, is.count) in
+    let few : (m : Entries) → IsSizedMap m → length (finite.entries m) < 2 ^ 32 = λ m is. omega (arith, finite.len-entries m, is.count) in
     let both = free_list (λ (entry : List ℕ × List ℕ). entry.0 ++ entry.1) (λ e. (length e.0 ≡ 16) × (length e.1 ≡ 32)) free_entry (finite.entries a) (finite.entries b) r t
     (few a fa, entry_lengths (finite.entries a) fa.keys fa.values) (few b fb, entry_lengths (finite.entries b) fb.keys fb.values)
     (ap (λ (c : List ℕ). (c ++ spread a) ++ r) (sym (count a)) ∙ h ∙ ap (λ (c : List ℕ). (c ++ spread b) ++ t) (count b)) in
@@ -204,7 +204,7 @@ same_tenants clients all all' (x ∷ xs) (y ∷ ys) same found found' sound soun
       one = λ i. record { tenant = same.0 i; procedures = same.1 i; entries = same.2 i; last_replies = kept i }
 
 -- what is found in a list has what all in it have
-found_has : {X : Type 0} (P : X → Type 0) (p : X → Bool) (xs : List X) → All P xs → IfSome (find p xs) P
+pub found_has : {X : Type 0} (P : X → Type 0) (p : X → Bool) (xs : List X) → All P xs → IfSome (find p xs) P
 found_has P p [] all = tt
 found_has {X} P p (x ∷ xs) all = cases (p x) (found_has P p xs (All-tail P x xs all)) where
   cases : (b : Bool) → IfSome (find p xs) P → IfSome (cond b (Some x) (find p xs)) P

@@ -11,3 +11,4 @@ pub mod Soundness
 pub mod PrefixFree
 pub mod Clients
 pub mod Injective
+pub mod Bounds

@@ -21,23 +21,23 @@ use Rattle.service_core.specs.TenantStates.{Replies, TenantState, Service, empty
 use Rattle.service_core.specs.Steps.{reply_to, Executes, IsTenantStep, IsStep, Follows}
 use Rattle.service_core.specs.Sound.{IsAcceptedCode, IsSoundTenant, IsSound, CannotGoWrong, NoneGoesWrong}
 
-one_of_bool : (b : Bool) (P Q C : Type 0) → (P → C) → (Q → C) → MatchBool b P Q → C
+pub one_of_bool : (b : Bool) (P Q C : Type 0) → (P → C) → (Q → C) → MatchBool b P Q → C
 one_of_bool true P Q C one two h = one h
 one_of_bool false P Q C one two h = two h
 
-one_of_option : {X : Type 0} (o : Option X) (P C : Type 0) (Q : X → Type 0) → (P → C) → ((x : X) → Q x → C) → MatchOption o P Q → C
+pub one_of_option : {X : Type 0} (o : Option X) (P C : Type 0) (Q : X → Type 0) → (P → C) → ((x : X) → Q x → C) → MatchOption o P Q → C
 one_of_option None P C Q one two h = one h
 one_of_option (Some x) P C Q one two h = two x h
 
 -- what is found is one of them, and passes
-found_one : {X : Type 0} (P : X → Type 0) (p : X → Bool) (xs : List X) (x : X) → All P xs → find p xs ≡ Some x → P x × (p x ≡ true)
+pub found_one : {X : Type 0} (P : X → Type 0) (p : X → Bool) (xs : List X) (x : X) → All P xs → find p xs ≡ Some x → P x × (p x ≡ true)
 found_one P p [] x all e = absurd (cc)
 found_one {X} P p (y ∷ ys) x all e = cases (p y) refl (found_one P p ys x (All-tail P y ys all)) e where
   cases : (b : Bool) → p y ≡ b → (find p ys ≡ Some x → P x × (p x ≡ true)) → cond b (Some y) (find p ys) ≡ Some x → P x × (p x ≡ true)
   cases true passes rest e = let same : y ≡ x = some_is y x e in (subst P same (All-head P y ys all), ap p (sym same) ∙ passes)
   cases false passes rest e = rest e
 
-all_with_tenant : (P : TenantState → Type 0) (changed : TenantState) (parts : List TenantState) → P changed → All P parts → All P (with_tenant changed parts)
+pub all_with_tenant : (P : TenantState → Type 0) (changed : TenantState) (parts : List TenantState) → P changed → All P parts → All P (with_tenant changed parts)
 all_with_tenant P changed [] new all = all
 all_with_tenant P changed (part ∷ parts) new all = cases (eqb part.tenant changed.tenant) (all_with_tenant P changed parts new (All-tail P part parts all)) where
   cases : (b : Bool) → All P (with_tenant changed parts) → All P (cond b (changed ∷ parts) (part ∷ with_tenant changed parts))

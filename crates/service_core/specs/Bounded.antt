@@ -3,8 +3,14 @@ use Rattle.std.specs.Prelude.{◌≡◌, ℕ, ◌<◌, ◌≤◌, ◌^◌, List,
 use Rattle.std.specs.FinMap as finite
 use Rattle.host_types.specs.declared.request.Reply.{Reply}
 use Rattle.host_types.specs.Configuration.{IsConfiguration, tenants_of}
-use Rattle.tenant_maps.specs.Entries.{IsTenantMap}
+use Rattle.tenant_maps.specs.Entries.{Entries}
 use Rattle.service_core.specs.TenantStates.{TenantState, Service}
+
+-- A map of at most 4,096 entries, from keys of 16 bytes to values of 32.
+pub record IsSizedMap (entries : Entries) : Type 0 where
+  pub keys : All (λ key. length key ≡ 16) (finite.keys entries)
+  pub values : All (λ value. length value ≡ 32) (finite.values entries)
+  pub count : finite.len entries ≤ 4096
 
 -- The last reply to a client, in a state that has taken so many requests.
 pub record IsBoundedReply (taken client : ℕ) (reply : Reply) : Type 0 where
@@ -19,7 +25,7 @@ pub record IsBoundedReply (taken client : ℕ) (reply : Reply) : Type 0 where
 pub record IsBoundedTenant (taken : ℕ) (tenant : TenantState) : Type 0 where
   pub procedures_in_range : length tenant.procedures ≤ 64
   pub codes_in_range : All (λ code. length code ≤ 8192) tenant.procedures
-  pub entries_in_range : IsTenantMap tenant.entries
+  pub entries_in_range : IsSizedMap tenant.entries
   pub replies_in_range : (client : ℕ) → IfSome (finite.get tenant.last_replies client) (IsBoundedReply taken client)
 
 -- A state under a configuration, which has just the configuration's tenants.

@@ -1,10 +1,11 @@
 //! Laws of the service, each on a function with an empty body.
 
-ghost use Rattle.std.specs.Prelude.{◌≡◌, Option, List, [], ◌∷◌, ◌++◌};
+ghost use Rattle.std.specs.Prelude.{◌≡◌, ◌+◌, ◌^◌, ◌<◌, ℕ, Option, Some, IfSome, List, [], ◌∷◌, ◌++◌};
 ghost use Rattle.host_types.specs.declared.request.Request.{Request};
+ghost use Rattle.host_types.specs.declared.request.Reply.{Reply};
 ghost use Rattle.service_core.specs.declared.outcome.Outcome.{Outcome};
-ghost use Rattle.host_types.specs.Configuration.{Configuration};
-ghost use Rattle.service_core.specs.TenantStates.{Service, genesis_of};
+ghost use Rattle.host_types.specs.Configuration.{Configuration, IsConfiguration};
+ghost use Rattle.service_core.specs.TenantStates.{Service, genesis_of, last_reply_of};
 ghost use Rattle.service_core.specs.Steps.{IsStep, Serves};
 ghost use Rattle.service_core.specs.Sound.{IsSound, NoneGoesWrong};
 ghost use Rattle.service_core.specs.Bounded.{IsBounded};
@@ -46,4 +47,18 @@ pub fn installed_procedures_cannot_go_wrong()
 pub fn equal_bytes_are_equal_states()
     ensures { (state other : Service) → IsBounded state → IsBounded other → IsSound state → IsSound other →
         state.config ≡ other.config → encoded state ≡ encoded other → state ≡ other }
+{}
+
+/// Every state that the service reaches keeps its bounds. A request's client and time have their
+/// ranges, and the number stays below 2^48. A last reply is one to its client, and after a step with a
+/// reply it is that one.
+pub fn states_are_bounded()
+    ensures first { (config : Configuration) → IsConfiguration config → IsBounded (genesis_of config) }
+    ensures next { (state : Service) (request : Option Request) (after : Service) (outcome : Outcome) →
+        IsBounded state → state.number + 1 < 2 ^ 48 → IfSome request (λ r. (r.client.0 < 2 ^ 32) × (r.time < 2 ^ 64)) →
+        IsStep state request after outcome → IsBounded after }
+    ensures own { (state : Service) → IsBounded state → (client : ℕ) (reply : Reply) →
+        last_reply_of state client ≡ Some reply → reply.client.0 ≡ client }
+    ensures last { (state : Service) (request : Request) (after : Service) (outcome : Outcome) (reply : Reply) →
+        IsStep state (Some request) after outcome → outcome.reply ≡ Some reply → last_reply_of after request.client.0 ≡ Some reply }
 {}

@@ -30,7 +30,7 @@ module _ {A : Type 0} (f : List ℕ × List ℕ → A) (P : A → Type 0) where
       ]
 
 -- the keys after an entry was put
-All-keys-put : (P : List ℕ → Type 0) (k v : List ℕ) (es : List (List ℕ × List ℕ)) → P k → All P (map (λ e. e.0) es) → All P (map (λ e. e.0) (put_entry order k v es))
+pub All-keys-put : (P : List ℕ → Type 0) (k v : List ℕ) (es : List (List ℕ × List ℕ)) → P k → All P (map (λ e. e.0) es) → All P (map (λ e. e.0) (put_entry order k v es))
 All-keys-put P k v [] one all = All-cons P k [] one all
 All-keys-put P k v (e ∷ es) one all =
     elim (order k e.0) as (λ o. All P (map (λ x. x.0) (by_order o ((k, v) ∷ e ∷ es) ((e.0, v) ∷ es) (e ∷ put_entry order k v es)))) [
@@ -40,7 +40,7 @@ All-keys-put P k v (e ∷ es) one all =
     ]
 
 -- and the values
-All-values-put : (P : List ℕ → Type 0) (k v : List ℕ) (es : List (List ℕ × List ℕ)) → P v → All P (map (λ e. e.1) es) → All P (map (λ e. e.1) (put_entry order k v es))
+pub All-values-put : (P : List ℕ → Type 0) (k v : List ℕ) (es : List (List ℕ × List ℕ)) → P v → All P (map (λ e. e.1) es) → All P (map (λ e. e.1) (put_entry order k v es))
 All-values-put P k v [] one all = All-cons P v [] one all
 All-values-put P k v (e ∷ es) one all =
     elim (order k e.0) as (λ o. All P (map (λ x. x.1) (by_order o ((k, v) ∷ e ∷ es) ((e.0, v) ∷ es) (e ∷ put_entry order k v es)))) [
@@ -49,7 +49,7 @@ All-values-put P k v (e ∷ es) one all =
       | Greater ↦ All-cons P _ _ (All-head P _ _ all) (All-values-put P k v es one (All-tail P _ _ all))
     ]
 
-count_stays : (there room : Bool) (n m : ℕ) → (there || room) ≡ true → nat_lt n 4096 ≡ room → n ≤ 4096 → m ≡ cond there n (n + 1) → m ≤ 4096
+pub count_stays : (there room : Bool) (n m : ℕ) → (there || room) ≡ true → nat_lt n 4096 ≡ room → n ≤ 4096 → m ≡ cond there n (n + 1) → m ≤ 4096
 count_stays true room n m h lt few e = omega (arith, e, few)
 count_stays false true n m h lt few e = omega (arith, e, ltb-true n 4096 lt)
 count_stays false false n m h lt few e = absurd (true≢false (sym h))
