@@ -1,4 +1,4 @@
--- By what the values that contracts see are told apart.
+-- Internal: codes by which the values that contracts see are compared.
 use Rattle.std.specs.Prelude.{ℕ, List, refl}
 use Rattle.std.specs.Coded.{Coded, code_by, coded×, coded_ℕ, coded_list}
 use Rattle.std.specs.FinMap as finite

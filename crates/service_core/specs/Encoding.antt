@@ -1,4 +1,4 @@
--- The bytes of a state, version 1. All integers are unsigned, high byte first.
+-- Statement: the canonical encoding of a state, version 1. All integers are unsigned, high byte first.
 use Rattle.std.specs.Prelude.{ℕ, List, [], ◌∷◌, ◌++◌, length, flat_map}
 use Rattle.std.specs.List.{filter_map}
 use Rattle.std.specs.FinMap as finite

@@ -1,4 +1,4 @@
--- What a client can ask for, and what doing it gives.
+-- Statement: what a client can ask for, and what doing it gives.
 use Rattle.std.specs.Prelude.{◌≡◌, ◌⊎◌, ℕ, ◌&&◌, ◌==◌, nat_lt, nat_le, if◌then◌else◌, List, [], ◌∷◌, ◌++◌, length, take, drop, slice_get, MatchBool, MatchOption}
 use Rattle.std.specs.Int.{w32, from_be_bytes}
 use Rattle.bpf_decode.specs.declared.insn.Insn.{Insn}

@@ -1,4 +1,4 @@
--- What is fed to a sink.
+-- Internal: what is fed to a sink.
 use Rattle.std.specs.Prelude.{ℕ, List, ◌++◌}
 
 -- Whatever the first one holds, the second holds that and then these bytes.

@@ -1,4 +1,4 @@
--- What holds of every state that the service reaches.
+-- Statement: procedures and replies of every state that the service reaches.
 use Rattle.std.specs.Prelude.{◌≡◌, ℕ, List, All, IsSome, IsSomeAnd}
 use Rattle.std.specs.FinMap as finite
 use Rattle.host_types.specs.declared.config.ClientEntry.{ClientEntry}
@@ -13,7 +13,7 @@ use Rattle.service_core.specs.TenantStates.{TenantState, Service}
 abbrev pub IsAcceptedCode : List ℕ → Type 0
 IsAcceptedCode code = (bound : ℕ) × Accepts code bound
 
--- Each procedure is accepted code, and each kept reply is one to a client of the tenant.
+-- Each procedure is accepted code, and each last reply is one to a client of the tenant.
 pub record IsSoundTenant (clients : List ClientEntry) (part : TenantState) : Type 0 where
   pub accepted : All IsAcceptedCode part.procedures
   pub own : (client : ℕ) → IsSome (finite.get part.last_replies client) → IsSomeAnd (entry_of clients client) (λ entry. entry.tenant.0 ≡ part.tenant)

@@ -1,4 +1,4 @@
--- The service: what taking a request, or the null request, gives.
+-- Statement: the service: what taking a request, or the null request, gives.
 use Rattle.std.specs.Prelude.{◌≡◌, ℕ, ◌+◌, Bool, true, false, ◌==◌, nat_lt, List, [], ◌∷◌, Option, Some, None, MatchBool, MatchOption}
 use Rattle.std.specs.FinMap as finite
 use Rattle.host_types.specs.declared.request.Request.{Request}
@@ -14,7 +14,7 @@ abbrev pub reply_to : Request → ℕ → List ℕ → Reply
 reply_to request number result =
     record { client = request.client; time = request.time; number = record { 0 = number }; result = result }
 
--- The operation of the request is done, and its reply is kept.
+-- The operation of the request is done, and its reply is the last one to its client from then on.
 pub record Executes (number : ℕ) (part : TenantState) (request : Request) (after : TenantState) (reply : Option Reply) (kept : Bool) : Type 0 where
   pub procedures : List (List ℕ)
   pub entries : Entries
@@ -25,7 +25,7 @@ pub record Executes (number : ℕ) (part : TenantState) (request : Request) (aft
   pub is_new : kept ≡ false
 
 -- What a request, taken as this number, does to its tenant's part, and what is answered. A time below the client's
--- last gives no reply; that time again gives the kept reply as it is; else the operation is done.
+-- last gives no reply; that time again gives the last reply as it is; else the operation is done.
 abbrev pub IsTenantStep : ℕ → TenantState → Request → TenantState → Option Reply → Bool → Type 0
 IsTenantStep number part request after reply kept =
     MatchOption (finite.get part.last_replies request.client.0)

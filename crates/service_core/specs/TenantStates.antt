@@ -1,4 +1,4 @@
--- The state of the service: a number, and each tenant's part.
+-- Statement: the state of the service: a number, and each tenant's part.
 use Rattle.std.specs.Prelude.{ℕ, ◌==◌, if◌then◌else◌, List, [], ◌∷◌, map, find, position, Option, option_and_then}
 use Rattle.std.specs.Ordering.{nat_cmp}
 use Rattle.std.specs.FinMap as finite
@@ -40,7 +40,7 @@ genesis_of config =
 abbrev pub tenant_at : List TenantState → ℕ → Option TenantState
 tenant_at parts tenant = find (λ part. part.tenant == tenant) parts
 
--- where it stands
+-- its index
 abbrev pub tenant_index : List TenantState → ℕ → Option ℕ
 tenant_index parts tenant = position (λ part. part.tenant == tenant) parts
 
@@ -54,7 +54,7 @@ with_tenant changed (part ∷ parts) =
 abbrev pub tenant_of : Service → ℕ → Option TenantState
 tenant_of state client = option_and_then (λ entry. tenant_at state.tenants entry.tenant.0) (entry_of state.config.clients client)
 
--- where it stands
+-- its index
 abbrev pub client_index : Service → ℕ → Option ℕ
 client_index state client = option_and_then (λ entry. tenant_index state.tenants entry.tenant.0) (entry_of state.config.clients client)
 

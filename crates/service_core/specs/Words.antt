@@ -1,4 +1,4 @@
--- Numbers as bytes, high byte first.
+-- Statement: numbers as bytes, high byte first.
 use Rattle.std.specs.Prelude.{ℕ, List}
 use Rattle.std.specs.Int.{w32, w64, to_be_bytes}
 
