@@ -136,11 +136,11 @@ ending_sized code call ending e is =
 
 -- ---- operations keep a tenant's bounds, and results are short
 
-four_short : (n : ℕ) → length (four_bytes n) ≡ 4
+pub four_short : (n : ℕ) → length (four_bytes n) ≡ 4
 unfolding four_bytes
 four_short n = refl
 
-eight_short : (n : ℕ) → length (eight_bytes n) ≡ 8
+pub eight_short : (n : ℕ) → length (eight_bytes n) ≡ 8
 unfolding eight_bytes
 eight_short n = refl
 

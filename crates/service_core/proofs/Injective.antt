@@ -35,7 +35,7 @@ free_entry x y r t p q h =
     let value = free_bytes 32 x.1 y.1 r t p.1 q.1 key.1 in
     (λ i. (key.0 i, value.0 i), value.1)
 
-entry_lengths : (es : List (List ℕ × List ℕ)) → All (λ key. length key ≡ 16) (map (λ e. e.0) es) → All (λ value. length value ≡ 32) (map (λ e. e.1) es) → All (λ e. (length e.0 ≡ 16) × (length e.1 ≡ 32)) es
+pub entry_lengths : (es : List (List ℕ × List ℕ)) → All (λ key. length key ≡ 16) (map (λ e. e.0) es) → All (λ value. length value ≡ 32) (map (λ e. e.1) es) → All (λ e. (length e.0 ≡ 16) × (length e.1 ≡ 32)) es
 entry_lengths [] k v = All-nil (λ (e : List ℕ × List ℕ). (length e.0 ≡ 16) × (length e.1 ≡ 32))
 entry_lengths (e ∷ es) k v =
     All-cons (λ (x : List ℕ × List ℕ). (length x.0 ≡ 16) × (length x.1 ≡ 32)) e es
@@ -266,9 +266,23 @@ ids_at_most : (clients : List ClientEntry) (ids : List ClientId) → length (fol
 ids_at_most [] ids = omega arith
 ids_at_most (client ∷ clients) ids = omega (arith, ids_at_most clients (insert_sorted (λ id. id.0) client.id ids), inserted_at_most client.id ids)
 
-few_replies : (s : Service) → IsBounded s → length (last_replies_of s) < 2 ^ 32
-few_replies s bounded =
+pub few_replies_found : (s : Service) → IsBounded s → length (last_replies_of s) ≤ 64
+few_replies_found s bounded =
     omega (arith, found_at_most (λ (id : ClientId). last_reply_of s id.0) (client_ids_of s.config.clients), ids_at_most s.config.clients [], bounded.is_configuration.clients)
+
+few_replies : (s : Service) → IsBounded s → length (last_replies_of s) < 2 ^ 32
+few_replies s bounded = omega (arith, few_replies_found s bounded)
+
+short_found : (s : Service) → IsBounded s → (ids : List ClientId) → All (λ reply. length reply.result ≤ 265) (filter_map (λ id. last_reply_of s id.0) ids)
+short_found s bounded [] = All-nil (λ (reply : Reply). length reply.result ≤ 265)
+short_found s bounded (id ∷ ids) = cases (last_reply_of s id.0) (last_bounded s bounded id.0) (short_found s bounded ids) where
+  cases : (o : Option Reply) → IfSome o (IsBoundedReply s.number id.0) → All (λ (reply : Reply). length reply.result ≤ 265) (filter_map (λ i. last_reply_of s i.0) ids)
+      → All (λ (reply : Reply). length reply.result ≤ 265) (cons_option o (filter_map (λ i. last_reply_of s i.0) ids))
+  cases None h rest = rest
+  cases (Some reply) h rest = All-cons (λ (r : Reply). length r.result ≤ 265) reply _ h.result_in_range rest
+
+pub replies_are_short : (s : Service) → IsBounded s → All (λ reply. length reply.result ≤ 265) (last_replies_of s)
+replies_are_short s bounded = short_found s bounded (client_ids_of s.config.clients)
 
 -- ---- the whole state
 

@@ -12,3 +12,4 @@ pub mod PrefixFree
 pub mod Clients
 pub mod Injective
 pub mod Bounds
+pub mod Lengths

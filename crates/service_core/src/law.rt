@@ -1,6 +1,6 @@
 //! Laws of the service, each on a function with an empty body.
 
-ghost use Rattle.std.specs.Prelude.{◌≡◌, ◌+◌, ◌^◌, ◌<◌, ℕ, Option, Some, IfSome, List, [], ◌∷◌, ◌++◌};
+ghost use Rattle.std.specs.Prelude.{◌≡◌, ◌+◌, ◌^◌, ◌<◌, ◌≤◌, ℕ, length, Option, Some, IfSome, List, [], ◌∷◌, ◌++◌};
 ghost use Rattle.host_types.specs.declared.request.Request.{Request};
 ghost use Rattle.host_types.specs.declared.request.Reply.{Reply};
 ghost use Rattle.service_core.specs.declared.outcome.Outcome.{Outcome};
@@ -51,7 +51,7 @@ pub fn equal_bytes_are_equal_states()
 
 /// Every state that the service reaches keeps its bounds. A request's client and time have their
 /// ranges, and the number stays below 2^48. A last reply is one to its client, and after a step with a
-/// reply it is that one.
+/// reply it is that one. Its bytes are at most 5,787,825, which a message has room for.
 pub fn states_are_bounded()
     ensures first { (config : Configuration) → IsConfiguration config → IsBounded (genesis_of config) }
     ensures next { (state : Service) (request : Option Request) (after : Service) (outcome : Outcome) →
@@ -59,6 +59,7 @@ pub fn states_are_bounded()
         IsStep state request after outcome → IsBounded after }
     ensures own { (state : Service) → IsBounded state → (client : ℕ) (reply : Reply) →
         last_reply_of state client ≡ Some reply → reply.client.0 ≡ client }
+    ensures length { (state : Service) → IsBounded state → length (encoded state) ≤ 5_787_825 }
     ensures last { (state : Service) (request : Request) (after : Service) (outcome : Outcome) (reply : Reply) →
         IsStep state (Some request) after outcome → outcome.reply ≡ Some reply → last_reply_of after request.client.0 ≡ Some reply }
 {}

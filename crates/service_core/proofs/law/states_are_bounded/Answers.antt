@@ -1,4 +1,5 @@
 use Rattle.service_core.proofs.Bounds.{genesis_bounded, step_bounded, own_reply, reply_is_last}
+use Rattle.service_core.proofs.Lengths.{state_length}
 use Rattle.service_core.proofs.law.states_are_bounded.Goals as goal
 
 pub returns-clause-first : goal.returns-clause-first
@@ -12,3 +13,6 @@ returns-clause-own c = own_reply
 
 pub returns-clause-last : goal.returns-clause-last
 returns-clause-last c = reply_is_last
+
+pub returns-clause-length : goal.returns-clause-length
+returns-clause-length c = state_length
