@@ -1,4 +1,4 @@
--- Tenants stand in ascending order, each by a client.
+-- Tenants are in ascending order, each by a client.
 use Rattle.std.proofs.Common.{◌≡◌, ℕ, suc, ◌<◌, Bool, true, false, ◌||◌, eqb, List, [], ◌∷◌, refl, sym, ap, subst, ◌∙◌, arith, inl, inr}
 use Rattle.std.specs.Prelude.{All, fold}
 use Rattle.std.specs.List.{list_any}

@@ -115,7 +115,7 @@ bits_below-with_bit words id long h =
           none_above (with_bit words id) 256 q ge
           ∙ sym (inserted q ∙ ap (λ (t : Bool). t || finite.contains (bits_below words 256) q) (ne_eqb q id (λ e. omega arith)) ∙ none_above words 256 q ge)
 
--- counting goes by the marks
+-- counting is by the bits
 pub len-bits_below : (words : List ℕ) (n : ℕ) → finite.len (bits_below words (n + 1)) ≡ finite.len (bits_below words n) + cond (has_bit words n) 1 0
 unfolding bits_below
 len-bits_below words n = rw add-one (step (has_bit words n)) where

@@ -8,7 +8,7 @@ use Rattle.std.proofs.lemmas.List.Kept.{AllPairs-cons}
 use Rattle.host_types.specs.declared.config.ClientEntry.{ClientEntry}
 use Rattle.host_types.specs.Configuration.{Configuration, IsConfiguration, replicas_for, tenants_of, too_many, some_client_twice}
 
--- from place i on, whether a client is listed again
+-- from index i on, whether a client is listed again
 pub twice_from : (clients : List ClientEntry) (i : ℕ) (d : ClientEntry) → i < length clients → some_client_twice (drop i clients) ≡ (list_any (λ other. eqb other.id.0 (get_or clients i d).id.0) (drop (i + 1) clients) || some_client_twice (drop (i + 1) clients))
 twice_from clients i d h = rw (add-one, drop-cons clients i d) refl
 
@@ -19,7 +19,7 @@ twice_at clients i d found h is before =
     before ∙ twice_from clients i d h
     ∙ ap (λ (b : Bool). b || some_client_twice (drop (i + 1) clients)) (sym (is ∙ ap (list_any (λ other. eqb other.id.0 (get_or clients i d).id.0)) rest))
 
--- what stands at a place that is none
+-- what is at an index past the end
 abbrev pub nobody : ClientEntry
 nobody = record { id = record { 0 = 0 }; tenant = record { 0 = 0 }; key = [] }
 

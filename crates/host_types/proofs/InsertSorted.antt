@@ -1,4 +1,4 @@
--- What stands in ascending order by number, and where the next goes.
+-- Lists in ascending order by number, and where the next value is inserted.
 use Rattle.std.proofs.Common.{◌≡◌, ◌≢◌, ℕ, suc, ◌+◌, ◌<◌, ◌≤◌, Bool, true, false, cond, eqb, ltb, List, [], ◌∷◌, length, get_or, take, drop, refl, sym, ap, subst, ◌∙◌, arith, inl, inr}
 use Rattle.std.specs.Prelude.{fold, insert, take_while}
 use Rattle.std.proofs.lemmas.Bool.{lt-ltb, le-ltb, eq-eqb, ne_eqb, cases_lt, cases_order}
@@ -102,7 +102,7 @@ module _ {X : Type 0} (number : X → ℕ) where
       let inside : at ≤ length us = omega (arith, is, place_inside t us) in
       omega (arith, ap length (new t us xs ys at ex ey e h), length-insert us at t inside, full)
 
--- what is read of each client, in order, after some that stand
+-- what is read of each client, in order, after some that are there
 abbrev pub collected : {X : Type 0} → (X → ℕ) → (ClientEntry → X) → List X → List ClientEntry → List X
 collected number read = fold (λ xs client. insert_sorted number (read client) xs)
 

@@ -1,4 +1,4 @@
--- What a configuration is, and which fault is told where it is none.
+-- Statement: what a configuration is, and which fault is reported where it is none.
 use Rattle.std.specs.Prelude.{◌≡◌, ◌≢◌, ℕ, ◌+◌, ◌*◌, ◌<◌, ◌≤◌, Bool, false, not, ◌&&◌, ◌||◌, ◌==◌, if◌then◌else◌, nat_lt, nat_le, List, [], ◌∷◌, length, fold, find, All, AllPairs, Option, Some, None}
 use Rattle.std.specs.List.{list_any}
 use Rattle.host_types.specs.declared.ClientId.{ClientId}
@@ -17,7 +17,7 @@ pub record Configuration : Type 0 where
 abbrev pub replicas_for : ℕ → ℕ
 replicas_for f = 3 * f + 1
 
--- x in its place among ascending ones, once
+-- x inserted among ascending ones, once
 abbrev pub insert_sorted : {X : Type 0} → (X → ℕ) → X → List X → List X
 insert_sorted number x [] = x ∷ []
 insert_sorted number x (y ∷ ys) =

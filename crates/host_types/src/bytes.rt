@@ -1,3 +1,5 @@
+//! Bytes that contracts compare.
+
 ghost use Rattle.std.specs.Prelude.{◌≡◌, ℕ, List};
 
 use std::marker::Model;
@@ -16,7 +18,7 @@ impl Model for Bytes {
 }
 
 impl Bytes {
-    /// The bytes of the vector, which is kept and not copied.
+    /// The bytes of the vector, which is moved and not copied.
     pub fn from_vec(bytes: Vec<u8>) -> Bytes
         ensures { result ≡ bytes.items }
     {

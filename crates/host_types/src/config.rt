@@ -1,3 +1,5 @@
+//! The configuration: who takes part, with what limits.
+
 ghost use Rattle.std.specs.Prelude.{◌≡◌, ◌≢◌, ℕ, ◌+◌, ◌*◌, ◌%◌, ◌==◌, ◌<◌, None, Some, MatchResult, MatchOption, MatchBool, length, slice_get, slice_index_or, take_while, nat_lt};
 ghost use Rattle.std.specs.List.{list_any};
 ghost use Rattle.std.specs.Option.{option_copied};
@@ -10,10 +12,10 @@ use arrayvec::ArrayVec;
 use std::marker::Model;
 use thiserror::Error;
 
-/// The most replicas that may be faulty.
+/// The most replicas that may be faulty: 10 replicas in all.
 const MAX_FAULTY: u8 = 3;
 
-/// The greatest distance between checkpoints.
+/// The greatest interval between checkpoints.
 const MAX_CHECKPOINT_INTERVAL: u8 = 8;
 
 /// The most clients of a configuration.
@@ -31,7 +33,7 @@ pub struct ClientEntry {
     pub key: [u8; 56],
 }
 
-/// Why there is no configuration. Where several faults stand, the first one is told, in the order
+/// Why there is no configuration. Of several faults the first is reported, in the order
 /// `BadF`, `WrongReplicaCount`, `BadInterval`, `TooMany`, `DuplicateClient`.
 #[derive(Clone, Copy, Debug, PartialEq, Eq, Error)]
 pub enum ConfigFault {
@@ -83,7 +85,7 @@ impl Model for Config {
 }
 
 impl Config {
-    /// A configuration of these replicas and clients. It is refused exactly where a fault stands, and
+    /// A configuration of these replicas and clients. It is refused exactly where it has a fault, and
     /// then the lists are dropped.
     pub fn new(
         f: u8,

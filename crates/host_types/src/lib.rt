@@ -1,5 +1,8 @@
 //! The names of things that the whole host speaks of: who sends, who owns, which procedure, which
-//! view, which place in the order of requests; who takes part; what is asked and answered.
+//! view, which sequence number; who takes part; what is asked and answered.
+//!
+//!     let config = Config::new(1, 8, keys, clients)?;
+//!     let primary = config.primary(View(0));
 #![tactic(auto)]
 
 mod ascending;
@@ -15,7 +18,7 @@ pub use config::{ClientEntry, Config, ConfigFault};
 pub use replica_set::ReplicaSet;
 pub use request::{Reply, Request};
 
-/// A replica, by its place in the list of replicas, from 0.
+/// A replica, by its index in the list of replicas, from 0.
 #[derive(Clone, Copy, Debug, PartialEq, Eq, PartialOrd, Ord, Hash)]
 pub struct ReplicaId(pub u8);
 
@@ -27,7 +30,7 @@ pub struct ClientId(pub u32);
 #[derive(Clone, Copy, Debug, Default, PartialEq, Eq, PartialOrd, Ord, Hash)]
 pub struct TenantId(pub u32);
 
-/// An installed procedure of a tenant, counted from 0 in the order of installation.
+/// An installed procedure of a tenant, numbered from 0 in the order of installation.
 #[derive(Clone, Copy, Debug, PartialEq, Eq, PartialOrd, Ord, Hash)]
 pub struct ProcId(pub u32);
 
@@ -35,7 +38,7 @@ pub struct ProcId(pub u32);
 #[derive(Clone, Copy, Debug, PartialEq, Eq, PartialOrd, Ord, Hash)]
 pub struct View(pub u32);
 
-/// A sequence number: the place of a request in the one order, from 1; 0 stands before the first.
+/// A sequence number: the position of a request in the one order, from 1; 0 is before the first.
 #[derive(Clone, Copy, Debug, PartialEq, Eq, PartialOrd, Ord, Hash)]
 pub struct SeqNo(pub u64);
 

@@ -1,3 +1,5 @@
+//! Sets of replicas.
+
 ghost use Rattle.std.specs.Prelude.{◌≡◌, not};
 ghost use Rattle.std.specs.Ordering.{nat_cmp};
 ghost use Rattle.std.specs.FinSet as set;
@@ -10,7 +12,7 @@ use std::marker::Model;
 /// of the numbers.
 #[derive(Debug, Drop)]
 pub struct ReplicaSet {
-    // Bit `id % 64` of word `id / 64` stands for replica `id`.
+    // Bit `id % 64` of word `id / 64` is set for replica `id`.
     words: [u64; 4],
 }
 
@@ -35,7 +37,7 @@ impl ReplicaSet {
         ReplicaSet { words: [0; 4] }
     }
 
-    /// Puts the replica into the set, and tells whether it is new there.
+    /// Puts the replica into the set, and returns whether it is new there.
     pub fn insert(&mut self, id: ReplicaId) -> bool
         ensures inserted { self.new ≡ set.insert self.old id.0 }
         ensures is_new { result ≡ not (set.contains self.old id.0) }
@@ -68,7 +70,7 @@ impl ReplicaSet {
     }
 }
 
-// Whether the words mark this number.
+/// Whether this number's bit is set.
 fn has_bit(words: &[u64; 4], id: u8) -> bool
     ensures { result ≡ has_bit words.now id }
 {

@@ -1,3 +1,5 @@
+//! Requests of clients and their replies.
+
 use crate::{Bytes, ClientId, SeqNo};
 
 /// What a client asks for: an operation, at a time of its own that rises from request to request.

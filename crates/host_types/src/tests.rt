@@ -3,11 +3,11 @@ use std::alloc::{AllocError, Global};
 use std::process::Abort;
 use std::test::Fail;
 
-// So many keys, each of the bytes of its place.
+// So many keys, each of the bytes of its index.
 fn keys(alloc: Global, count: u8) -> Result<Vec<[u8; 56]>, AllocError> {
     let mut keys = Vec::new(alloc);
-    for place in 0..count {
-        keys.push([place; 56])?;
+    for index in 0..count {
+        keys.push([index; 56])?;
     }
     Ok(keys)
 }
@@ -25,18 +25,15 @@ fn clients(alloc: Global, pairs: &[(u32, u32)]) -> Result<Vec<ClientEntry>, Allo
     Ok(clients)
 }
 
-// The fault's number, or 0 for a configuration.
-fn judged(
+// The fault of a configuration of these replicas and clients, if it has one.
+fn fault_of(
     alloc: Global,
     f: u8,
     k: u8,
     key_count: u8,
     pairs: &[(u32, u32)],
-) -> Result<u8, AllocError> {
-    match Config::new(f, k, keys(alloc, key_count)?, clients(alloc, pairs)?) {
-        Ok(_) => Ok(0),
-        Err(fault) => Ok(fault.number()),
-    }
+) -> Result<Option<ConfigFault>, AllocError> {
+    Ok(Config::new(f, k, keys(alloc, key_count)?, clients(alloc, pairs)?).err())
 }
 
 static NINE_TENANTS: [(u32, u32); 9] = [
@@ -52,31 +49,67 @@ static NINE_TENANTS: [(u32, u32); 9] = [
 ];
 
 #[test]
-fn the_first_fault_is_told(rt: HostRuntime) -> Result<(), Fail> {
+fn the_first_fault_is_reported(rt: HostRuntime) -> Result<(), Fail> {
     let alloc = rt.alloc();
     let one = [(100, 1)];
-    assert_eq!(rt; judged(alloc, 1, 8, 4, &one)?, 0);
-    assert_eq!(rt; judged(alloc, 3, 1, 10, &[])?, 0);
-    assert_eq!(rt; judged(alloc, 4, 8, 13, &one)?, 1);
-    assert_eq!(rt; judged(alloc, 0, 8, 1, &one)?, 1);
-    assert_eq!(rt; judged(alloc, 1, 8, 3, &one)?, 2);
-    assert_eq!(rt; judged(alloc, 1, 0, 4, &one)?, 3);
-    assert_eq!(rt; judged(alloc, 1, 9, 4, &one)?, 3);
-    assert_eq!(rt; judged(alloc, 1, 8, 4, &[(15, 1)])?, 6);
-    assert_eq!(rt; judged(alloc, 1, 8, 4, &NINE_TENANTS)?, 6);
-    assert_eq!(rt; judged(alloc, 1, 8, 4, &NINE_TENANTS[..8])?, 0);
-    assert_eq!(rt; judged(alloc, 1, 8, 4, &[(16, 1), (16, 2)])?, 4);
-    assert_eq!(rt; judged(alloc, 4, 0, 3, &one)?, 1);
-    assert_eq!(rt; judged(alloc, 1, 0, 3, &one)?, 2);
-    assert_eq!(rt; judged(alloc, 1, 0, 4, &[(15, 1)])?, 3);
-    assert_eq!(rt; judged(alloc, 1, 8, 4, &[(16, 1), (16, 2), (3, 1)])?, 6);
+    assert_eq!(rt; fault_of(alloc, 1, 8, 4, &one)?, None);
+    assert_eq!(rt; fault_of(alloc, 3, 1, 10, &[])?, None);
+    assert_eq!(rt; fault_of(alloc, 4, 8, 13, &one)?, Some(ConfigFault::BadF));
+    assert_eq!(rt; fault_of(alloc, 0, 8, 1, &one)?, Some(ConfigFault::BadF));
+    assert_eq!(rt;
+        fault_of(alloc, 1, 8, 3, &one)?,
+        Some(ConfigFault::WrongReplicaCount)
+    );
+    assert_eq!(rt;
+        fault_of(alloc, 1, 0, 4, &one)?,
+        Some(ConfigFault::BadInterval)
+    );
+    assert_eq!(rt;
+        fault_of(alloc, 1, 9, 4, &one)?,
+        Some(ConfigFault::BadInterval)
+    );
+    assert_eq!(rt;
+        fault_of(alloc, 1, 8, 4, &[(15, 1)])?,
+        Some(ConfigFault::TooMany)
+    );
+    assert_eq!(rt;
+        fault_of(alloc, 1, 8, 4, &NINE_TENANTS)?,
+        Some(ConfigFault::TooMany)
+    );
+    assert_eq!(rt; fault_of(alloc, 1, 8, 4, &NINE_TENANTS[..8])?, None);
+    assert_eq!(rt;
+        fault_of(alloc, 1, 8, 4, &[(16, 1), (16, 2)])?,
+        Some(ConfigFault::DuplicateClient)
+    );
+    assert_eq!(rt; fault_of(alloc, 4, 0, 3, &one)?, Some(ConfigFault::BadF));
+    assert_eq!(rt;
+        fault_of(alloc, 1, 0, 3, &one)?,
+        Some(ConfigFault::WrongReplicaCount)
+    );
+    assert_eq!(rt;
+        fault_of(alloc, 1, 0, 4, &[(15, 1)])?,
+        Some(ConfigFault::BadInterval)
+    );
+    assert_eq!(rt;
+        fault_of(alloc, 1, 8, 4, &[(16, 1), (16, 2), (3, 1)])?,
+        Some(ConfigFault::TooMany)
+    );
     Ok(())
 }
 
 #[test]
-fn faults_are_told_by_name(rt: HostRuntime) -> Result<(), Fail> {
-    let name = ConfigFault::WrongReplicaCount.to_string(rt.alloc())?;
-    assert_eq!(rt; name.as_str(), "WrongReplicaCount");
+fn faults_have_names_and_numbers(rt: HostRuntime) -> Result<(), Fail> {
+    let rows = [
+        (ConfigFault::BadF, "BadF", 1),
+        (ConfigFault::WrongReplicaCount, "WrongReplicaCount", 2),
+        (ConfigFault::BadInterval, "BadInterval", 3),
+        (ConfigFault::DuplicateClient, "DuplicateClient", 4),
+        (ConfigFault::TooMany, "TooMany", 6),
+    ];
+    for (fault, name, number) in rows {
+        assert_eq!(rt; fault.to_string(rt.alloc())?.as_str(), name);
+        assert_eq!(rt; fault.number(), number, "{name}");
+    }
     Ok(())
 }
 
@@ -87,14 +120,14 @@ fn more_than_64_clients(rt: HostRuntime) -> Result<(), Fail> {
     for id in 16..80u32 {
         all.push((id, 1))?;
     }
-    assert_eq!(rt; judged(alloc, 1, 8, 4, &all)?, 0);
+    assert_eq!(rt; fault_of(alloc, 1, 8, 4, &all)?, None);
     all.push((80, 1))?;
-    assert_eq!(rt; judged(alloc, 1, 8, 4, &all)?, 6);
+    assert_eq!(rt; fault_of(alloc, 1, 8, 4, &all)?, Some(ConfigFault::TooMany));
     Ok(())
 }
 
 #[test]
-fn a_configuration_tells_what_it_was_given(rt: HostRuntime) -> Result<(), Fail> {
+fn a_configuration_has_what_it_was_given(rt: HostRuntime) -> Result<(), Fail> {
     let alloc = rt.alloc();
     let listed = clients(alloc, &[(100, 9), (16, 2), (101, 9), (17, 4)])?;
     let config = Config::new(1, 8, keys(alloc, 4)?, listed).map_err(|fault| fault.number())?;

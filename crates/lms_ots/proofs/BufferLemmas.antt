@@ -2,7 +2,7 @@
 use Rattle.std.proofs.Common.{◌≡◌, ℕ, ◌+◌, ◌≤◌, List, ◌++◌, length, take, sym, ◌∙◌, ap}
 use Rattle.std.proofs.lemmas.List.{take_all}
 
--- one more piece, b, at place n, behind what the buffer begins with
+-- one more piece, b, at offset n, behind what the buffer begins with
 pub piece_more : (x y p b : List ℕ) (n m : ℕ) → n + length b ≡ m → take n x ≡ p
     → take (n + length b) y ≡ take n x ++ b → take m y ≡ p ++ b
 piece_more x y p b n m e t h = ap (λ k. take k y) (sym e) ∙ (h ∙ ap (λ s. s ++ b) t)

@@ -23,7 +23,7 @@ length-concatenation f w zero each = omega arith
 length-concatenation f w (suc n) each =
     omega (arith, length-append (concatenation f n) (f n), length-concatenation f w n each, each n)
 
--- two joinings whose pieces are equal
+-- two concatenations whose pieces are equal
 pub joined_same : (f g : ℕ → List ℕ) (n : ℕ) → ((i : ℕ) → i < n → f i ≡ g i) → concatenation f n ≡ concatenation g n
 unfolding concatenation
 joined_same f g zero each = refl
@@ -42,7 +42,7 @@ part_of_first a b at w h =
 pub part_second : (a b : List ℕ) (at w : ℕ) → length a ≡ at → length b ≡ w → take w (drop at (a ++ b)) ≡ b
 part_second a b at w ea eb = ap (λ t. take w t) (drop_at a b at ea) ∙ take_all w b (omega arith)
 
--- piece i stands behind the i before it
+-- piece i is behind the i before it
 pub piece-concatenation : (f : ℕ → List ℕ) (w n i : ℕ) → ((i : ℕ) → length (f i) ≡ w) → i < n
     → take w (drop (w * i) (concatenation f n)) ≡ f i
 unfolding concatenation

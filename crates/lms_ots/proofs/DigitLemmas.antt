@@ -19,7 +19,7 @@ pub sum-map-range_more : (f : ℕ → ℕ) (n : ℕ)
     → sum (map f (range_with_len 0 (n + 1))) ≡ sum (map f (range_with_len 0 n)) + f n
 sum-map-range_more f n = sum_by-map-range_with_len_more (λ x. x) f 0 n n (omega arith)
 
--- one place more of a list that is filled place by place
+-- one index more of a list that is filled index by index
 pub fill_place : (f : ℕ → ℕ) (xs : List ℕ) (i v : ℕ) → v ≡ f i → i < length xs
     → ((k : ℕ) → k < i → get_or xs k 0 ≡ f k) → (k : ℕ) → k < i + 1 → get_or (set xs i v) k 0 ≡ f k
 fill_place f xs i v e l below k h = ap (λ u. get_or (set xs i u) k 0) e ∙ fill_by_more f xs i 0 l below k h

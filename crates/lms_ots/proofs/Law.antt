@@ -8,13 +8,13 @@ use Rattle.lms_ots.proofs.Concatenation.{joined_same, piece-concatenation}
 pub digit-le : (q : List ℕ) (i : ℕ) → digit q i ≤ 15
 digit-le q i = omega arith
 
--- the randomizer stands behind the type's word
+-- the randomizer is behind the typecode
 pub part_randomizer : (t c j : List ℕ) → length t ≡ 4 → length c ≡ 32 → randomizer_in (t ++ c ++ j) ≡ c
 part_randomizer t c j et ec =
     ap (λ s. take 32 (drop 4 s)) (append_assoc t c j)
     ∙ (ap (λ s. take 32 s) (drop_at t (c ++ j) 4 et) ∙ take_at c j 32 ec)
 
--- value i stands behind the type's word, the randomizer and i values
+-- value i is behind the typecode, the randomizer and i values
 pub part_value : (t c : List ℕ) (f : ℕ → List ℕ) (n i : ℕ) → length t ≡ 4 → length c ≡ 32
     → ((k : ℕ) → length (f k) ≡ 32) → i < n → value_in (t ++ c ++ concatenation f n) i ≡ f i
 part_value t c f n i et ec each h =

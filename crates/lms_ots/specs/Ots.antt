@@ -1,4 +1,4 @@
--- LM-OTS, the one-time signatures of RFC 8554, section 4, under LMOTS_SHA256_N32_W4 (section 4.1):
+-- Statement: LM-OTS, the one-time signatures of RFC 8554, section 4, under LMOTS_SHA256_N32_W4 (section 4.1):
 -- hashes of 32 bytes, digits of 4 bits, 67 chains of 15 steps. They are functions on lists of bytes.
 use Rattle.std.specs.Prelude.{ℕ, zero, suc, ◌+◌, ◌-◌, ◌*◌, ◌/◌, ◌%◌, ◌^◌, List, [], ◌∷◌, ◌++◌, map, sum, take, drop, slice_index}
 use Rattle.std.specs.Int.{w16, w32, to_be_bytes}
@@ -35,7 +35,7 @@ abbrev pub chain_start : List ℕ → ℕ → List ℕ → ℕ → List ℕ
 chain_start id leaf secret i = tagged_hash id leaf i (0xff ∷ secret)
 
 -- C: the randomizer of a leaf's signature. The RFC leaves its choice to the signer: here it comes
--- from the seed as a chain's start does, in the place of a chain 0xfffd
+-- from the seed as a chain's start does, with 0xfffd for the chain's number
 abbrev pub randomizer : List ℕ → ℕ → List ℕ → List ℕ
 randomizer id leaf secret = tagged_hash id leaf 0xfffd (0xff ∷ secret)
 
@@ -85,16 +85,16 @@ signature_of id leaf secret message =
     let q = message_hash id leaf c message in
     u32str 3 ++ c ++ concatenation (λ i. chain id leaf i 0 (digit q i) (chain_start id leaf secret i)) 67
 
--- C, as it stands in a signature (4.6, step 2)
+-- C, as a signature has it (4.6, step 2)
 abbrev pub randomizer_in : List ℕ → List ℕ
 randomizer_in sig = take 32 (drop 4 sig)
 
--- y[i], as it stands in a signature (4.6, step 2)
+-- y[i], as a signature has it (4.6, step 2)
 abbrev pub value_in : List ℕ → ℕ → List ℕ
 value_in sig i = take 32 (drop (36 + 32 * i) sig)
 
 -- Kc: the public value that a signature of a message leads to, each chain run on from its digit to
--- its end (4.6, step 3). The signature's type word is the caller's to judge
+-- its end (4.6, step 3). The signature's typecode is the caller's to check
 abbrev pub candidate_of : List ℕ → ℕ → List ℕ → List ℕ → List ℕ
 candidate_of id leaf message sig =
     let q = message_hash id leaf (randomizer_in sig) message in

@@ -1,4 +1,4 @@
-// Hashes that begin with a tree's identifier, a number and a tag, as each hash of RFC 8554 does.
+//! Hashes that begin with a tree's identifier, a number and a tag, as each hash of RFC 8554 does.
 
 ghost use Rattle.std.specs.Prelude.{◌≡◌, ◌+◌, ◌≤◌, ◌∷◌, ◌++◌, length, take};
 ghost use Rattle.lms_ots.specs.Ots.{tagged_hash, u16str, u32str};
@@ -6,7 +6,7 @@ ghost use Rattle.sha2.specs.Hashers.{Holds256};
 
 use sha2::{Digest, Sha256};
 
-// Copies `bytes` into `buffer`, from place `at` on.
+// Copies `bytes` into `buffer`, from offset `at` on.
 #[inline(always)]
 pub(crate) fn put(buffer: &mut [u8], at: usize, bytes: &[u8])
     requires { at + length bytes.now ≤ length buffer.old }

@@ -4,6 +4,9 @@
 //! A key pair is named by a tree's identifier `id`, a leaf's number and a secret seed. It must sign
 //! one message only: two signatures of one leaf give a forger the means to sign others. Nothing here
 //! takes memory.
+//!
+//!     let signature = ots_sign(&id, 0, &secret, b"once");
+//!     let valid = ots_candidate(&id, 0, b"once", &signature) == ots_public(&id, 0, &secret);
 #![tactic(auto)]
 
 ghost use Rattle.std.specs.Prelude.{◌≡◌, ℕ, ◌+◌, ◌-◌, ◌/◌, ◌≤◌, ◌<◌, ◌++◌, List, drop, length, take};
@@ -25,7 +28,7 @@ const CHAIN_COUNT: usize = 67;
 /// The last step's number plus one: each chain takes 15 steps.
 const CHAIN_END: u8 = 15;
 
-/// The word LMOTS_SHA256_N32_W4 of RFC 8554, section 4.1.
+/// The typecode LMOTS_SHA256_N32_W4 of RFC 8554, section 4.1.
 const TYPECODE: u32 = 3;
 
 /// D_PBLC of RFC 8554, section 4.3.
@@ -34,10 +37,10 @@ const PUBLIC_TAG: u16 = 0x8080;
 /// D_MESG of RFC 8554, section 4.3.
 const MESSAGE_TAG: u16 = 0x8181;
 
-/// Stands in the place of a chain's number where a leaf's randomizer is drawn from its seed.
+/// In place of a chain's number where a leaf's randomizer is drawn from its seed.
 const RANDOMIZER_TAG: u16 = 0xfffd;
 
-/// Stands in the place of a step's number where a value is drawn from a seed (RFC 8554, appendix A).
+/// In place of a step's number where a value is drawn from a seed (RFC 8554, appendix A).
 const SEED_STEP: u8 = 0xff;
 
 // Digit `i` of a string of 4-bit digits (RFC 8554, section 3.1.3).
@@ -131,7 +134,7 @@ pub fn ots_public(id: &[u8; 16], leaf: u32, secret: &[u8; 32]) -> [u8; 32]
     hasher.finalize()
 }
 
-/// The signature of `message` by a leaf's key pair (RFC 8554, section 4.5): the type's word, the
+/// The signature of `message` by a leaf's key pair (RFC 8554, section 4.5): the typecode, the
 /// randomizer, and a value of each chain. A key pair is to sign one message only, which its holder
 /// sees to.
 pub fn ots_sign(id: &[u8; 16], leaf: u32, secret: &[u8; 32], message: &[u8]) -> [u8; 2180]

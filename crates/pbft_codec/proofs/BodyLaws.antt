@@ -75,7 +75,7 @@ form_kind {A} kind reading s F f = record {
 
 -- ---- flat bodies
 
--- the shape, and what the fields can hold
+-- well-formed, and what the fields can hold
 abbrev pub BodyReadable : Body → Type 0
 BodyReadable b = BodyWellFormed b × BodyWidths b
 
@@ -86,34 +86,34 @@ form_request =
     (λ p. record { time = p.0; op = p.1 }) (λ r. (r.time, r.op)) request (λ r. BodyReadable (bodies.Request r)) (λ _. refl) (λ _. refl) (λ p fits. (tt, fits)) (λ r fits. fits.1)
     (form_pair (number_at w64) (to_be_bytes w64) (λ n. n < 2 ^ 64) length_prefixed_at length_prefixed LengthInRange (form_number w64 (2 ^ 64) wide64) form_counted)
 
-abbrev place_text : View × (SeqNo × Digest) → List ℕ
-place_text p = view p.0 ++ (number p.1.0 ++ p.1.1.0)
+abbrev vote_text : View × (SeqNo × Digest) → List ℕ
+vote_text p = view p.0 ++ (number p.1.0 ++ p.1.1.0)
 
-abbrev PlaceFits : View × (SeqNo × Digest) → Type 0
-PlaceFits p = IsView p.0 × (IsSequenceNumber p.1.0 × IsDigest p.1.1)
+abbrev VoteInRange : View × (SeqNo × Digest) → Type 0
+VoteInRange p = IsView p.0 × (IsSequenceNumber p.1.0 × IsDigest p.1.1)
 
-form_place : IsForm proposal_at place_text PlaceFits
-form_place =
+form_vote_fields : IsForm proposal_at vote_text VoteInRange
+form_vote_fields =
     form_pair view_at view IsView (pair sequence_number_at digest_at) (λ p. number p.0 ++ p.1.0) (λ p. IsSequenceNumber p.0 × IsDigest p.1) form_view
     (form_pair sequence_number_at number IsSequenceNumber digest_at (λ d. d.0) IsDigest form_sequence_number form_digest)
 
 pub form_pre_prepare : IsForm pre_prepare_at pre_prepare (λ p. BodyReadable (bodies.PrePrepare p))
 unfolding pre_prepare_at proposal
 form_pre_prepare =
-    form_map proposal_at place_text PlaceFits (λ p. record { view = p.0; number = p.1.0; digest = p.1.1 }) (λ p. (p.view, (p.number, p.digest))) pre_prepare (λ p. BodyReadable (bodies.PrePrepare p)) (λ _. refl) (λ _. refl)
-    (λ p fits. (fits.1.0, record { view_in_range = fits.0; digest_in_range = fits.1.1 })) (λ p fits. (fits.1.view_in_range, (fits.0, fits.1.digest_in_range))) form_place
+    form_map proposal_at vote_text VoteInRange (λ p. record { view = p.0; number = p.1.0; digest = p.1.1 }) (λ p. (p.view, (p.number, p.digest))) pre_prepare (λ p. BodyReadable (bodies.PrePrepare p)) (λ _. refl) (λ _. refl)
+    (λ p fits. (fits.1.0, record { view_in_range = fits.0; digest_in_range = fits.1.1 })) (λ p fits. (fits.1.view_in_range, (fits.0, fits.1.digest_in_range))) form_vote_fields
 
 pub form_prepare : IsForm prepare_at prepare (λ p. BodyReadable (bodies.Prepare p))
 unfolding prepare_at proposal
 form_prepare =
-    form_map proposal_at place_text PlaceFits (λ p. record { view = p.0; number = p.1.0; digest = p.1.1 }) (λ p. (p.view, (p.number, p.digest))) prepare (λ p. BodyReadable (bodies.Prepare p)) (λ _. refl) (λ _. refl)
-    (λ p fits. (fits.1.0, record { view_in_range = fits.0; digest_in_range = fits.1.1 })) (λ p fits. (fits.1.view_in_range, (fits.0, fits.1.digest_in_range))) form_place
+    form_map proposal_at vote_text VoteInRange (λ p. record { view = p.0; number = p.1.0; digest = p.1.1 }) (λ p. (p.view, (p.number, p.digest))) prepare (λ p. BodyReadable (bodies.Prepare p)) (λ _. refl) (λ _. refl)
+    (λ p fits. (fits.1.0, record { view_in_range = fits.0; digest_in_range = fits.1.1 })) (λ p fits. (fits.1.view_in_range, (fits.0, fits.1.digest_in_range))) form_vote_fields
 
 pub form_commit : IsForm commit_at commit (λ c. BodyReadable (bodies.Commit c))
 unfolding commit_at proposal
 form_commit =
-    form_map proposal_at place_text PlaceFits (λ p. record { view = p.0; number = p.1.0; digest = p.1.1 }) (λ p. (p.view, (p.number, p.digest))) commit (λ c. BodyReadable (bodies.Commit c)) (λ _. refl) (λ _. refl)
-    (λ p fits. (fits.1.0, record { view_in_range = fits.0; digest_in_range = fits.1.1 })) (λ p fits. (fits.1.view_in_range, (fits.0, fits.1.digest_in_range))) form_place
+    form_map proposal_at vote_text VoteInRange (λ p. record { view = p.0; number = p.1.0; digest = p.1.1 }) (λ p. (p.view, (p.number, p.digest))) commit (λ c. BodyReadable (bodies.Commit c)) (λ _. refl) (λ _. refl)
+    (λ p fits. (fits.1.0, record { view_in_range = fits.0; digest_in_range = fits.1.1 })) (λ p fits. (fits.1.view_in_range, (fits.0, fits.1.digest_in_range))) form_vote_fields
 
 pub form_reply : IsForm reply_at reply (λ r. BodyReadable (bodies.Reply r))
 unfolding reply_at reply
@@ -246,19 +246,19 @@ form_certificate =
     (form_pair (signed_at (kind_at kinds.PrePrepare pre_prepare_at) 0) signed_pre_prepare (λ m. (0 ≤ m.id) × SignedReadable (of_kind kinds.PrePrepare pre_prepare) ProposalForm ProposalWidths m)
     (ascending_at 10 (kind_at kinds.Prepare prepare_at)) (encoded_list signed_prepare) (λ ms. (length ms ≤ 10) × AllFrom VoteReadable (λ m. m.id + 1) 0 ms) (form_proposal 0) form_votes)
 
-abbrev CertificateFits : ℕ → Certificate → Type 0
-CertificateFits low c = CertificateWellFormed c × CertificateWidths c
+abbrev CertificateReadable : ℕ → Certificate → Type 0
+CertificateReadable low c = CertificateWellFormed c × CertificateWidths c
 
-form_certificates : IsForm (list_at 16 certificate_at) (encoded_list certificate) (λ cs. (length cs ≤ 16) × AllFrom CertificateFits (λ _. 0) 0 cs)
+form_certificates : IsForm (list_at 16 certificate_at) (encoded_list certificate) (λ cs. (length cs ≤ 16) × AllFrom CertificateReadable (λ _. 0) 0 cs)
 unfolding list_at
-form_certificates = form_listed 16 (λ _. certificate_at) certificate CertificateFits (λ _. 0) (omega arith) (forms_many (λ _. certificate_at) certificate CertificateFits (λ _. 0) (λ _. form_certificate))
+form_certificates = form_listed 16 (λ _. certificate_at) certificate CertificateReadable (λ _. 0) (omega arith) (forms_many (λ _. certificate_at) certificate CertificateReadable (λ _. 0) (λ _. form_certificate))
 
 pub form_view_change : IsForm view_change_at view_change (λ v. BodyReadable (bodies.ViewChange v))
 unfolding view_change_at view_change
 form_view_change =
     form_map (pair view_at (pair sequence_number_at (pair (ascending_at 10 (kind_at kinds.Checkpoint checkpoint_at)) (list_at 16 certificate_at))))
     (λ p. view p.0 ++ (number p.1.0 ++ (encoded_list signed_checkpoint p.1.1.0 ++ encoded_list certificate p.1.1.1)))
-    (λ p. IsView p.0 × (IsSequenceNumber p.1.0 × (((length p.1.1.0 ≤ 10) × AllFrom StableReadable (λ m. m.id + 1) 0 p.1.1.0) × ((length p.1.1.1 ≤ 16) × AllFrom CertificateFits (λ _. 0) 0 p.1.1.1))))
+    (λ p. IsView p.0 × (IsSequenceNumber p.1.0 × (((length p.1.1.0 ≤ 10) × AllFrom StableReadable (λ m. m.id + 1) 0 p.1.1.0) × ((length p.1.1.1 ≤ 16) × AllFrom CertificateReadable (λ _. 0) 0 p.1.1.1))))
     (λ p. record { view = p.0; low = p.1.0; checkpoints = p.1.1.0; certificates = p.1.1.1 }) (λ v. (v.view, (v.low, (v.checkpoints, v.certificates))))
     view_change (λ v. BodyReadable (bodies.ViewChange v)) (λ _. refl) (λ _. refl)
     (λ p fits.
@@ -275,18 +275,18 @@ form_view_change =
         ),
       ),
     ))
-    (form_pair view_at view IsView (pair sequence_number_at (pair (ascending_at 10 (kind_at kinds.Checkpoint checkpoint_at)) (list_at 16 certificate_at))) (λ p. number p.0 ++ (encoded_list signed_checkpoint p.1.0 ++ encoded_list certificate p.1.1)) (λ p. IsSequenceNumber p.0 × (((length p.1.0 ≤ 10) × AllFrom StableReadable (λ m. m.id + 1) 0 p.1.0) × ((length p.1.1 ≤ 16) × AllFrom CertificateFits (λ _. 0) 0 p.1.1))) form_view
-    (form_pair sequence_number_at number IsSequenceNumber (pair (ascending_at 10 (kind_at kinds.Checkpoint checkpoint_at)) (list_at 16 certificate_at)) (λ p. encoded_list signed_checkpoint p.0 ++ encoded_list certificate p.1) (λ p. ((length p.0 ≤ 10) × AllFrom StableReadable (λ m. m.id + 1) 0 p.0) × ((length p.1 ≤ 16) × AllFrom CertificateFits (λ _. 0) 0 p.1)) form_sequence_number
-    (form_pair (ascending_at 10 (kind_at kinds.Checkpoint checkpoint_at)) (encoded_list signed_checkpoint) (λ ms. (length ms ≤ 10) × AllFrom StableReadable (λ m. m.id + 1) 0 ms) (list_at 16 certificate_at) (encoded_list certificate) (λ cs. (length cs ≤ 16) × AllFrom CertificateFits (λ _. 0) 0 cs) form_stables form_certificates)))
+    (form_pair view_at view IsView (pair sequence_number_at (pair (ascending_at 10 (kind_at kinds.Checkpoint checkpoint_at)) (list_at 16 certificate_at))) (λ p. number p.0 ++ (encoded_list signed_checkpoint p.1.0 ++ encoded_list certificate p.1.1)) (λ p. IsSequenceNumber p.0 × (((length p.1.0 ≤ 10) × AllFrom StableReadable (λ m. m.id + 1) 0 p.1.0) × ((length p.1.1 ≤ 16) × AllFrom CertificateReadable (λ _. 0) 0 p.1.1))) form_view
+    (form_pair sequence_number_at number IsSequenceNumber (pair (ascending_at 10 (kind_at kinds.Checkpoint checkpoint_at)) (list_at 16 certificate_at)) (λ p. encoded_list signed_checkpoint p.0 ++ encoded_list certificate p.1) (λ p. ((length p.0 ≤ 10) × AllFrom StableReadable (λ m. m.id + 1) 0 p.0) × ((length p.1 ≤ 16) × AllFrom CertificateReadable (λ _. 0) 0 p.1)) form_sequence_number
+    (form_pair (ascending_at 10 (kind_at kinds.Checkpoint checkpoint_at)) (encoded_list signed_checkpoint) (λ ms. (length ms ≤ 10) × AllFrom StableReadable (λ m. m.id + 1) 0 ms) (list_at 16 certificate_at) (encoded_list certificate) (λ cs. (length cs ≤ 16) × AllFrom CertificateReadable (λ _. 0) 0 cs) form_stables form_certificates)))
 
-abbrev ChangeFits : ℕ → Signed ViewChange → Type 0
-ChangeFits low m = (low ≤ m.id) × SignedReadable (of_kind kinds.ViewChange view_change) ViewChangeWellFormed ViewChangeWidths m
+abbrev ChangeReadable : ℕ → Signed ViewChange → Type 0
+ChangeReadable low m = (low ≤ m.id) × SignedReadable (of_kind kinds.ViewChange view_change) ViewChangeWellFormed ViewChangeWidths m
 
-form_changes : IsForm (ascending_at 10 (kind_at kinds.ViewChange view_change_at)) (encoded_list signed_view_change) (λ ms. (length ms ≤ 10) × AllFrom ChangeFits (λ m. m.id + 1) 0 ms)
+form_changes : IsForm (ascending_at 10 (kind_at kinds.ViewChange view_change_at)) (encoded_list signed_view_change) (λ ms. (length ms ≤ 10) × AllFrom ChangeReadable (λ m. m.id + 1) 0 ms)
 unfolding ascending_at
 form_changes =
-    form_listed 10 (signed_at (kind_at kinds.ViewChange view_change_at)) signed_view_change ChangeFits (λ m. m.id + 1) (omega arith)
-    (forms_many (signed_at (kind_at kinds.ViewChange view_change_at)) signed_view_change ChangeFits (λ m. m.id + 1)
+    form_listed 10 (signed_at (kind_at kinds.ViewChange view_change_at)) signed_view_change ChangeReadable (λ m. m.id + 1) (omega arith)
+    (forms_many (signed_at (kind_at kinds.ViewChange view_change_at)) signed_view_change ChangeReadable (λ m. m.id + 1)
     (λ low. form_signed (kind_at kinds.ViewChange view_change_at) (of_kind kinds.ViewChange view_change) (λ v. ViewChangeWellFormed v × ViewChangeWidths v) low (form_kind kinds.ViewChange view_change_at view_change (λ v. ViewChangeWellFormed v × ViewChangeWidths v) form_view_change)))
 
 abbrev ProposalReadable : ℕ → Signed PrePrepare → Type 0
@@ -303,7 +303,7 @@ unfolding new_view_at new_view
 form_new_view =
     form_map (pair view_at (pair (ascending_at 10 (kind_at kinds.ViewChange view_change_at)) (list_at 16 (signed_at (kind_at kinds.PrePrepare pre_prepare_at) 0))))
     (λ p. view p.0 ++ (encoded_list signed_view_change p.1.0 ++ encoded_list signed_pre_prepare p.1.1))
-    (λ p. IsView p.0 × (((length p.1.0 ≤ 10) × AllFrom ChangeFits (λ m. m.id + 1) 0 p.1.0) × ((length p.1.1 ≤ 16) × AllFrom ProposalReadable (λ _. 0) 0 p.1.1)))
+    (λ p. IsView p.0 × (((length p.1.0 ≤ 10) × AllFrom ChangeReadable (λ m. m.id + 1) 0 p.1.0) × ((length p.1.1 ≤ 16) × AllFrom ProposalReadable (λ _. 0) 0 p.1.1)))
     (λ p. record { view = p.0; changes = p.1.0; pre_prepares = p.1.1 }) (λ n. (n.view, (n.changes, n.pre_prepares)))
     new_view (λ n. BodyReadable (bodies.NewView n)) (λ _. refl) (λ _. refl)
     (λ p fits.
@@ -317,5 +317,5 @@ form_new_view =
         (fits.0.few_pre_prepares, join_any (of_kind kinds.PrePrepare pre_prepare) ProposalForm ProposalWidths n.pre_prepares fits.0.numbers fits.1.pre_prepares_in_range),
       ),
     ))
-    (form_pair view_at view IsView (pair (ascending_at 10 (kind_at kinds.ViewChange view_change_at)) (list_at 16 (signed_at (kind_at kinds.PrePrepare pre_prepare_at) 0))) (λ p. encoded_list signed_view_change p.0 ++ encoded_list signed_pre_prepare p.1) (λ p. ((length p.0 ≤ 10) × AllFrom ChangeFits (λ m. m.id + 1) 0 p.0) × ((length p.1 ≤ 16) × AllFrom ProposalReadable (λ _. 0) 0 p.1)) form_view
-    (form_pair (ascending_at 10 (kind_at kinds.ViewChange view_change_at)) (encoded_list signed_view_change) (λ ms. (length ms ≤ 10) × AllFrom ChangeFits (λ m. m.id + 1) 0 ms) (list_at 16 (signed_at (kind_at kinds.PrePrepare pre_prepare_at) 0)) (encoded_list signed_pre_prepare) (λ ms. (length ms ≤ 16) × AllFrom ProposalReadable (λ _. 0) 0 ms) form_changes form_proposals))
+    (form_pair view_at view IsView (pair (ascending_at 10 (kind_at kinds.ViewChange view_change_at)) (list_at 16 (signed_at (kind_at kinds.PrePrepare pre_prepare_at) 0))) (λ p. encoded_list signed_view_change p.0 ++ encoded_list signed_pre_prepare p.1) (λ p. ((length p.0 ≤ 10) × AllFrom ChangeReadable (λ m. m.id + 1) 0 p.0) × ((length p.1 ≤ 16) × AllFrom ProposalReadable (λ _. 0) 0 p.1)) form_view
+    (form_pair (ascending_at 10 (kind_at kinds.ViewChange view_change_at)) (encoded_list signed_view_change) (λ ms. (length ms ≤ 10) × AllFrom ChangeReadable (λ m. m.id + 1) 0 ms) (list_at 16 (signed_at (kind_at kinds.PrePrepare pre_prepare_at) 0)) (encoded_list signed_pre_prepare) (λ ms. (length ms ≤ 16) × AllFrom ProposalReadable (λ _. 0) 0 ms) form_changes form_proposals))

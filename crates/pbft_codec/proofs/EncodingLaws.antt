@@ -13,7 +13,7 @@ use Rattle.pbft_codec.proofs.Widths.{length_length_prefixed}
 abbrev pub head : Signed Body → List ℕ
 head m = (role_byte m.role ∷ []) ++ to_be_bytes w32 m.id
 
--- the first five bytes, and what stands behind the length of the body
+-- the first five bytes, and what is behind the length of the body
 pub front : (m : Signed Body) → take 5 (encoding m) ≡ head m
 unfolding signed length_prefixed
 front m = refl

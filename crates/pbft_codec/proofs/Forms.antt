@@ -1,4 +1,4 @@
--- What a reading and a spelling have to do with each other, and how that passes from parts to wholes.
+-- What a reader and an encoding have to do with each other, and how that passes from parts to wholes.
 use Rattle.std.proofs.Common.{◌≡◌, ℕ, zero, suc, ◌+◌, ◌<◌, Bool, true, false, cond, eqb, List, [], ◌∷◌, ◌++◌, length, get_or, take, drop, Result, Ok, Err, refl, sym, ap, subst, ◌∙◌, ◌⊎◌, inl, inr, append_assoc, arith}
 use Rattle.std.specs.List.{flat_map}
 use Rattle.std.proofs.Math.Dec.{eqb-suc-zero}
@@ -53,7 +53,7 @@ pub record Takes (bytes text rest : List ℕ) : Type 0 where
 pub Takes-then : (a x b y c : List ℕ) → Takes a x b → Takes b y c → Takes a (x ++ y) c
 Takes-then a x b y c p q = record { parts = p.parts ∙ ap (λ (t : List ℕ). x ++ t) q.parts ∙ sym (append_assoc x y c); rest_bytes = q.rest_bytes }
 
--- What is read was spelled so; what is spelled is read again, whatever follows; what is cut off is truncated.
+-- What is read was encoded so; what is encoded is read again, whatever follows; what is cut off is truncated.
 pub record IsForm {A : Type 0} (reading : Reading A) (encoded : A → List ℕ) (Readable : A → Type 0) : Type 0 where
   pub takes : (bytes : List ℕ) (x : A × List ℕ) → IsBytes bytes → reading bytes ≡ Ok x → Takes bytes (encoded x.0) x.1 × Readable x.0
   pub again : (x : A) (rest : List ℕ) → Readable x → reading (encoded x ++ rest) ≡ Ok (x, rest)

@@ -1,4 +1,4 @@
--- What is said of the members of lists: their shape apart from what their fields can hold.
+-- What is said of the members of lists: their form apart from what their fields can hold.
 use Rattle.std.proofs.Common.{ℕ, ◌+◌, ◌≤◌, List, [], ◌∷◌, arith}
 use Rattle.std.specs.List.{AllByRecursion}
 use Rattle.pbft_codec.specs.declared.signed.Signed.{Signed}
@@ -6,7 +6,7 @@ use Rattle.pbft_codec.specs.Limits.{AscendFrom, EachBody}
 use Rattle.pbft_codec.proofs.Widths.{SignedWidths}
 use Rattle.pbft_codec.proofs.Forms.{AllFrom}
 
--- a signed body whose body has the shape and whose fields hold what they can
+-- a signed body whose body is well-formed and whose fields hold what they can
 abbrev pub SignedReadable : {B : Type 0} → (B → List ℕ) → (B → Type 0) → (B → Type 0) → Signed B → Type 0
 SignedReadable s S W m = SignedWidths s (λ b. S b × W b) m
 

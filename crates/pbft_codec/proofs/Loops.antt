@@ -14,10 +14,10 @@ regroup : {A : Type 0} (front : List A) (v : A) (read : Result (List A × List �
 regroup {A} front v (Ok x) = ap (λ (vs : List A). Ok (vs, x.1)) (simp append_assoc)
 regroup front v (Err f) = refl
 
-pub goes_on : {A : Type 0} (reading : ℕ → Reading A) (next : A → ℕ) (front : List A) (count i low : ℕ) (bytes : List ℕ) (v : A) (after : List ℕ) (total : Result (List A × List ℕ) CodecFault) → i < count → reading low bytes ≡ Ok (v, after)
+pub continues : {A : Type 0} (reading : ℕ → Reading A) (next : A → ℕ) (front : List A) (count i low : ℕ) (bytes : List ℕ) (v : A) (after : List ℕ) (total : Result (List A × List ℕ) CodecFault) → i < count → reading low bytes ≡ Ok (v, after)
     → with_front front (many_at reading next (count - i) low bytes) ≡ total → with_front (front ++ v ∷ []) (many_at reading next (count - (i + 1)) (next v) after) ≡ total
 unfolding many_at
-goes_on reading next front count i low bytes v after total lt h so_far =
+continues reading next front count i low bytes v after total lt h so_far =
     let k : count - i ≡ suc (count - (i + 1)) = omega arith in
     let one : with_front front (many_at reading next (count - i) low bytes) ≡ with_front (front ++ v ∷ []) (many_at reading next (count - (i + 1)) (next v) after) = rw (k, h) (regroup front v (many_at reading next (count - (i + 1)) (next v) after)) in
     sym one ∙ so_far

@@ -192,7 +192,7 @@ reading_behind bytes m rest more fits e le =
     let widths = fits_for m fits (omega (arith, le, ap length e, length-append (encoding m) rest)) in
     within_limit bytes le ∙ ap (whole (signed_at body_at 0)) e ∙ whole_behind (signed_at body_at 0) encoding MessageReadable m rest form_message widths more
 
--- ---- messages told apart
+-- ---- different messages
 
 pub one_message : (bytes : List ℕ) (m n : Signed Body) → Encodes bytes m → Encodes bytes n → m ≡ n
 one_message bytes m n one two = ok_is m n (sym (reading_only bytes m one) ∙ reading_only bytes n two)

@@ -1,4 +1,4 @@
--- The numbers by which faults are told.
+-- Statement: the number of each fault.
 use Rattle.std.specs.Prelude.{ℕ}
 use Rattle.pbft_codec.specs.declared.fault.CodecFault.{CodecFault}
 use Rattle.pbft_codec.specs.declared.fault.CodecFault.TheVariants.{Truncated, Trailing, BadKind, BadField, TooLong, NotAscending, Memory}

@@ -1,4 +1,4 @@
--- The bytes of kinds.
+-- Statement: the bytes of kinds.
 use Rattle.std.specs.Prelude.{ℕ, ◌==◌, List, [], ◌∷◌, Option, find}
 use Rattle.pbft_codec.specs.declared.kind.Kind.{Kind}
 use Rattle.pbft_codec.specs.declared.kind.Kind.TheVariants.{Request, PrePrepare, Prepare, Commit, Reply, Checkpoint, ViewChange, NewView, Fetch, Snapshot}
@@ -19,6 +19,6 @@ abbrev pub kinds : List Kind
 kinds =
     Request ∷ PrePrepare ∷ Prepare ∷ Commit ∷ Reply ∷ Checkpoint ∷ ViewChange ∷ NewView ∷ Fetch ∷ Snapshot ∷ []
 
--- The kind that a byte stands for.
+-- The kind of a byte.
 unfoldable pub kind_of : ℕ → Option Kind
 kind_of byte = find (λ kind. kind_byte kind == byte) kinds

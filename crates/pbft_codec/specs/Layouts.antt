@@ -77,7 +77,7 @@ reply r = view r.view ++ client r.client ++ to_be_bytes w64 r.time ++ number r.n
 unfoldable pub checkpoint : Checkpoint → List ℕ
 checkpoint c = number c.number ++ c.digest.0
 
--- Signed bodies of one kind, as they stand in others.
+-- Signed bodies of one kind, as other bodies hold them.
 abbrev pub signed_pre_prepare : Signed PrePrepare → List ℕ
 signed_pre_prepare = signed (of_kind kinds.PrePrepare pre_prepare)
 

@@ -1,7 +1,7 @@
--- Reading from left to right, with the first fault that is met.
+-- Statement: reading from left to right, with the first fault that is met.
 --
--- Each field is judged where it stands: first whether enough bytes are left in what holds it (the message, or a body
--- within its length), and then the field's own value. A length is judged where it stands, before what it counts is
+-- Each field is checked in its turn: first whether enough bytes are left in what holds it (the message, or a body
+-- within its length), and then the field's own value. A length is checked in its turn, before the bytes behind it are
 -- looked at. At the end of a body, and of the message, no byte may be left.
 use Rattle.std.specs.Prelude.{◌≡◌, ℕ, zero, suc, ◌+◌, ◌^◌, List, [], ◌∷◌, length, take, drop, Option, Some, None, is_some, Result, Ok, Err, Bool, nat_lt, nat_le, ◌==◌, if◌then◌else◌}
 use Rattle.std.specs.Int.{Width, w32, w64, byte_len, from_be_bytes}
@@ -114,7 +114,7 @@ sequence_number_at = map (λ n. record { 0 = n }) (number_unless w64 (λ n. nat_
 unfoldable pub digest_at : Reading Digest
 digest_at bytes = if nat_lt (length bytes) 32 then Err Truncated else Ok (record { 0 = take 32 bytes }, drop 32 bytes)
 
--- A length, and so many bytes. A length that reaches past the end is judged at once.
+-- A length, and so many bytes. A length that reaches past the end is refused at once.
 unfoldable pub length_prefixed_at : Reading (List ℕ)
 length_prefixed_at bytes = do
   n ← number_at w32 bytes
@@ -249,6 +249,6 @@ unfoldable pub body_at : Reading Body
 body_at [] = Err Truncated
 body_at (b ∷ rest) = known_at (kind_of b) rest
 
--- The message that the bytes spell, all of the bytes, or the first fault.
+-- The message that all of the bytes encode, or the first fault.
 unfoldable pub reading : List ℕ → Result (Signed Body) CodecFault
 reading bytes = if nat_lt max_bytes (length bytes) then Err TooLong else whole (signed_at body_at 0) bytes

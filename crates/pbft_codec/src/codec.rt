@@ -1,3 +1,5 @@
+//! What a message is made of: values that are read and written.
+
 ghost use Rattle.std.specs.Prelude.{◌≡◌, List, ℕ, ◌++◌, Result, OnOk};
 ghost use Rattle.pbft_codec.specs.declared.fault.CodecFault.{CodecFault};
 ghost use Rattle.pbft_codec.specs.Reading.{Gives};
@@ -5,7 +7,7 @@ ghost use Rattle.pbft_codec.specs.Reading.{Gives};
 use crate::fault::ReadError;
 use std::alloc::{AllocError, Global};
 
-/// What stands in a message: it is read from the front of bytes, and written at the end of them.
+/// A value in a message: it is read from the front of bytes, and written at the end of them.
 pub trait Codec: Sized + Drop {
     /// The value that bytes begin with and the bytes behind it, or the first fault.
     ghost reading: { List ℕ → Result (Self × List ℕ) CodecFault };

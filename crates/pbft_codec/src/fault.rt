@@ -1,10 +1,12 @@
+//! Why bytes are no message, and why a field was not read.
+
 ghost use Rattle.std.specs.Prelude.{◌≡◌};
 
 use std::alloc::{AllocError, AllocFailed};
 use thiserror::Error;
 
 /// Why bytes are no message, or why a message has no bytes. Of several faults in bytes the first
-/// from the left is told, `TooLong` before all others.
+/// from the left is reported, `TooLong` before all others.
 #[derive(Clone, Copy, Debug, PartialEq, Eq, Error)]
 pub enum CodecFault {
     /// A field reaches past the end of what holds it.
@@ -17,7 +19,7 @@ pub enum CodecFault {
     #[error("BadKind")]
     BadKind = 3,
     /// A field has a value that it can't have: a role, a number of 2^48 or more, a count, a selector,
-    /// or a nested message of another kind than its place wants.
+    /// or a nested message of another kind than is wanted there.
     #[error("BadField")]
     BadField = 4,
     /// The message has more than 8,388,608 bytes.

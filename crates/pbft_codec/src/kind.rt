@@ -1,3 +1,5 @@
+//! The kinds of bodies and their bytes.
+
 ghost use Rattle.std.specs.Prelude.{◌≡◌};
 ghost use Rattle.pbft_codec.specs.Kinds.{kind_byte, kind_of};
 
@@ -17,7 +19,7 @@ pub enum Kind {
 }
 
 impl Kind {
-    /// The kind that a byte stands for, or none.
+    /// The kind of a byte, or none.
     #[tactic(auto, unfolding(crate::specs::Kinds::kind_of))]
     pub fn of(byte: u8) -> Option<Kind>
         ensures { result ≡ kind_of byte }
@@ -37,7 +39,7 @@ impl Kind {
         })
     }
 
-    /// The byte that stands for it.
+    /// Its byte.
     pub fn byte(self) -> u8
         ensures { result ≡ kind_byte self }
     {

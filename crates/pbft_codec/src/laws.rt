@@ -7,12 +7,12 @@ ghost use Rattle.pbft_codec.specs.WellFormed.{WellFormed, Encodes};
 ghost use Rattle.pbft_codec.specs.Bodies.{BodyFieldsInRange, encoded_length_of};
 ghost use Rattle.pbft_codec.specs.Encoding.{body, encoding, signed_text, max_bytes};
 
-/// Bytes spell at most one message.
+/// Bytes encode at most one message.
 pub fn bytes_encode_one_message()
     ensures { (bytes : List ℕ) (m n : Signed Body) → Encodes bytes m → Encodes bytes n → m ≡ n }
 {}
 
-/// What is signed tells its signer and its body, among messages within the limit of length: a
+/// What is signed determines its signer and its body, among messages within the limit of length: a
 /// signature of one message is none of another.
 pub fn signed_bytes_determine_signer_and_body()
     ensures { (m n : Signed Body) → WellFormed m → WellFormed n →

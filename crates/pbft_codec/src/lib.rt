@@ -1,9 +1,14 @@
 //! Messages of clients and replicas (Castro and Liskov 1999, sections 4.1 to 4.4, with signatures)
-//! and their one spelling in bytes.
+//! and their one encoding in bytes.
 //!
 //! A message is a `Signed`: who signs, a body of one of ten kinds, a signature. Bodies nest three
 //! levels deep: a `NewView` holds signed `ViewChange`s, and these hold signed `Checkpoint`s and
 //! certificates. Contracts see each of these types as plain data: bytes and sequences as lists.
+//!
+//!     let message = decode(alloc, &bytes)?;
+//!     if let Body::Request(request) = &message.body {
+//!         println!(rt; "client {} asks at time {}", message.id, request.time)?;
+//!     }
 #![tactic(auto)]
 
 mod body;

@@ -1,4 +1,4 @@
-//! Bodies of any kind, and whole messages.
+//! Whole messages: encoding, decoding and what is signed.
 
 ghost use Rattle.std.specs.Prelude.{◌≡◌, ◌≤◌, ◌<◌, ◌++◌, ◌⊎◌, List, ℕ, length, Ok, Err, OnOk, IfOk, IfErr, IsOkUnless};
 ghost use Rattle.pbft_codec.specs.declared.body.Body.{Body};
@@ -21,7 +21,7 @@ use std::alloc::{AllocError, Global};
 /// The most bytes of a message.
 const MAX_BYTES: usize = 8_388_608;
 
-/// The message that the bytes spell, all of the bytes.
+/// The message that all of the bytes encode.
 #[tactic(auto, unfolding(crate::specs::Reading::reading))]
 fn read_message(alloc: Global, bytes: &[u8]) -> Result<Signed, ReadError>
     ensures { Gives (λ m. m) result (reading bytes.now) }
@@ -33,12 +33,12 @@ fn read_message(alloc: Global, bytes: &[u8]) -> Result<Signed, ReadError>
 }
 
 /// The bytes of a message. `TooLong` comes exactly where there are more than 8,388,608 of them,
-/// `Memory` where memory ran out. The caller owes the grammar's shape: sequence numbers below 2^48,
+/// `Memory` where memory ran out. The caller owes a well-formed body: sequence numbers below 2^48,
 /// counts within their limits, ids that ascend strictly among Checkpoints, Prepares and ViewChanges.
 pub fn encode(alloc: Global, message: &Signed) -> Result<Vec<u8>, CodecFault>
     requires { BodyWellFormed message.now.body }
 
-    // The one spelling, which `decode` reads again.
+    // The one encoding, which `decode` reads again.
     ensures encoded { IfOk result (λ bytes. Encodes bytes.items message.now) }
     ensures refused { IfErr result (λ fault.
         (fault ≡ Memory) ⊎ (fault ≡ TooLong) × (max_bytes < length (encoding message.now))) }
@@ -52,19 +52,19 @@ pub fn encode(alloc: Global, message: &Signed) -> Result<Vec<u8>, CodecFault>
     }
 }
 
-/// The message that the bytes spell, all of the bytes. A refusal is the first fault from the left,
+/// The message that all of the bytes encode. A refusal is the first fault from the left,
 /// `TooLong` before all others; `Memory` comes where memory ran out, whatever the bytes.
 pub fn decode(alloc: Global, bytes: &[u8]) -> Result<Signed, CodecFault>
-    // What is read is spelled so.
+    // What is read is encoded so.
     ensures found { IfOk result (λ m. Encodes bytes.now m) }
 
-    // What is spelled so is read.
+    // What is encoded so is read.
     ensures only { (m : Signed Body) → Encodes bytes.now m → IsUnlessMemory result (Ok m) }
 
     // Which fault it is.
     ensures exact { IsUnlessMemory result (reading bytes.now) }
 
-    // A message that goes on behind the bytes.
+    // A message that continues behind the bytes.
     ensures cut { (m : Signed Body) (rest : List ℕ) → 0 < length rest →
         Encodes (bytes.now ++ rest) m → IsUnlessMemory result (Err Truncated) }
 

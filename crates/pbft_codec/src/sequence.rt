@@ -1,3 +1,5 @@
+//! Lists of values that contracts compare.
+
 use std::marker::Model;
 
 /// Several values in a type that contracts compare: contracts see a `Sequence` as the list of its
@@ -18,7 +20,7 @@ impl<T> Model for Sequence<T> {
 impl<T> Sequence<T> {
     ghost use Rattle.std.specs.Prelude.{◌≡◌};
 
-    /// The values of the vector, which is kept and not copied.
+    /// The values of the vector, which is moved and not copied.
     pub fn from_vec(values: Vec<T>) -> Sequence<T>
         ensures { result ≡ values.items }
     {

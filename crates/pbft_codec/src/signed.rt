@@ -1,3 +1,5 @@
+//! Signed bodies, and the roles of signers.
+
 use crate::body::Body;
 use host_types::Bytes;
 
@@ -12,7 +14,7 @@ pub enum Role {
 #[derive(Debug, Drop)]
 pub struct Signed<B = Body> {
     pub role: Role,
-    /// The signer: the place of a replica, or the id of a client.
+    /// The signer: the index of a replica, or the id of a client.
     pub id: u32,
     pub body: B,
     pub sig: Bytes,

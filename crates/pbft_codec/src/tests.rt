@@ -1,9 +1,12 @@
+//! Messages against the bytes of another writer, and the first fault of damaged ones.
+
 use super::*;
 use host_types::{Bytes, Digest, SeqNo, View};
 use std::alloc::Global;
 use std::process::Abort;
 use std::test::Fail;
 
+mod layouts;
 mod tables;
 
 use tables::{FAULTY, MESSAGES};
@@ -15,7 +18,7 @@ const NULL: [u8; 32] = [
 ];
 
 // The bytes of hex text that is cut into pieces.
-fn joined(alloc: Global, pieces: &[&str]) -> Result<Vec<u8>, Fail> {
+fn bytes_of(alloc: Global, pieces: &[&str]) -> Result<Vec<u8>, Fail> {
     let mut bytes = Vec::new(alloc);
     for piece in pieces {
         let part = hex::decode(alloc, *piece)?;
@@ -26,7 +29,7 @@ fn joined(alloc: Global, pieces: &[&str]) -> Result<Vec<u8>, Fail> {
 
 #[test]
 fn a_prepare_has_58_bytes(rt: HostRuntime) -> Result<(), Fail> {
-    let wanted = joined(
+    let wanted = bytes_of(
         rt.alloc(),
         &[
             "01000000020000002d03000000000000000000000001",
@@ -54,7 +57,7 @@ fn a_prepare_has_58_bytes(rt: HostRuntime) -> Result<(), Fail> {
 }
 
 fn check_round_trip(rt: &impl Abort, alloc: Global, pieces: &[&str]) -> Result<(), Fail> {
-    let bytes = joined(alloc, pieces)?;
+    let bytes = bytes_of(alloc, pieces)?;
     let message = decode(alloc, &bytes)?;
     let again = encode(alloc, &message)?;
     assert_eq!(rt; again.as_slice(), bytes.as_slice());
@@ -71,7 +74,7 @@ fn each_kind_is_read_and_written(rt: HostRuntime) -> Result<(), Fail> {
 
 #[test]
 fn what_was_read(rt: HostRuntime) -> Result<(), Fail> {
-    let bytes = joined(rt.alloc(), MESSAGES[0])?;
+    let bytes = bytes_of(rt.alloc(), MESSAGES[0])?;
     let message = decode(rt.alloc(), &bytes)?;
     assert_eq!(rt; message.role, Role::Client);
     assert_eq!(rt; message.id, 100);
@@ -87,9 +90,9 @@ fn what_was_read(rt: HostRuntime) -> Result<(), Fail> {
 }
 
 #[test]
-fn the_first_fault_is_told(rt: HostRuntime) -> Result<(), Fail> {
+fn the_first_fault_is_reported(rt: HostRuntime) -> Result<(), Fail> {
     for (name, pieces, fault) in FAULTY {
-        let bytes = joined(rt.alloc(), pieces)?;
+        let bytes = bytes_of(rt.alloc(), pieces)?;
         assert_eq!(rt; decode(rt.alloc(), &bytes).err(), Some(fault), "{name}");
     }
     Ok(())
@@ -122,28 +125,18 @@ fn messages_have_at_most_8_388_608_bytes(rt: HostRuntime) -> Result<(), Fail> {
 
 #[test]
 fn faults_have_names_and_numbers(rt: HostRuntime) -> Result<(), Fail> {
-    assert_eq!(rt;
-        format!(in rt.alloc();
-            "{} {} {} {}",
-            CodecFault::Truncated,
-            CodecFault::Trailing,
-            CodecFault::BadKind,
-            CodecFault::BadField
-        )?
-        .as_str(),
-        "Truncated Trailing BadKind BadField"
-    );
-    assert_eq!(rt;
-        format!(in rt.alloc();
-            "{} {} {}",
-            CodecFault::TooLong,
-            CodecFault::NotAscending,
-            CodecFault::Memory
-        )?
-        .as_str(),
-        "TooLong NotAscending Memory"
-    );
-    assert_eq!(rt; CodecFault::Truncated.number(), 1);
-    assert_eq!(rt; CodecFault::Memory.number(), 7);
+    let rows = [
+        (CodecFault::Truncated, "Truncated", 1),
+        (CodecFault::Trailing, "Trailing", 2),
+        (CodecFault::BadKind, "BadKind", 3),
+        (CodecFault::BadField, "BadField", 4),
+        (CodecFault::TooLong, "TooLong", 5),
+        (CodecFault::NotAscending, "NotAscending", 6),
+        (CodecFault::Memory, "Memory", 7),
+    ];
+    for (fault, name, number) in rows {
+        assert_eq!(rt; fault.to_string(rt.alloc())?.as_str(), name);
+        assert_eq!(rt; fault.number(), number, "{name}");
+    }
     Ok(())
 }

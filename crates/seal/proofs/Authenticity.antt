@@ -1,4 +1,4 @@
--- Sound messages are those without a fault, and what is sound as a whole is sound in its parts.
+-- Authentic messages are those without a fault.
 use Rattle.std.proofs.Common.{◌≡◌, ℕ, suc, ◌+◌, ◌<◌, ◌≤◌, Bool, true, false, not, cond, List, [], ◌∷◌, ◌++◌, length, get_or, drop, Option, Some, None, Result, refl, sym, ap, subst, ◌∙◌, ◌⊎◌, inl, inr, arith}
 use Rattle.std.specs.Prelude.{is_some, MatchResult}
 use Rattle.std.specs.List.{AllByRecursion}
@@ -63,9 +63,9 @@ all_faultless c (m ∷ ms) s = rw (authentic_is_faultless c m s.0) (all_faultles
 
 -- ---- one after the other
 
-pub goes_on : (c : Configuration) (ms : List (Signed Body)) (i : ℕ) (m : Signed Body) → i < length ms → own_fault c (get_or ms i m) ≡ None → first_fault c (drop i ms) ≡ first_fault c (drop (i + 1) ms)
+pub continues : (c : Configuration) (ms : List (Signed Body)) (i : ℕ) (m : Signed Body) → i < length ms → own_fault c (get_or ms i m) ≡ None → first_fault c (drop i ms) ≡ first_fault c (drop (i + 1) ms)
 unfolding first_fault
-goes_on c ms i m lt e =
+continues c ms i m lt e =
     let next : i + 1 ≡ suc i = omega arith in
     rw (next, drop-cons ms i m lt) (rw e refl)
 
@@ -93,7 +93,7 @@ pub none_left : (c : Configuration) (ms : List (Signed Body)) (i : ℕ) → leng
 unfolding first_fault
 none_left c ms i le so_far = so_far ∙ ap (first_fault c) (drop_of_length-le ms le)
 
--- what judging several answered
+-- what verifying a list answered
 abbrev pub Verifies : {X : Type 0} → Result X SealFault → Configuration → List (Signed Body) → Type 0
 Verifies r c ms = MatchResult r (λ _. first_fault c ms ≡ None) (λ f. MemoryOr f (first_fault c ms))
 

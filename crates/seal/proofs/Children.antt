@@ -1,4 +1,4 @@
--- The messages that a sound message of the grammar holds are such messages themselves.
+-- The messages that an authentic message of the grammar holds are such messages themselves.
 use Rattle.std.proofs.Common.{◌≡◌, ℕ, ◌+◌, ◌<◌, ◌≤◌, List, [], ◌∷◌, ◌++◌, length, get_or, refl, sym, ap, subst, arith, length-append}
 use Rattle.std.specs.Prelude.{map}
 use Rattle.std.specs.Int.{w32, to_be_bytes}
@@ -27,7 +27,7 @@ pub record CanNest (c : Configuration) (m : Signed Body) : Type 0 where
   pub within : length (encoding m) ≤ max_bytes
   pub authentic : AllByRecursion (IsAuthentic c) (messages_in m)
 
--- a kind of body that stands in others
+-- a kind of body that others hold
 record IsLeaf {B : Type 0} (kind : B → Body) (WellFormed : B → Type 0) (fields : B → List ℕ) : Type 0 where
   well_formed : (b : B) → WellFormed b → BodyWellFormed (kind b)
   text : (b : B) → body (kind b) ≡ fields b

@@ -1,4 +1,4 @@
--- What opening answers, from what decoding and judging answered.
+-- What opening answers, from what decoding and verifying answered.
 use Rattle.std.proofs.Common.{◌≡◌, ℕ, Bool, true, false, not, cond, List, [], ◌∷◌, Option, Some, None, Result, Ok, Err, refl, sym, ap, subst, ◌∙◌, ◌⊎◌, inl, inr}
 use Rattle.std.specs.List.{AllByRecursion}
 use Rattle.host_types.specs.Configuration.{Configuration}
@@ -42,9 +42,9 @@ fault_of : (c : Configuration) (bytes : List ℕ) (m : Signed Body) (o : Option 
 unfolding opening
 fault_of c bytes m o read e = ap (verified c) read ∙ ap (unless_fault c m) e
 
-pub judge_refused : (c : Configuration) (bytes : List ℕ) (m : Signed Body) (f : SealFault) → reading bytes ≡ Ok m → (f ≡ Memory) ⊎ (first_fault c (messages_in m) ≡ Some f) → IsUnlessMemory {A = CheckedMessage} (Err f) (opening c bytes)
-judge_refused c bytes m f read (inl e) = memory_or f (opening c bytes) (inl e)
-judge_refused c bytes m f read (inr e) = memory_or f (opening c bytes) (inr (fault_of c bytes m (Some f) read e))
+pub verify_refused : (c : Configuration) (bytes : List ℕ) (m : Signed Body) (f : SealFault) → reading bytes ≡ Ok m → (f ≡ Memory) ⊎ (first_fault c (messages_in m) ≡ Some f) → IsUnlessMemory {A = CheckedMessage} (Err f) (opening c bytes)
+verify_refused c bytes m f read (inl e) = memory_or f (opening c bytes) (inl e)
+verify_refused c bytes m f read (inr e) = memory_or f (opening c bytes) (inr (fault_of c bytes m (Some f) read e))
 
 pub opens : (c : Configuration) (bytes : List ℕ) (m : Signed Body) → reading bytes ≡ Ok m → first_fault c (messages_in m) ≡ None → opening c bytes ≡ Ok (record { config = c; message = m })
 opens c bytes m read e = fault_of c bytes m None read e
@@ -53,7 +53,7 @@ pub only_from_exact : (r : Result CheckedMessage SealFault) (c : Configuration) 
 only_from_exact r c bytes m exact encodes authentic =
     subst (λ (o : Result CheckedMessage SealFault). IsUnlessMemory r o) (opens c bytes m (reading_only bytes m encodes) (all_faultless c (messages_in m) authentic)) exact
 
--- ---- want of memory is never told as a fault of the bytes
+-- ---- out of memory is never reported as a fault of the bytes
 
 pub proper_codec : (f : CodecFault) → IsProper (from_codec f)
 proper_codec codec.Memory = tt
@@ -87,6 +87,6 @@ unfolding first_fault own_fault
 proper_first c [] f e = absurd cc
 proper_first c (m ∷ ms) f e = proper_or (own_fault c m) (first_fault c ms) f (proper_under c (key_of c m.role m.id) m) (proper_first c ms f) e
 
-pub proper_judged : (c : Configuration) (ms : List (Signed Body)) (f : SealFault) → (f ≡ Memory) ⊎ (first_fault c ms ≡ Some f) → IsProper f
-proper_judged c ms f (inl e) = subst IsProper (sym e) tt
-proper_judged c ms f (inr e) = proper_first c ms f e
+pub proper_verified : (c : Configuration) (ms : List (Signed Body)) (f : SealFault) → (f ≡ Memory) ⊎ (first_fault c ms ≡ Some f) → IsProper f
+proper_verified c ms f (inl e) = subst IsProper (sym e) tt
+proper_verified c ms f (inr e) = proper_first c ms f e

@@ -1,4 +1,4 @@
--- The number of each fault.
+-- Statement: the number of each fault, and which faults the bytes have.
 use Rattle.std.specs.Prelude.{ℕ}
 use Rattle.pbft_codec.specs.declared.fault.CodecFault.{CodecFault}
 use Rattle.pbft_codec.specs.declared.fault.CodecFault.TheVariants as codec
@@ -12,7 +12,7 @@ number_of BadSignature = 3
 number_of WrongRole = 4
 number_of Memory = 5
 
--- The codec's want of memory is no fault of the bytes.
+-- The codec's `Memory` is no fault of the bytes.
 abbrev pub from_codec : CodecFault → SealFault
 from_codec codec.Memory = Memory
 from_codec codec.Truncated = Codec codec.Truncated
@@ -22,7 +22,7 @@ from_codec codec.BadField = Codec codec.BadField
 from_codec codec.TooLong = Codec codec.TooLong
 from_codec codec.NotAscending = Codec codec.NotAscending
 
--- Want of memory is never told as a fault of the bytes.
+-- Out of memory is never reported as a fault of the bytes.
 abbrev pub IsOfBytes : CodecFault → Type 0
 IsOfBytes codec.Memory = ⊥
 IsOfBytes codec.Truncated = Unit {0}

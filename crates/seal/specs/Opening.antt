@@ -22,7 +22,7 @@ pub record CheckedMessage : Type 0 where
   pub config : Configuration
   pub message : Signed Body
 
--- A message of the grammar, within the limit of length, whose parts are all sound.
+-- A message of the grammar, within the limit of length, whose parts are all authentic.
 pub record IsChecked (c : CheckedMessage) : Type 0 where
   pub encodes : Encodes (encoding c.message) c.message
   pub authentic : AllByRecursion (IsAuthentic c.config) (messages_in c.message)
@@ -36,7 +36,7 @@ abbrev pub verified : Configuration → Result (Signed Body) CodecFault → Resu
 verified c (Ok m) = unless_fault c m (first_fault c (messages_in m))
 verified c (Err fault) = Err (Codec fault)
 
--- The message that the bytes spell if all its parts are sound, or the first fault: the codec's, else
+-- The message that the bytes encode if all its parts are authentic, or the first fault: the codec's, else
 -- that of the first part that has one.
 unfoldable pub opening : Configuration → List ℕ → Result CheckedMessage SealFault
 opening c bytes = verified c (reading bytes)

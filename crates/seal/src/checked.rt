@@ -1,3 +1,5 @@
+//! Messages whose signatures were verified, as values.
+
 ghost use Rattle.std.specs.Prelude.{◌≡◌, ◌≤◌, length, IfOk};
 ghost use Rattle.std.specs.List.{AllByRecursion};
 ghost use Rattle.pbft_codec.specs.Bodies.{BodyWellFormed};
@@ -65,7 +67,7 @@ impl Checked {
         }
     }
 
-    /// A sound message of the grammar that keeps the limit of length.
+    /// An authentic message of the grammar that keeps the limit of length.
     pub(crate) fn encoded(
         alloc: Global,
         config: &Arc<Config>,
@@ -110,7 +112,7 @@ impl Checked {
         &inner.message.body
     }
 
-    /// The message's one spelling.
+    /// The message's one encoding.
     pub fn bytes(&self) -> &[u8]
         ensures value { result.now ≡ encoding self.now.message }
         ensures checked { IsChecked self.now }

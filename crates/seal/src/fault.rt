@@ -1,10 +1,12 @@
+//! Why bytes are no message that a configuration takes.
+
 ghost use Rattle.std.specs.Prelude.{◌≡◌};
 
 use pbft_codec::CodecFault;
 use std::alloc::{AllocError, AllocFailed};
 use thiserror::Error;
 
-/// Why bytes are no message that a configuration takes. Of several faults the codec's is told, else
+/// Why bytes are no message that a configuration takes. Of several faults the codec's is reported, else
 /// that of the first part that has one; of those of one part `UnknownSigner` before `WrongRole`, and
 /// `WrongRole` before `BadSignature`.
 #[derive(Clone, Copy, Debug, PartialEq, Eq, Error)]

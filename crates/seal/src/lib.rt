@@ -2,6 +2,9 @@
 //! parts all have a listed signer, who may say what it says and signed it (Castro and Liskov 1999,
 //! section 4, with signatures in place of authenticators). `open` makes one of bytes, `seal` of a body
 //! and a signer.
+//!
+//!     let request = open(alloc, &config, &bytes)?;
+//!     let digest = request_digest(&request);
 #![tactic(auto)]
 
 mod checked;

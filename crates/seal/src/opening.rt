@@ -1,3 +1,5 @@
+//! Opening bytes, and what an opened message holds.
+
 ghost use Rattle.std.specs.Prelude.{◌≡◌, ◌∷◌, ◌++◌, IfOk, IfErr, Ok, map};
 ghost use Rattle.std.specs.List.{AllByRecursion, flat_map};
 ghost use Rattle.pbft_codec.specs.declared.body.Body.{Body};
@@ -21,20 +23,20 @@ use sha2::{Digest as _, Sha256};
 use std::alloc::{AllocError, Global};
 use std::sync::Arc;
 
-/// The message that the bytes spell, where each part of it has a signer that `config` lists, who may
+/// The message that the bytes encode, where each part of it has a signer that `config` lists, who may
 /// say what it says and signed it. A refusal is the codec's, else that of the first part that has a
 /// fault, of a message before those nested in it: `UnknownSigner`, `WrongRole`, `BadSignature`, in this
 /// order. `Memory` comes where memory ran out, whatever the bytes.
 pub fn open(alloc: Global, config: &Arc<Config>, bytes: &[u8]) -> Result<Checked, SealFault>
-    // What is opened was spelled so, and is sound.
+    // What is opened was encoded so, and is authentic.
     ensures found { IfOk result (λ c. Encodes bytes.now c.message × (c.config ≡ config.now.value)
         × AllByRecursion (IsAuthentic config.now.value) (messages_in c.message)) }
 
-    // What is spelled so and sound is opened.
+    // What is encoded so and authentic is opened.
     ensures only { (m : Signed Body) → Encodes bytes.now m → AllByRecursion (IsAuthentic config.now.value) (messages_in m) →
         IsUnlessMemory result (Ok (record { config = config.now.value; message = m })) }
 
-    // Which fault it is; that of the codec is never its want of memory.
+    // Which fault it is; that of the codec is never its `Memory`.
     ensures exact { IsUnlessMemory result (opening config.now.value bytes.now) }
     ensures proper { IfErr result IsProper }
 {
@@ -54,7 +56,7 @@ fn opened(alloc: Global, config: &Arc<Config>, bytes: &[u8]) -> Result<Checked, 
 }
 
 /// The parts of a message: its own, then those of its nested messages from left to right. It is refused
-/// only for want of memory.
+/// only where memory ran out.
 pub fn parts(alloc: Global, message: &Checked) -> Result<Vec<Part>, AllocError>
     ensures { IfOk result (λ parts. parts.items ≡ parts_of message.now.message) }
 {
@@ -73,7 +75,7 @@ pub fn parts(alloc: Global, message: &Checked) -> Result<Vec<Part>, AllocError>
 }
 
 /// The messages that a message holds itself, from left to right, under the same configuration. It is
-/// refused only for want of memory.
+/// refused only where memory ran out.
 pub fn nested(alloc: Global, message: &Checked) -> Result<Vec<Checked>, AllocError>
     ensures messages { IfOk result (λ inside.
         inside.items ≡ map (λ m. record { config = message.now.config; message = m }) (children_of message.now.message.body)) }

@@ -1,3 +1,5 @@
+//! Sealing a body with a signer.
+
 ghost use Rattle.std.specs.Prelude.{◌≡◌, ◌⊎◌, ◌↔◌, ◌+◌, ◌≤◌, [], IsTrue, IfOk, IsErrOf, IsSomeAnd, length};
 ghost use Rattle.std.specs.List.{AllByRecursion};
 ghost use Rattle.lms_tree.specs.declared.fault.SignFault.{SignFault};
@@ -29,7 +31,7 @@ pub fn with_empty_signature(alloc: Global, role: Role, id: u32, body: Body) -> S
 
 /// The message of this body, signed by the signer's next leaf. The caller owes a signer whose key is
 /// listed for the role and the id, a body of the grammar that comes from that signer and fits in a
-/// message, and nested messages that are sound. `Exhausted` comes exactly where every leaf has signed,
+/// message, and nested messages that are authentic. `Exhausted` comes exactly where every leaf has signed,
 /// takes no memory, and leaves the signer as it was. After `Memory` the next leaf is the old one or one
 /// more.
 pub fn seal(

@@ -21,8 +21,8 @@ const CLIENT: u8 = 2;
 // The body of a Request at time 1 of one operation byte.
 const REQUEST: [u8; 14] = [1, 0, 0, 0, 0, 0, 0, 0, 1, 0, 0, 0, 1, 9];
 
-fn replica(alloc: Global, place: u8) -> Result<Signer, AllocError> {
-    Signer::from_seed(alloc, Height::H5, [place; 16], [5; 32])
+fn replica(alloc: Global, index: u8) -> Result<Signer, AllocError> {
+    Signer::from_seed(alloc, Height::H5, [index; 16], [5; 32])
 }
 
 fn client(alloc: Global) -> Result<Signer, AllocError> {
@@ -114,7 +114,7 @@ fn fault(alloc: Global, config: &Arc<Config>, bytes: &[u8]) -> Option<SealFault>
 }
 
 #[test]
-fn bytes_and_signatures_are_judged(rt: HostRuntime) -> Result<(), Fail> {
+fn bytes_and_signatures_are_verified(rt: HostRuntime) -> Result<(), Fail> {
     let alloc = rt.alloc();
     let mut second = replica(alloc, 1)?;
     let config = config(
@@ -136,7 +136,7 @@ fn bytes_and_signatures_are_judged(rt: HostRuntime) -> Result<(), Fail> {
 }
 
 #[test]
-fn the_first_fault_of_a_part_is_told(rt: HostRuntime) -> Result<(), Fail> {
+fn the_first_fault_of_a_part_is_reported(rt: HostRuntime) -> Result<(), Fail> {
     let alloc = rt.alloc();
     let mut first = replica(alloc, 0)?;
     let mut second = replica(alloc, 1)?;
@@ -171,7 +171,7 @@ fn the_first_fault_of_a_part_is_told(rt: HostRuntime) -> Result<(), Fail> {
 }
 
 #[test]
-fn the_first_part_with_a_fault_is_told(rt: HostRuntime) -> Result<(), Fail> {
+fn the_first_part_with_a_fault_is_reported(rt: HostRuntime) -> Result<(), Fail> {
     let alloc = rt.alloc();
     let mut first = replica(alloc, 0)?;
     let mut second = replica(alloc, 1)?;
@@ -252,7 +252,7 @@ struct Entry {
     body: Vec<u8>,
 }
 
-fn made_entry(
+fn entry_of(
     alloc: Global,
     first: &mut Signer,
     second: &mut Signer,
@@ -319,7 +319,7 @@ fn the_parts_of_a_new_view(rt: HostRuntime) -> Result<(), Fail> {
         [0; 56],
     ];
     let config = config(alloc, &keys, [0; 56])?;
-    let entry = made_entry(alloc, &mut first, &mut second, &mut third)?;
+    let entry = entry_of(alloc, &mut first, &mut second, &mut third)?;
     let bytes = message(alloc, &mut second, REPLICA, 1, &entry.body)?;
     match open(alloc, &config, &bytes) {
         Ok(opened) => check_new_view(&rt, alloc, &opened, &entry)?,
@@ -397,22 +397,21 @@ fn a_signer_seals_until_it_is_exhausted(rt: HostRuntime) -> Result<(), Fail> {
 
 #[test]
 fn faults_have_names_and_numbers(rt: HostRuntime) -> Result<(), Fail> {
-    let codec = SealFault::Codec(CodecFault::BadKind);
-    assert_eq!(rt;
-        format!(in rt.alloc();
-            "{codec} {} {}",
-            SealFault::UnknownSigner,
-            SealFault::BadSignature
-        )?
-        .as_str(),
-        "BadKind UnknownSigner BadSignature"
-    );
-    assert_eq!(rt;
-        format!(in rt.alloc(); "{} {}", SealFault::WrongRole, SealFault::Memory)?.as_str(),
-        "WrongRole Memory"
-    );
-    assert_eq!(rt; codec.number(), 1);
-    assert_eq!(rt; SealFault::BadSignature.number(), 3);
-    assert_eq!(rt; SealFault::WrongRole.number(), 4);
+    let rows = [
+        (SealFault::Codec(CodecFault::Truncated), "Truncated", 1),
+        (
+            SealFault::Codec(CodecFault::NotAscending),
+            "NotAscending",
+            1,
+        ),
+        (SealFault::UnknownSigner, "UnknownSigner", 2),
+        (SealFault::BadSignature, "BadSignature", 3),
+        (SealFault::WrongRole, "WrongRole", 4),
+        (SealFault::Memory, "Memory", 5),
+    ];
+    for (fault, name, number) in rows {
+        assert_eq!(rt; fault.to_string(rt.alloc())?.as_str(), name);
+        assert_eq!(rt; fault.number(), number, "{name}");
+    }
     Ok(())
 }

@@ -23,7 +23,7 @@ pub type CheckpointList = Sequence<Signed<Checkpoint>>;
 /// At most 16.
 pub type Certificates = Sequence<Certificate>;
 
-/// A replica asks for a view, and tells what it has prepared.
+/// A replica asks for a view, and says what it has prepared.
 #[derive(Debug, Drop)]
 pub struct ViewChange {
     pub view: View,

@@ -6,7 +6,7 @@ use Rattle.lms_ots.proofs.Chains.{length-u16str, length-u32str}
 use Rattle.lms_ots.proofs.BufferLemmas.{piece_last, piece_more}
 use Rattle.lms_ots.proofs.hash.block_hash.Goals as goal
 
--- each `put` stands behind the ones before it, and the last one ends the input
+-- each `put` is behind the ones before it, and the last one ends the input
 pub returns : goal.returns
 unfolding tagged_hash
 returns c =

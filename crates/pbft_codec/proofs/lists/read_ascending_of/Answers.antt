@@ -1,7 +1,7 @@
 use Rattle.std.proofs.Common.{◌+◌}
 use Rattle.std.proofs.lemmas.Result.{err_from_is_err_and}
 use Rattle.pbft_codec.specs.Reading.{many_at, signed_at}
-use Rattle.pbft_codec.proofs.Loops.{goes_on, ends, is_done}
+use Rattle.pbft_codec.proofs.Loops.{continues, ends, is_done}
 use Rattle.pbft_codec.proofs.lists.read_ascending_of.Goals as goal
 
 pub returns-in_err-value : goal.returns-in_err-value
@@ -13,7 +13,7 @@ returns-in_err-value g c =
 pub loop-preserved : goal.loop-preserved
 loop-preserved g c =
     let reading = g.B.Codec.reading in
-    rw c.in_ok-push.ensures.items (goes_on (signed_at reading) (λ m. m.id + 1) c.loop.values.items c.args.count c.loop.counter c.loop.low c.loop.rest.now c.in_ok-value.value c.in_ok-value.after.now (many_at (signed_at reading) (λ m. m.id + 1) c.args.count 0 c.args.bytes.now) c.loop-test.true c.in_ok-value.ensures c.loop.invariant)
+    rw c.in_ok-push.ensures.items (continues (signed_at reading) (λ m. m.id + 1) c.loop.values.items c.args.count c.loop.counter c.loop.low c.loop.rest.now c.in_ok-value.value c.in_ok-value.after.now (many_at (signed_at reading) (λ m. m.id + 1) c.args.count 0 c.args.bytes.now) c.loop-test.true c.in_ok-value.ensures c.loop.invariant)
 
 pub returns : goal.returns
 returns g c =

@@ -1,6 +1,6 @@
 use Rattle.std.proofs.lemmas.Result.{err_from_is_err_and}
 use Rattle.pbft_codec.specs.Reading.{many_at}
-use Rattle.pbft_codec.proofs.Loops.{goes_on, ends, is_done}
+use Rattle.pbft_codec.proofs.Loops.{continues, ends, is_done}
 use Rattle.pbft_codec.proofs.lists.read_list_of.Goals as goal
 
 pub returns-in_err-value : goal.returns-in_err-value
@@ -12,7 +12,7 @@ returns-in_err-value g c =
 pub loop-preserved : goal.loop-preserved
 loop-preserved g c =
     let reading = g.T.Codec.reading in
-    rw c.in_ok-push.ensures.items (goes_on (λ _. reading) (λ _. 0) c.loop.values.items c.args.count c.loop.counter 0 c.loop.rest.now c.in_ok-value.value c.in_ok-value.after.now (many_at (λ _. reading) (λ _. 0) c.args.count 0 c.args.bytes.now) c.loop-test.true c.in_ok-value.ensures c.loop.invariant)
+    rw c.in_ok-push.ensures.items (continues (λ _. reading) (λ _. 0) c.loop.values.items c.args.count c.loop.counter 0 c.loop.rest.now c.in_ok-value.value c.in_ok-value.after.now (many_at (λ _. reading) (λ _. 0) c.args.count 0 c.args.bytes.now) c.loop-test.true c.in_ok-value.ensures c.loop.invariant)
 
 pub returns : goal.returns
 returns g c =

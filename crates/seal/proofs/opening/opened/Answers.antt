@@ -1,7 +1,7 @@
 use Rattle.std.proofs.Common.{◌∙◌, Ok, ap, sym}
 use Rattle.std.proofs.lemmas.Result.{err_from_is_err_and}
 use Rattle.seal.specs.Parts.{messages_in}
-use Rattle.seal.proofs.Openings.{proper_codec, proper_judged, decode_refused, judge_refused, opens}
+use Rattle.seal.proofs.Openings.{proper_codec, proper_verified, decode_refused, verify_refused, opens}
 use Rattle.seal.proofs.Authenticity.{all_authentic}
 use Rattle.seal.proofs.opening.opened.Goals as goal
 
@@ -14,7 +14,7 @@ pub returns-in_err-verify_message-clause-exact : goal.returns-in_err-verify_mess
 returns-in_err-verify_message-clause-exact c =
     let p = err_from_is_err_and c.from_residual-in_err-verify_message.result c.from_residual-in_err-verify_message.ensures.1 in
     let found = rw c.deref.ensures at c.in_err-verify_message.ensures in
-    rw (p.1, p.2) (judge_refused c.args.config.now.value c.args.bytes.now c.in_ok-message.message _ c.in_ok-message.ensures.exact found)
+    rw (p.1, p.2) (verify_refused c.args.config.now.value c.args.bytes.now c.in_ok-message.message _ c.in_ok-message.ensures.exact found)
 
 pub new-requires-clause-authentic : goal.new-requires-clause-authentic
 new-requires-clause-authentic c =
@@ -34,4 +34,4 @@ returns-in_err-message-clause-proper c =
 pub returns-in_err-verify_message-clause-proper : goal.returns-in_err-verify_message-clause-proper
 returns-in_err-verify_message-clause-proper c =
     let p = err_from_is_err_and c.from_residual-in_err-verify_message.result c.from_residual-in_err-verify_message.ensures.1 in
-    rw (p.1, p.2) (proper_judged c.deref.result.now (messages_in c.in_ok-message.message) _ c.in_err-verify_message.ensures)
+    rw (p.1, p.2) (proper_verified c.deref.result.now (messages_in c.in_ok-message.message) _ c.in_err-verify_message.ensures)

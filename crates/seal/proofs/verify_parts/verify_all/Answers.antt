@@ -1,7 +1,7 @@
 use Rattle.std.proofs.Common.{◌∙◌, ap, sym}
 use Rattle.std.proofs.lemmas.Result.{err_from_is_err_and}
 use Rattle.seal.specs.Signers.{own_fault}
-use Rattle.seal.proofs.Authenticity.{goes_on, none_left, stops_whole}
+use Rattle.seal.proofs.Authenticity.{continues, none_left, stops_whole}
 use Rattle.seal.proofs.verify_parts.verify_all.Goals as goal
 
 pub returns-in_err-verify_nested : goal.returns-in_err-verify_nested
@@ -11,7 +11,7 @@ returns-in_err-verify_nested c =
 
 pub loop-message-preserved : goal.loop-message-preserved
 loop-message-preserved c =
-    c.loop-message.invariant ∙ goes_on c.args.config.now c.args.messages.now c.loop-message.message-index c.message-item.result c.loop-message-test.true (ap (own_fault c.args.config.now) (sym c.message-item.is) ∙ c.in_ok-verify_nested.ensures)
+    c.loop-message.invariant ∙ continues c.args.config.now c.args.messages.now c.loop-message.message-index c.message-item.result c.loop-message-test.true (ap (own_fault c.args.config.now) (sym c.message-item.is) ∙ c.in_ok-verify_nested.ensures)
 
 pub returns : goal.returns
 returns c = none_left c.args.config.now c.args.messages.now c.loop-message.message-index c.loop-message-test.false c.loop-message.invariant
