@@ -1,2 +1,4 @@
 pub mod Arithmetic
 pub mod Bind
+pub mod ByteSwap
+pub mod Jump

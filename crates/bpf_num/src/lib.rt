@@ -1,9 +1,17 @@
-//! The arithmetic of BPF registers (RFC 9669, section 4.1), as plain functions on 64-bit numbers:
+//! The arithmetic of BPF registers (RFC 9669, sections 4.1 to 4.3), as plain functions on 64-bit numbers:
 //! `alu64(AluOp::Add, 2, 3)` is 5, and `alu32(AluOp::Add, 0xffff_ffff, 1)` is 0.
 #![tactic(auto)]
 
+mod jump;
+mod swap;
+#[cfg(test)]
+mod tests;
+
 ghost use Rattle.std.specs.Prelude.{◌≡◌};
 ghost use Rattle.bpf_num.specs.Arithmetic.{alu64_of, alu32_of, alu_of, reads_destination};
+
+pub use jump::{Test, jump_test};
+pub use swap::{SwapKind, Width, byte_swap};
 
 /// An arithmetic operation of the classes ALU and ALU64 (RFC 9669, section 4.1).
 #[derive(Clone, Copy, Debug, PartialEq, Eq)]
@@ -66,60 +74,5 @@ pub fn alu(width: AluWidth, op: AluOp, dst: u64, src: u64) -> u64
     match width {
         AluWidth::W32 => alu32(op, dst, src),
         AluWidth::W64 => alu64(op, dst, src),
-    }
-}
-
-#[cfg(test)]
-mod tests {
-    use super::*;
-
-    #[test]
-    fn worked_results(rt: HostRuntime) {
-        let rows = [
-            (
-                "a sum wraps at 2^64",
-                AluWidth::W64,
-                AluOp::Add,
-                u64::MAX,
-                2,
-                1,
-            ),
-            (
-                "a sum of 32 bits wraps at 2^32",
-                AluWidth::W32,
-                AluOp::Add,
-                0xffff_ffff,
-                2,
-                1,
-            ),
-            (
-                "it takes low halves",
-                AluWidth::W32,
-                AluOp::Add,
-                0x7_0000_0001,
-                0x9_0000_0002,
-                3,
-            ),
-            (
-                "mov of 32 bits clears the upper half",
-                AluWidth::W32,
-                AluOp::Mov,
-                7,
-                u64::MAX,
-                0xffff_ffff,
-            ),
-            (
-                "mov takes the source",
-                AluWidth::W64,
-                AluOp::Mov,
-                7,
-                u64::MAX,
-                u64::MAX,
-            ),
-        ];
-        for (name, width, op, dst, src, want) in rows {
-            assert_eq!(rt; alu(width, op, dst, src), want, "{name}");
-        }
-        assert!(rt; AluOp::Add.reads_destination() && !AluOp::Mov.reads_destination());
     }
 }

@@ -1,0 +1,158 @@
+//! Results at worked values.
+
+use super::*;
+
+#[test]
+fn worked_results(rt: HostRuntime) {
+    let rows = [
+        (
+            "a sum wraps at 2^64",
+            AluWidth::W64,
+            AluOp::Add,
+            u64::MAX,
+            2,
+            1,
+        ),
+        (
+            "a sum of 32 bits wraps at 2^32",
+            AluWidth::W32,
+            AluOp::Add,
+            0xffff_ffff,
+            2,
+            1,
+        ),
+        (
+            "it takes low halves",
+            AluWidth::W32,
+            AluOp::Add,
+            0x7_0000_0001,
+            0x9_0000_0002,
+            3,
+        ),
+        (
+            "mov of 32 bits clears the upper half",
+            AluWidth::W32,
+            AluOp::Mov,
+            7,
+            u64::MAX,
+            0xffff_ffff,
+        ),
+        (
+            "mov takes the source",
+            AluWidth::W64,
+            AluOp::Mov,
+            7,
+            u64::MAX,
+            u64::MAX,
+        ),
+    ];
+    for (name, width, op, dst, src, want) in rows {
+        assert_eq!(rt; alu(width, op, dst, src), want, "{name}");
+    }
+    assert!(rt; AluOp::Add.reads_destination() && !AluOp::Mov.reads_destination());
+}
+
+#[test]
+fn worked_swaps(rt: HostRuntime) {
+    let rows = [
+        (
+            "be of 16 cuts",
+            SwapKind::Be,
+            Width::W16,
+            0x1234_5678,
+            0x7856,
+        ),
+        (
+            "swap of 32",
+            SwapKind::Swap,
+            Width::W32,
+            0x1122_3344_5566_7788,
+            0x8877_6655,
+        ),
+        (
+            "swap of 64",
+            SwapKind::Swap,
+            Width::W64,
+            0x1122_3344_5566_7788,
+            0x8877_6655_4433_2211,
+        ),
+        (
+            "le of 16 cuts",
+            SwapKind::Le,
+            Width::W16,
+            0x1234_5678,
+            0x5678,
+        ),
+        (
+            "le of 64",
+            SwapKind::Le,
+            Width::W64,
+            0x1122_3344_5566_7788,
+            0x1122_3344_5566_7788,
+        ),
+    ];
+    for (name, kind, width, value, want) in rows {
+        assert_eq!(rt; byte_swap(kind, width, value), want, "{name}");
+    }
+}
+
+#[test]
+fn worked_tests(rt: HostRuntime) {
+    let minus_1 = u64::MAX;
+    let rows = [
+        ("equal", Test::Jeq, false, 7, 7, true),
+        ("equal low halves", Test::Jeq, true, 0x1_0000_0007, 7, true),
+        ("not equal", Test::Jne, false, 0x1_0000_0007, 7, true),
+        (
+            "-1 is the greatest unsigned",
+            Test::Jgt,
+            false,
+            minus_1,
+            1,
+            true,
+        ),
+        (
+            "and less than 1 signed",
+            Test::Jsgt,
+            false,
+            minus_1,
+            1,
+            false,
+        ),
+        ("less, signed", Test::Jslt, false, minus_1, 1, true),
+        ("of low halves", Test::Jslt, true, 0xffff_ffff, 1, true),
+        ("not of registers", Test::Jslt, false, 0xffff_ffff, 1, false),
+        ("a common bit", Test::Jset, false, 6, 3, true),
+        ("no common bit", Test::Jset, false, 4, 3, false),
+        (
+            "no common bit in low halves",
+            Test::Jset,
+            true,
+            0x1_0000_0000,
+            0x1_0000_0000,
+            false,
+        ),
+        ("greater or equal", Test::Jge, false, 7, 7, true),
+        (
+            "signed greater or equal",
+            Test::Jsge,
+            false,
+            minus_1,
+            0,
+            false,
+        ),
+        ("less", Test::Jlt, false, 7, 7, false),
+        ("less or equal", Test::Jle, false, 7, 7, true),
+        (
+            "signed less or equal",
+            Test::Jsle,
+            false,
+            minus_1,
+            minus_1,
+            true,
+        ),
+    ];
+    for (name, test, narrow, a, b, want) in rows {
+        assert_eq!(rt; jump_test(test, narrow, a, b), want, "{name}");
+    }
+}
