@@ -31,12 +31,12 @@ word-behind p t at e =
     cc (first, byte 1, byte 2, byte 3) in
     ap (from_be_bytes w32) bytes
 
--- a number that is spelled at the head
+-- a number that is encoded at the head
 word-head : (n : ℕ) (t : List ℕ) → n < 2 ^ 32 → word_at (u32str n ++ t) 0 ≡ n
 unfolding word_at u32str
 word-head n t h = from_be_bytes-to_be_bytes_4 n h
 
--- a number that is spelled behind a list
+-- a number that is encoded behind a list
 pub word-encoded : (p : List ℕ) (n : ℕ) (t : List ℕ) (at : ℕ) → length p ≡ at → n < 2 ^ 32 → word_at (p ++ u32str n ++ t) at ≡ n
 word-encoded p n t at e h =
     ap (λ s. word_at s at) (append_assoc p (u32str n) t) ∙ (word-behind p (u32str n ++ t) at e ∙ word-head n t h)
@@ -104,7 +104,7 @@ part_path l f n i el each h =
     ap (λ s. take 32 s) (sym (drop-drop (32 * i) 2188 (l ++ concatenation f n)) ∙ ap (λ s. drop (32 * i) s) (drop_at l (concatenation f n) 2188 el))
     ∙ piece-concatenation f 32 n i each h
 
--- the type's word of the one-time signature
+-- the typecode of the one-time signature
 ots_word : (l c j r : List ℕ) → length l ≡ 4 → word_at (l ++ (u32str 3 ++ c ++ j) ++ r) 4 ≡ 3
 ots_word l c j r el =
     let u : List ℕ = u32str 3 in

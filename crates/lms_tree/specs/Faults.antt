@@ -1,4 +1,4 @@
--- The number of each fault.
+-- Statement: the number of each fault.
 use Rattle.std.specs.Prelude.{ℕ}
 use Rattle.lms_tree.specs.declared.fault.SignFault.{SignFault}
 use Rattle.lms_tree.specs.declared.fault.SignFault.TheVariants.{Exhausted, Memory}

@@ -1,4 +1,4 @@
--- Public keys, signatures and their validity under LMS (RFC 8554, sections 5.3 and 5.4), as functions
+-- Statement: public keys, signatures and their validity under LMS (RFC 8554, sections 5.3 and 5.4), as functions
 -- on lists of bytes.
 use Rattle.std.specs.Prelude.{ℕ, ◌+◌, ◌*◌, ◌^◌, nat_le, ◌==◌, ◌&&◌, List, [], ◌∷◌, ◌++◌, length, take, drop, slice_index, Option, Some, None, if◌then◌else◌}
 use Rattle.std.specs.Int.{w32, from_be_bytes}
@@ -15,12 +15,12 @@ abbrev pub levels_of : Height → ℕ
 levels_of H5 = 5
 levels_of H10 = 10
 
--- the type's word: LMS_SHA256_M32_H5 and LMS_SHA256_M32_H10 (5.1)
+-- the typecode: LMS_SHA256_M32_H5 and LMS_SHA256_M32_H10 (5.1)
 abbrev pub typecode_of : Height → ℕ
 typecode_of H5 = 5
 typecode_of H10 = 6
 
--- the type's word of the one-time signatures, LMOTS_SHA256_N32_W4 (4.1)
+-- the typecode of the one-time signatures, LMOTS_SHA256_N32_W4 (4.1)
 abbrev pub ots_typecode : ℕ
 ots_typecode = 3
 
@@ -40,12 +40,12 @@ signature_at height id secret leaf message =
 
 -- ---- what a verifier reads
 
--- strTou32: the number in the 4 bytes from place `at` on (3.1.1)
+-- strTou32: the number in the 4 bytes from offset `at` on (3.1.1)
 unfoldable pub word_at : List ℕ → ℕ → ℕ
 word_at s at = from_be_bytes w32
     (slice_index s at ∷ slice_index s (at + 1) ∷ slice_index s (at + 2) ∷ slice_index s (at + 3) ∷ [])
 
--- the height that a type's word names
+-- the height that a typecode names
 abbrev pub height_of_typecode : ℕ → Option Height
 height_of_typecode word = if word == 5 then Some H5 else (if word == 6 then Some H10 else None)
 

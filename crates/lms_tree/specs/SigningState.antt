@@ -1,4 +1,4 @@
--- What a contract sees of a signer.
+-- Statement: what a contract sees of a signer.
 use Rattle.std.specs.Prelude.{ℕ, ◌^◌, List}
 use Rattle.lms_tree.specs.Signature.{levels_of}
 use Rattle.lms_tree.specs.declared.height.Height.{Height}

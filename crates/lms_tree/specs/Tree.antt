@@ -1,6 +1,6 @@
--- The tree of LMS (RFC 8554, section 5): its nodes, the path of a leaf, and the node that a path
+-- Statement: the tree of LMS (RFC 8554, section 5): its nodes, the path of a leaf, and the node that a path
 -- leads to, as functions on numbers and lists of bytes. A tree of height h has the nodes 1, the root,
--- to 2^(h+1) - 1; node 2^h + q stands over leaf q.
+-- to 2^(h+1) - 1; node 2^h + q is over leaf q.
 use Rattle.std.specs.Prelude.{ℕ, zero, suc, ◌+◌, ◌-◌, ◌*◌, ◌/◌, ◌%◌, ◌^◌, nat_le, ◌==◌, List, ◌++◌, if◌then◌else◌}
 use Rattle.lms_ots.specs.Ots.{public_value, tagged_hash}
 

@@ -1,9 +1,9 @@
-// Buffers that are filled piece by piece.
+//! Buffers that are filled piece by piece.
 
 ghost use Rattle.std.specs.Prelude.{◌≡◌, ◌+◌, ◌≤◌, ◌++◌, length, take};
 ghost use Rattle.lms_ots.specs.Ots.{u32str};
 
-// Copies `bytes` into `buffer`, from place `at` on.
+// Copies `bytes` into `buffer`, from offset `at` on.
 pub(crate) fn put(buffer: &mut [u8], at: usize, bytes: &[u8])
     requires { at + length bytes.now ≤ length buffer.old }
     ensures { take (at + length bytes.now) buffer.new ≡ take at buffer.old ++ bytes.now }

@@ -1,3 +1,5 @@
+//! Why a signer gives no signature, and why a signature is not valid.
+
 ghost use Rattle.std.specs.Prelude.{◌≡◌};
 
 use thiserror::Error;
@@ -8,7 +10,7 @@ pub enum SignFault {
     /// Every leaf has signed. The signer is as it was, and no memory was asked for.
     #[error("Exhausted")]
     Exhausted = 1,
-    /// No memory for the signature. Its leaf counts as used.
+    /// Memory ran out. After `sign` the leaf counts as used: the next one signs next.
     #[error("Memory")]
     Memory = 2,
 }
@@ -19,7 +21,7 @@ pub enum SigFault {
     /// The signature's length is not that of the key's height.
     #[error("Length")]
     Length = 1,
-    /// The key's or the signature's type words are unknown or don't agree.
+    /// The key's or the signature's typecodes are unknown or don't agree.
     #[error("WrongType")]
     WrongType = 2,
     /// The tree has no such leaf.

@@ -1,3 +1,5 @@
+//! The heights of trees, with their typecodes and sizes.
+
 ghost use Rattle.std.specs.Prelude.{◌≡◌, ◌+◌, ◌*◌};
 
 /// The height of a tree (RFC 8554, section 5.1).
@@ -13,7 +15,7 @@ impl Height {
     ghost use Rattle.lms_tree.specs.Signature.{height_of_typecode, levels_of, typecode_of};
     ghost use Rattle.lms_tree.specs.SigningState.{leaf_count_of};
 
-    // The height that a type's word names.
+    // The height that a typecode names.
     pub(crate) fn from_typecode(word: u32) -> Option<Height>
         ensures { result ≡ height_of_typecode word }
     {
@@ -36,7 +38,7 @@ impl Height {
         }
     }
 
-    // The type's word.
+    // The typecode.
     pub(crate) fn typecode(self) -> u32
         ensures { result ≡ typecode_of self }
     {

@@ -3,6 +3,10 @@
 //!
 //! A `Signer` makes its whole tree when it is made, and keeps it, so that a signature reads its path.
 //! Its leaves sign from 0 upward, each once. `verify` takes no memory.
+//!
+//!     let mut signer = Signer::from_seed(alloc, Height::H5, id, secret)?;
+//!     let signature = signer.sign(b"a message")?;
+//!     verify(&signer.public_key(), b"a message", &signature)?;
 #![tactic(auto)]
 
 pub use fault::{SigFault, SignFault};

@@ -1,4 +1,4 @@
-// The nodes of a tree (RFC 8554, section 5.3): their hashes, and all of them in one list.
+//! The nodes of a tree (RFC 8554, section 5.3): their hashes, and all of them in one list.
 
 ghost use Rattle.std.specs.Prelude.{◌≡◌, ℕ, ◌+◌, ◌*◌, ◌^◌, ◌<◌, ◌≤◌, ◌++◌, IfOk, List};
 ghost use Rattle.lms_tree.specs.Tree.{inner_node, leaf_node, parent};
@@ -65,7 +65,7 @@ pub(crate) fn parent(
     }
 }
 
-// The nodes of a tree, node r at place r. Place 0 is no node's.
+// The nodes of a tree, node r at index r. Index 0 is no node's.
 pub(crate) fn tree_nodes(
     alloc: Global,
     height: Height,

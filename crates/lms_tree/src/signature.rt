@@ -1,4 +1,4 @@
-// The spelling of a signature (RFC 8554, section 5.4.1).
+//! The encoding of a signature (RFC 8554, section 5.4.1).
 
 ghost use Rattle.std.specs.Prelude.{◌≡◌, ◌<◌, IfOk, None, [], length, slice_index_or};
 ghost use Rattle.lms_tree.specs.Nodes.{IsTree};

@@ -1,3 +1,5 @@
+//! Signers: key pairs that use each leaf once.
+
 ghost use Rattle.std.specs.Prelude.{◌≡◌, ℕ, ◌+◌, ◌-◌, ◌^◌, ◌<◌, ◌≤◌, ◌↔◌, IfOk, IsErrOf, OnErr, OnOk, None};
 
 use crate::buffer::{put, u32str};
@@ -8,7 +10,7 @@ use crate::signature::signature;
 use std::alloc::{AllocError, Global};
 use std::marker::Model;
 
-/// The word LMOTS_SHA256_N32_W4 of RFC 8554, section 4.1.
+/// The typecode LMOTS_SHA256_N32_W4 of RFC 8554, section 4.1.
 const OTS_TYPECODE: u32 = 3;
 
 /// A key pair that signs once for each leaf of its tree, in the leaves' order (RFC 8554, section 5).
@@ -63,7 +65,7 @@ impl Signer {
         })
     }
 
-    /// The public key: the two types' words, the identifier and the root (RFC 8554, section 5.3).
+    /// The public key: the two typecodes, the identifier and the root (RFC 8554, section 5.3).
     pub fn public_key(&self) -> [u8; 56]
         ensures { result ≡ public_key_of self.now.height self.now.id self.now.secret }
     {

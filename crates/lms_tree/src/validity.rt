@@ -1,4 +1,4 @@
-// Validity of signatures (RFC 8554, section 5.4.2).
+//! Validity of signatures (RFC 8554, section 5.4.2).
 
 ghost use Rattle.std.specs.Prelude.{◌≡◌, ◌+◌, ◌*◌, ◌^◌, ◌<◌, ◌≤◌, ◌++◌, length, take, drop, Some, None, MatchResult};
 ghost use Rattle.std.specs.Str.{bytes_eq};
@@ -9,16 +9,16 @@ use crate::height::Height;
 use crate::nodes::{leaf_node, parent};
 use lms_ots::ots_candidate_of_two;
 
-/// The word LMOTS_SHA256_N32_W4 of RFC 8554, section 4.1.
+/// The typecode LMOTS_SHA256_N32_W4 of RFC 8554, section 4.1.
 const OTS_TYPECODE: u32 = 3;
 
-/// Where the tree's type stands in a signature.
+/// The offset of the tree's typecode in a signature.
 const TYPECODE_OFFSET: usize = 2184;
 
-/// Where the path begins in a signature.
+/// The offset of the path in a signature.
 const PATH_OFFSET: usize = 2188;
 
-// The number in the 4 bytes from place `at` on.
+// The number in the 4 bytes from offset `at` on.
 #[tactic(auto, unfolding(crate::specs::Signature::word_at))]
 fn word_at(bytes: &[u8], at: usize) -> u32
     requires { at + 4 ≤ length bytes.now }
@@ -27,7 +27,7 @@ fn word_at(bytes: &[u8], at: usize) -> u32
     u32::from_be_bytes([bytes[at], bytes[at + 1], bytes[at + 2], bytes[at + 3]])
 }
 
-// The `N` bytes from place `at` on.
+// The `N` bytes from offset `at` on.
 fn bytes_at<const N: usize>(bytes: &[u8], at: usize) -> [u8; N]
     requires { at + N ≤ length bytes.now }
     ensures { result ≡ take N (drop at bytes.now) }
@@ -74,7 +74,7 @@ fn is_root(key: &[u8; 56], root: &[u8; 32]) -> bool
 }
 
 /// Whether `sig` is a valid signature of `body` under the public key `key` (RFC 8554, section 5.4.2):
-/// the type's word and the one-time type's word, the identifier and the root. The faults come in this
+/// the typecode and the one-time typecode, the identifier and the root. The faults come in this
 /// order: `WrongType` for a key of unknown types, `Length` for a signature that has not the length of
 /// the key's height (2,348 bytes or 2,508), `WrongType` for types in the signature that are not the
 /// key's, `Leaf` for a leaf that the tree does not have, and `Mismatch`. It takes no memory.
