@@ -1,0 +1,10 @@
+pub mod Counting
+pub mod Found
+pub mod Events
+pub mod Calm
+pub mod Entries
+pub mod Real
+pub mod Stages
+pub mod Views
+pub mod Voices
+pub mod ByView

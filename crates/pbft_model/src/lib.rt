@@ -3,16 +3,11 @@
 //! function with an empty body.
 #![tactic(auto)]
 
-ghost use Rattle.std.specs.Prelude.{◌≡◌, ℕ};
 ghost use Rattle.pbft_model.specs.Setup.{Setup};
-ghost use Rattle.pbft_model.specs.Core.{Core};
-ghost use Rattle.pbft_model.specs.Acts.{Act};
-ghost use Rattle.pbft_model.specs.Rules.{Allowed};
-ghost use Rattle.pbft_model.specs.Duties.{due};
-ghost use Rattle.pbft_model.specs.Rows.{Row, IsJournal};
 ghost use Rattle.pbft_model.specs.Histories.{Family, IsUnforged, AgreesByView};
 
-/// Two quorums and the replicas beside them.
-pub fn a_quorum_is_most()
-    ensures { (c : Setup) (me : ℕ) (s : Core) (a : Act) → Allowed c me s a → due c me s ≡ due c me s }
+/// Agreement by view: where nobody forges, no two digests are committed at one number, whatever
+/// their views.
+pub fn agreement_by_view()
+    ensures { (c : Setup) (family : Family) → IsUnforged c family → AgreesByView c family }
 {}
