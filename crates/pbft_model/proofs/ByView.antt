@@ -4,7 +4,7 @@ use Rattle.std.specs.Prelude.{nat_lt, nat_le, not, ◌==◌, bytes_eq, length, t
 use Rattle.std.specs.List.{list_any, list_all, flat_map, filter_map}
 use Rattle.std.proofs.lemmas.Bool.{true≢false, false≢true, cases_lt, cases_eq, and_parts, and_from, or_cases, eqb-true, eq-eqb, leb-true, ltb-true}
 use Rattle.std.proofs.lemmas.Option.{same_Some}
-use Rattle.pbft_model.specs.Words.{SigningState, Signed, Body, PrePrepare, Prepare, Commit, Certificate, ViewChange, NewView, Role, Replica, Part, part_of, as_message, placed}
+use Rattle.pbft_model.specs.Words.{SigningState, Signed, Body, PrePrepare, Prepare, Commit, Certificate, ViewChange, NewView, Role, Replica, Part, part_of, as_message}
 use Rattle.pbft_codec.specs.declared.body.Body.TheVariants as bodies
 use Rattle.pbft_model.specs.Sequential.{Service, Outcome}
 use Rattle.pbft_model.specs.Setup.{Setup, primary, replicas, quorum, span, count, numbers_from}
@@ -13,10 +13,10 @@ use Rattle.pbft_model.specs.Certificates.{Fields, of_pre_prepare, of_prepare, of
 use Rattle.pbft_model.specs.Validity.{is_valid_new_view, are_given, given, given_numbers, greatest_of, given_digest, digest_or_null, highest, floor_of, top_of, certificates_in, changed_by, are_for_view, have_proofs, have_certificates, have_order, has_view, has_proof, has_certificates, bodies_in}
 use Rattle.pbft_model.specs.Core.{Core, is_prepared, is_certified, is_known, is_committed, next_number, floor_in, kept_on_leaving}
 use Rattle.pbft_model.specs.Acts.{Act, Destination, Take, Timeout, Send, Relay, Enter, Rise, Execute, Install, after, said, acted, signed_once_more, left_if_above, left_for, entered}
-use Rattle.pbft_model.specs.Rules.{Allowed, MaySay, MaySend, IsInside, wants_view, change_of, with_own, chosen_changes, new_view_of, view_change_of}
+use Rattle.pbft_model.specs.Rules.{Allowed, MaySay, MaySend, IsInside, wants_view, change_of, is_chosen, chosen_changes, new_view_of, view_change_of}
 use Rattle.pbft_model.specs.Histories.{core_after, IsHistory, IsEarlier, IsIn, HasSigned, Family, IsCorrect, IsReal, IsUnforged, HasCommitted, AgreesByView, signed_in, listed_in}
 use Rattle.pbft_model.proofs.Counting.{quorums_meet, quorum_has, count_with}
-use Rattle.pbft_model.proofs.Found.{in_any, in_all, from_map, in_map, in_flat, from_take, from_filter_map, no_some}
+use Rattle.pbft_model.proofs.Found.{in_any, in_all, from_map, in_map, in_flat, from_gathered, no_some}
 use Rattle.pbft_model.proofs.Entries.{from_append}
 use Rattle.pbft_model.proofs.Events.{before, in_order, history_at, holds_on, earlier_trans, now, low_reached}
 use Rattle.pbft_model.proofs.Calm.{any_in, at_in, Calm, IsCalm, calm, calm_said}
@@ -55,33 +55,9 @@ from_certificates (m ∷ ms) x h = elim (from_append x m.body.certificates (cert
   | inr later ↦ let w = from_certificates ms x later in (w.0, inr w.1, w.2)
   ]
 
-pub from_placed : {X : Type 0} (number : X → ℕ) (x y : X) (xs : List X) → IsIn y (placed number x xs) → (y ≡ x) ⊎ IsIn y xs
-from_placed number x y [] (inl same) = inl same
-from_placed number x y [] (inr none) = absurd none
-from_placed {X} number x y (z ∷ xs) h = cases (nat_lt (number x) (number z)) (number x == number z) h (from_placed number x y xs) where
-  cases : (a b : Bool) → IsIn y (cond a (x ∷ z ∷ xs) (cond b (z ∷ xs) (z ∷ placed number x xs))) → (IsIn y (placed number x xs) → (y ≡ x) ⊎ IsIn y xs) → (y ≡ x) ⊎ IsIn y (z ∷ xs)
-  cases true b (inl same) rest = inl same
-  cases true b (inr old) rest = inr old
-  cases false true h rest = inr h
-  cases false false (inl same) rest = inr (inl same)
-  cases false false (inr later) rest = elim (rest later) [ inl same ↦ inl same | inr old ↦ inr (inr old) ]
-
-from_own : (others : List (Signed ViewChange)) (own : Option (Signed ViewChange)) (m : Signed ViewChange) → IsIn m (with_own others own) → (own ≡ Some m) ⊎ IsIn m others
-from_own others None m h = inr h
-from_own others (Some own) m h = elim (from_placed (λ (x : Signed ViewChange). x.id) own m others h) [ inl same ↦ inl (ap Some (sym same)) | inr old ↦ inr old ]
-
 -- the ViewChanges chosen are recorded ones
 pub from_chosen : (c : Setup) (me : ℕ) (s : Core) (m : Signed ViewChange) → IsIn m (chosen_changes c me s) → (i : ℕ) × (change_of s i ≡ Some m)
-from_chosen c me s m h = elim (from_own (take (c.config.f + c.config.f) (filter_map (λ i. cond ((i == me) || not (wants_view s i)) None (change_of s i)) (numbers_from 0 (replicas c)))) (change_of s me) m h) [
-  | inl own ↦ (me, own)
-  | inr other ↦
-    let w = from_filter_map (λ i. cond ((i == me) || not (wants_view s i)) None (change_of s i)) (numbers_from 0 (replicas c)) m
-      (from_take (c.config.f + c.config.f) (filter_map (λ i. cond ((i == me) || not (wants_view s i)) None (change_of s i)) (numbers_from 0 (replicas c))) m other) in
-    (w.0, unless ((w.0 == me) || not (wants_view s w.0)) (change_of s w.0) w.1)
-  ] where
-    unless : (b : Bool) (o : Option (Signed ViewChange)) → cond b None o ≡ Some m → o ≡ Some m
-    unless true o e = no_some m e
-    unless false o e = e
+from_chosen c me s m h = let w = from_gathered (is_chosen c me s) (change_of s) (replicas c) m h in (w.0, w.2)
 
 module _ (c : Setup) (family : Family) (u : IsUnforged c family) where
   signed_real : {B : Type 0} (kind : B → Body) (i : ℕ) (test : B → Bool) (m : Signed B) → is_by i test m ≡ true → RealAs c family kind m → IsCorrect c family.faulty i

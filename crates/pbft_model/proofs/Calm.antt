@@ -124,7 +124,7 @@ named_held : (c : Setup) (service : Service) (ms : List (Signed PrePrepare)) (he
   → is_some (held_with c held digest) ≡ true → is_some (held_with c (still_held c service ms held) digest) ≡ true
 named_held c service ms held digest named e =
     find_filter (is_named c digest) (λ m. is_new service m || names ms (digest_of c m)) held
-    (λ m t. or_right _ _ (subst (λ (d : List ℕ). names ms d ≡ true) (sym ((bytes_eq-Decides (digest_of c m) digest).0 t)) named)) e
+    (λ m t. or_right (is_new service m) (names ms (digest_of c m)) (subst (λ (d : List ℕ). names ms d ≡ true) (sym ((bytes_eq-Decides (digest_of c m) digest).0 t)) named)) e
 
 above_key : (number : ℕ) (q : Key) → number < first_in q → is_above number q ≡ true
 above_key number q h = lt-ltb number (first_in q) h

@@ -13,6 +13,7 @@ use Rattle.std.proofs.lemmas.Slice.Eq.{bytes_eq-Decides}
 use Rattle.std.proofs.lemmas.Map.Text.{is_eq-slice_cmp}
 use Rattle.std.proofs.lemmas.Option.{same_Some}
 use Rattle.pbft_model.specs.Tables.{Key, Table, at, with_entry, add_if, keep}
+use Rattle.pbft_model.specs.Setup.{gathered, numbers_from}
 use Rattle.pbft_model.specs.Histories.{IsIn}
 use Rattle.pbft_model.specs.Core.{if_passes}
 
@@ -145,3 +146,10 @@ from_filter_map {X} {Y} g (x ∷ xs) y h = cases (g x) refl h (from_filter_map g
   cases None e h rest = rest h
   cases (Some z) e (inl same) rest = (x, e ∙ ap Some (sym same))
   cases (Some z) e (inr later) rest = rest later
+
+-- what is gathered passed the test
+pub from_gathered : {X : Type 0} (test : ℕ → Bool) (value : ℕ → Option X) (n : ℕ) (x : X) → IsIn x (gathered test value n) → (i : ℕ) × (test i ≡ true) × (value i ≡ Some x)
+from_gathered {X} test value n x h = let w = from_filter_map (λ (i : ℕ). cond (test i) (value i) None) (numbers_from 0 n) x h in let v = split (test w.0) (value w.0) w.1 in (w.0, v.0, v.1) where
+  split : (b : Bool) (o : Option X) → cond b o None ≡ Some x → (b ≡ true) × (o ≡ Some x)
+  split true o e = (refl, e)
+  split false o e = no_some x e

@@ -8,3 +8,5 @@ pub mod Stages
 pub mod Views
 pub mod Voices
 pub mod ByView
+pub mod Working
+pub mod Gathering

@@ -8,15 +8,15 @@ use Rattle.pbft_codec.specs.declared.body.Body.TheVariants as bodies
 use Rattle.pbft_codec.specs.declared.body.Fetch.TheVariants as fetches
 use Rattle.seal.specs.Parts.{in_certificate, in_view_change, with_nested}
 use Rattle.pbft_model.specs.Sequential.{Service, Outcome}
-use Rattle.pbft_model.specs.Setup.{Setup, primary, replicas, numbers_from, quorum, signer_after}
+use Rattle.pbft_model.specs.Setup.{Setup, primary, replicas, numbers_from, quorum, signer_after, is_least}
 use Rattle.pbft_model.specs.Tables.{Key, Table, at, entries_in, keep, with_entry, number_key, vote_key, checkpoint_key, change_key, add_if, is_above}
 use Rattle.pbft_model.specs.Certificates.{Fields, of_pre_prepare, of_prepare, same_fields, is_by}
 use Rattle.pbft_model.specs.Validity.{is_valid, is_valid_new_view}
-use Rattle.pbft_model.specs.Core.{Core, start_of, if_passes, is_placed, is_prepared, pre_prepare_at, prepared_at, certificate_of, matching_prepares, with_certificate, with_certificates, kept_on_leaving, inside}
+use Rattle.pbft_model.specs.Core.{Core, start_of, if_passes, is_placed, is_prepared, pre_prepare_at, prepared_at, certificate_of, is_matching, with_certificate, with_certificates, kept_on_leaving, inside}
 use Rattle.pbft_model.specs.Acts.{Act, Destination, Take, Timeout, Send, Relay, Enter, Rise, Execute, Install, after, said, recorded, acted, entered, opened_by, with_list, left_for, left_if_above, add_pre_prepares, add_checkpoints, add_change, with_body}
 use Rattle.pbft_model.specs.Rules.{Allowed, MaySay, MaySend, view_change_of, own_message, signed_list, new_view_of}
 use Rattle.pbft_model.specs.Histories.{core_after, IsHistory, IsEarlier, IsIn, HasSigned, HasTaken, Family, IsCorrect, IsReal, IsUnforged, signed_in, listed_in}
-use Rattle.pbft_model.proofs.Found.{found_add, found_keep, found_entry, no_some, passed, in_map, in_append_left, in_append_right, in_flat, from_take, from_filter_map}
+use Rattle.pbft_model.proofs.Found.{found_add, found_keep, found_entry, no_some, passed, in_map, in_append_left, in_append_right, in_flat, from_gathered}
 use Rattle.pbft_model.proofs.Events.{before, signed_at, taken_at, history_at}
 use Rattle.pbft_model.proofs.Entries.{from_entry, from_keep, from_append}
 
@@ -109,21 +109,14 @@ module _ (c : Setup) (family : Family) where
 
   -- ---- certificates kept as a view is left
 
-  real_matching : (s : Core) → RealCore s → (b : Bool) (test : Signed Prepare → Bool) (key : Key) (p : Signed Prepare) → cond b None (if_passes test (at s.prepares key)) ≡ Some p → RealAs bodies.Prepare p
-  real_matching s h true test key p e = no_some p e
-  real_matching s h false test key p e = h.1 key p ((passed test (at s.prepares key) p e).0)
-
   pub real_made : (s : Core) → RealCore s → (n : ℕ) (m : Signed PrePrepare) → prepared_at c s n ≡ Some m → RealCertificate (certificate_of c s m)
   real_made s h n m e =
-      let x : Fields = of_pre_prepare m.body in
       let found = (passed (λ p. is_prepared c s (of_pre_prepare p.body)) (pre_prepare_at c s s.view n) m e).0 in
       record {
         pre_prepare = h.0 (vote_key n s.view (primary c s.view)) m ((passed (is_by (primary c s.view) (is_placed s.view n)) (at s.pre_prepares (vote_key n s.view (primary c s.view))) m found).0);
         prepares = λ p is.
-          let w = from_filter_map
-            (λ i. cond (i == primary c x.view) None (if_passes (is_by i (λ b. same_fields (of_prepare b) x)) (at s.prepares (vote_key x.number x.view i))))
-            (numbers_from 0 (replicas c)) p (from_take (2 * c.config.f) (matching_prepares c s x) p is) in
-          real_matching s h (w.0 == primary c x.view) (is_by w.0 (λ b. same_fields (of_prepare b) x)) (vote_key x.number x.view w.0) p w.1;
+          let w = from_gathered (is_least (2 * c.config.f) (is_matching c s (of_pre_prepare m.body))) (λ i. at s.prepares (vote_key m.body.number.0 m.body.view.0 i)) (replicas c) p is in
+          h.1 (vote_key m.body.number.0 m.body.view.0 w.0) p w.2;
       }
 
   real_with : (s : Core) → RealCore s → (ns : List ℕ) (x : Certificate) → IsIn x (entries_in (with_certificates c s ns s.kept)) → RealCertificate x

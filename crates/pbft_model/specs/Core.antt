@@ -4,9 +4,9 @@ use Rattle.std.specs.List.{list_any, filter_map}
 use Rattle.std.specs.Option.{option_map}
 use Rattle.pbft_model.specs.Words.{SigningState, Signed, Body, RequestBody, PrePrepare, Prepare, Commit, Checkpoint, Certificate, ViewChange, Request, Reply}
 use Rattle.pbft_model.specs.Sequential.{Service, genesis_of, last_reply_of}
-use Rattle.pbft_model.specs.Setup.{Setup, replicas, quorum, primary, span, null_digest, digest_of, request_in, numbers_from}
+use Rattle.pbft_model.specs.Setup.{Setup, replicas, quorum, primary, span, null_digest, digest_of, request_in, numbers_from, is_least, gathered}
 use Rattle.pbft_model.specs.Tables.{Table, at, with_entry, vote_key, checkpoint_key, number_key, entries_in}
-use Rattle.pbft_model.specs.Certificates.{Fields, of_pre_prepare, of_prepare, of_commit, same_fields, is_by, voted, certified, has_quorum, is_checkpoint_of}
+use Rattle.pbft_model.specs.Certificates.{checkpointed, Fields, of_pre_prepare, of_prepare, of_commit, same_fields, is_by, voted, certified, has_quorum, is_checkpoint_of}
 use Rattle.pbft_model.specs.Validity.{floor_of, greatest_of}
 
 pub record Core : Type 0 where
@@ -161,27 +161,22 @@ is_committed c s x = is_prepared c s x && has_quorum c (voted of_commit s.commit
 abbrev pub prepared_at : Setup → Core → ℕ → Option (Signed PrePrepare)
 prepared_at c s number = if_passes (λ m. is_prepared c s (of_pre_prepare m.body)) (pre_prepare_at c s s.view number)
 
--- the matching Prepares of the backups, least signers first
-abbrev pub matching_prepares : Setup → Core → Fields → List (Signed Prepare)
-matching_prepares c s x =
-    filter_map
-    (λ i. if i == primary c x.view then None
-        else if_passes (is_by i (λ b. same_fields (of_prepare b) x)) (at s.prepares (vote_key x.number x.view i)))
-    (numbers_from 0 (replicas c))
+-- a backup whose recorded Prepare has these fields
+abbrev pub is_matching : Setup → Core → Fields → ℕ → Bool
+is_matching c s x i = not (i == primary c x.view) && voted of_prepare s.prepares x i
 
 -- the certificate of a PrePrepare: with the 2f matching Prepares of least signers
 abbrev pub certificate_of : Setup → Core → Signed PrePrepare → Certificate
 certificate_of c s m = record {
   pre_prepare = m;
-  prepares = take (2 * c.config.f) (matching_prepares c s (of_pre_prepare m.body));
+  prepares = gathered (is_least (2 * c.config.f) (is_matching c s (of_pre_prepare m.body)))
+      (λ i. at s.prepares (vote_key m.body.number.0 m.body.view.0 i)) (replicas c);
 }
 
 -- the proof that a number is stable: the Checkpoints of a quorum's least signers
 abbrev pub proof_of : Setup → Core → ℕ → List ℕ → List (Signed Checkpoint)
 proof_of c s number digest =
-    take (quorum c)
-    (filter_map (λ i. if_passes (is_by i (is_checkpoint_of number digest)) (at s.checkpoints (checkpoint_key number i)))
-    (numbers_from 0 (replicas c)))
+    gathered (is_least (quorum c) (checkpointed s.checkpoints number digest)) (λ i. at s.checkpoints (checkpoint_key number i)) (replicas c)
 
 -- ---- leaving a view
 

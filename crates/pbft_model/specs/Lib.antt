@@ -10,3 +10,4 @@ pub mod Rules
 pub mod Duties
 pub mod Rows
 pub mod Histories
+pub mod Worked

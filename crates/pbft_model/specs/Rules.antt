@@ -1,10 +1,10 @@
 -- Statement: what a replica may do: one guard for each kind of act (Castro and Liskov, sections 4.2 to 4.4).
-use Rattle.std.specs.Prelude.{◌≡◌, ℕ, ◌+◌, ◌<◌, ◌≤◌, ◌==◌, Bool, true, false, ◌||◌, not, List, [], ◌∷◌, take, Option, Some, None, MatchOption, length, if◌then◌else◌}
+use Rattle.std.specs.Prelude.{◌≡◌, ℕ, ◌+◌, ◌*◌, ◌<◌, ◌≤◌, ◌==◌, Bool, true, false, ◌||◌, ◌&&◌, not, List, [], ◌∷◌, take, Option, Some, None, MatchOption, length, if◌then◌else◌}
 use Rattle.std.specs.List.{list_any, filter_map}
 use Rattle.pbft_model.specs.Words.{SigningState, Signed, Body, RequestBody, PrePrepare, Prepare, Commit, Checkpoint, ReplyBody, Snapshot, ViewChange, NewView, IsChecked, as_message}
 use Rattle.pbft_codec.specs.declared.body.Body.TheVariants as bodies
 use Rattle.pbft_model.specs.Sequential.{Service, Outcome, IsStep, IsSound, encoded, last_reply_of}
-use Rattle.pbft_model.specs.Setup.{Setup, primary, replicas, span, signed_by, signer_after, numbers_from}
+use Rattle.pbft_model.specs.Setup.{Setup, primary, replicas, span, signed_by, signer_after, numbers_from, is_least, gathered}
 use Rattle.pbft_model.specs.Tables.{at, change_key, number_key, entries_in}
 use Rattle.pbft_model.specs.Certificates.{Fields, of_pre_prepare, of_prepare, of_commit, voted, some_by, is_stable}
 use Rattle.pbft_model.specs.Validity.{is_valid_new_view, given}
@@ -30,15 +30,16 @@ change_of s i = at s.changes (change_key s.view i)
 abbrev pub wants_view : Core → ℕ → Bool
 wants_view s i = some_by i (λ v. v.view.0 == s.view) (change_of s i)
 
-abbrev pub with_own : List (Signed ViewChange) → Option (Signed ViewChange) → List (Signed ViewChange)
-with_own others None = others
-with_own others (Some own) = placed (λ m. m.id) own others
+-- another's ViewChange for this view is recorded
+abbrev pub other_wants : ℕ → Core → ℕ → Bool
+other_wants me s i = not (i == me) && wants_view s i
+
+abbrev pub is_chosen : Setup → ℕ → Core → ℕ → Bool
+is_chosen c me s i = i == me || is_least (2 * c.config.f) (other_wants me s) i
 
 -- The ViewChanges of an own NewView: its own and the 2f of least signers among the others, signers ascending.
 abbrev pub chosen_changes : Setup → ℕ → Core → List (Signed ViewChange)
-chosen_changes c me s =
-    with_own (take (c.config.f + c.config.f) (filter_map (λ i. if i == me || not (wants_view s i) then None else change_of s i) (numbers_from 0 (replicas c))))
-    (change_of s me)
+chosen_changes c me s = gathered (is_chosen c me s) (change_of s) (replicas c)
 
 abbrev pub pre_prepare_of : Fields → PrePrepare
 pre_prepare_of x = record { view = record { 0 = x.view }; number = record { 0 = x.number }; digest = record { 0 = x.digest } }

@@ -18,7 +18,7 @@ genesis_of config = record { config = config; number = 0; parts = [] }
 unfoldable pub IsStep : Service → Option Request → Service → Outcome → Type 0
 IsStep s r t o = Unit {0}
 
-unfoldable pub last_reply_of : Service → ℕ → Option Reply
+abbrev pub last_reply_of : Service → ℕ → Option Reply
 last_reply_of s id = None
 
 unfoldable pub encoded : Service → List ℕ

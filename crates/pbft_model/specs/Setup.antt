@@ -1,6 +1,7 @@
 -- Statement: who takes part, and the numbers that follow from it (Castro and Liskov, section 3).
 use Rattle.std.proofs.Common.{zero, suc}
-use Rattle.std.specs.Prelude.{ℕ, ◌+◌, ◌*◌, ◌%◌, Bool, true, false, cond, List, [], ◌∷◌}
+use Rattle.std.specs.Prelude.{ℕ, ◌+◌, ◌*◌, ◌%◌, Bool, true, false, ◌&&◌, cond, nat_lt, List, [], ◌∷◌, Option, Some, None}
+use Rattle.std.specs.List.{filter_map}
 use Rattle.pbft_model.specs.Words.{Configuration, replicas_for, Body, RequestBody, Signed, Role, Replica, Client, Request, SigningState, signed_text, as_message, sealed}
 use Rattle.pbft_codec.specs.declared.body.Body.TheVariants as bodies
 
@@ -53,10 +54,18 @@ abbrev pub count : (ℕ → Bool) → ℕ → ℕ
 count test zero = 0
 count test (suc n) = cond (test n) 1 0 + count test n
 
+-- the number passes the test, and fewer than `many` below it do
+abbrev pub is_least : ℕ → (ℕ → Bool) → ℕ → Bool
+is_least many test n = test n && nat_lt (count test n) many
+
 -- `many` numbers from `first` on
 abbrev pub numbers_from : ℕ → ℕ → List ℕ
 numbers_from first zero = []
 numbers_from first (suc many) = first ∷ numbers_from (first + 1) many
+
+-- of those that pass, in ascending order, what they have
+abbrev pub gathered : {X : Type 0} → (ℕ → Bool) → (ℕ → Option X) → ℕ → List X
+gathered test value n = filter_map (λ i. cond (test i) (value i) None) (numbers_from 0 n)
 
 -- what a replica signs with its next leaf: the signature is that of the signer
 unfoldable pub signature_by : SigningState → ℕ → Body → List ℕ
