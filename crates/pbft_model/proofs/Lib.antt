@@ -10,3 +10,4 @@ pub mod Voices
 pub mod ByView
 pub mod Working
 pub mod Gathering
+pub mod Made
