@@ -11,3 +11,7 @@ pub mod ByView
 pub mod Working
 pub mod Gathering
 pub mod Made
+pub mod Opening
+pub mod Sound
+pub mod Fine
+pub mod Rowed

@@ -138,7 +138,7 @@ kept_with c s view (n ∷ ns) inside higher h = cases (prepared_at c s n) refl (
         | inr old ↦ rest.1 d old
         ])
 
-numbers_within : (many first n : ℕ) → IsIn n (numbers_from first many) → (first ≤ n) × (n < first + many)
+pub numbers_within : (many first n : ℕ) → IsIn n (numbers_from first many) → (first ≤ n) × (n < first + many)
 numbers_within zero first n h = absurd h
 numbers_within (suc many) first n (inl same) = (omega arith, omega arith)
 numbers_within (suc many) first n (inr later) = let w = numbers_within many (first + 1) n later in let low = w.0 in let high = w.1 in (omega arith, omega arith)

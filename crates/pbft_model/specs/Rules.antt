@@ -1,7 +1,7 @@
 -- Statement: what a replica may do: one guard for each kind of act (Castro and Liskov, sections 4.2 to 4.4).
-use Rattle.std.specs.Prelude.{◌≡◌, ℕ, ◌+◌, ◌*◌, ◌<◌, ◌≤◌, ◌==◌, Bool, true, false, ◌||◌, ◌&&◌, not, List, [], ◌∷◌, take, Option, Some, None, MatchOption, length, if◌then◌else◌}
+use Rattle.std.specs.Prelude.{◌≡◌, ◌⊎◌, ℕ, ◌+◌, ◌*◌, ◌<◌, ◌≤◌, ◌==◌, Bool, true, false, ◌||◌, ◌&&◌, not, List, [], ◌∷◌, take, Option, Some, None, MatchOption, length, if◌then◌else◌}
 use Rattle.std.specs.List.{list_any, filter_map}
-use Rattle.pbft_model.specs.Words.{SigningState, Signed, Body, RequestBody, PrePrepare, Prepare, Commit, Checkpoint, ReplyBody, Snapshot, ViewChange, NewView, IsChecked, as_message}
+use Rattle.pbft_model.specs.Words.{Reply, SigningState, Signed, Body, RequestBody, PrePrepare, Prepare, Commit, Checkpoint, ReplyBody, Snapshot, ViewChange, NewView, IsChecked, as_message}
 use Rattle.pbft_codec.specs.declared.body.Body.TheVariants as bodies
 use Rattle.pbft_model.specs.Sequential.{Service, Outcome, IsStep, IsSound, encoded, last_reply_of}
 use Rattle.pbft_model.specs.Setup.{Setup, primary, replicas, span, signed_by, signer_after, numbers_from, is_least, gathered}
@@ -10,7 +10,7 @@ use Rattle.pbft_model.specs.Certificates.{Fields, of_pre_prepare, of_prepare, of
 use Rattle.pbft_model.specs.Validity.{is_valid_new_view, given}
 use Rattle.pbft_model.specs.Core.{Core, floor_in, is_prepared, is_committed, request_of, held_with, kept_on_leaving, next_number}
 use Rattle.pbft_model.specs.Acts.{Act, Take, Timeout, Send, Relay, Enter, Rise, Execute, Install, is_awaited}
-use Rattle.pbft_model.specs.Words.{placed}
+use Rattle.pbft_model.specs.Words.{Reply, placed}
 
 -- ---- the messages that a replica makes of what it keeps
 
@@ -75,6 +75,10 @@ own_message s me body = signed_by (λ b. b) (signer_after s.signer (leaves_befor
 
 -- ---- what an own message may say
 
+-- the service's reply in a Reply
+abbrev pub reply_in : ReplyBody → Reply
+reply_in b = record { client = b.client; time = b.time; number = b.number; result = b.result }
+
 -- Inside the active view, above its floor and between the marks.
 pub record IsInside (c : Setup) (s : Core) (view number : ℕ) : Type 0 where
   pub active : s.active ≡ true
@@ -102,10 +106,10 @@ pub record MayCommit (c : Setup) (s : Core) (b : Commit) : Type 0 where
   pub prepared : is_prepared c s (of_commit b) ≡ true
   pub once : list_any (λ n. n == b.number.0) s.committed_numbers ≡ false
 
--- A Reply is the client's last one, and names the present view.
+-- A Reply names the present view, and is that of the number just executed or a client's last one.
 pub record MayReply (s : Core) (b : ReplyBody) : Type 0 where
   pub view_is : b.view.0 ≡ s.view
-  pub last : last_reply_of s.service b.client.0 ≡ Some (record { client = b.client; time = b.time; number = b.number; result = b.result })
+  pub answers : (s.reply_due ≡ Some (reply_in b)) ⊎ ((client : ℕ) × (last_reply_of s.service client ≡ Some (reply_in b)))
 
 -- A Checkpoint is of the state after the number just executed.
 pub record MayCheckpoint (c : Setup) (s : Core) (b : Checkpoint) : Type 0 where

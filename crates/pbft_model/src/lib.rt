@@ -4,17 +4,34 @@
 #![tactic(auto)]
 
 ghost use Rattle.pbft_model.specs.Setup.{Setup};
-ghost use Rattle.std.specs.Prelude.{ℕ, List, Some};
-ghost use Rattle.pbft_model.specs.Core.{start_of};
+ghost use Rattle.std.specs.Prelude.{◌≡◌, ℕ, List, Some};
+ghost use Rattle.lms_tree.specs.SigningState.{SigningState};
+ghost use Rattle.pbft_model.specs.Acts.{Act};
+ghost use Rattle.pbft_model.specs.Core.{Core, start_of};
+ghost use Rattle.pbft_model.specs.Duties.{due};
+ghost use Rattle.pbft_model.specs.Rows.{Row, Fulfils, IsLawfulFrom};
+ghost use Rattle.pbft_model.specs.Rules.{Allowed};
 ghost use Rattle.pbft_model.specs.Sequential.{Service, IsStep, genesis_of};
 ghost use Rattle.pbft_model.specs.Setup.{request_in};
 ghost use Rattle.pbft_model.specs.Worked.{Works, toy, fresh, the_request, the_outcome, through_backup, changing_view, joining_view};
-ghost use Rattle.pbft_model.specs.Histories.{Family, IsUnforged, AgreesByView};
+ghost use Rattle.pbft_model.specs.Histories.{Family, IsUnforged, AgreesByView, IsHistory, core_after};
 
 /// Agreement by view: where nobody forges, no two digests are committed at one number, whatever
 /// their views.
 pub fn agreement_by_view()
     ensures { (c : Setup) (family : Family) → IsUnforged c family → AgreesByView c family }
+{}
+
+/// What is due is allowed: whatever act does the duty, at each point of a history.
+pub fn what_is_due_is_allowed()
+    ensures { (c : Setup) (me : ℕ) (signer : SigningState) (acts : List Act) → IsHistory c me signer acts
+        → (a : Act) → Fulfils c (core_after c signer acts) (due c me (core_after c signer acts)) a → Allowed c me (core_after c signer acts) a }
+{}
+
+/// The rows of a lawful journal are a history of acts, each of which was allowed, with the same core.
+pub fn a_journal_is_a_history()
+    ensures { (c : Setup) (me : ℕ) (signer : SigningState) (rows : List Row) (last : Core) → IsLawfulFrom c me (start_of c signer) rows last
+        → (acts : List Act) × IsHistory c me signer acts × (core_after c signer acts ≡ last) }
 {}
 
 /// A worked history: a request through a backup up to its reply.

@@ -1,5 +1,4 @@
 -- Agreement by view, as `proofs/ByView.antt` has it.
-use Rattle.pbft_model.proofs.Made as made
 use Rattle.pbft_model.proofs.ByView.{agrees_by_view}
 use Rattle.pbft_model.proofs.agreement_by_view.Goals as goal
 
