@@ -1,29 +1,28 @@
 -- Agreement by view.
-use Rattle.std.proofs.Common.{◌≡◌, ℕ, zero, suc, ◌+◌, ◌-◌, ◌*◌, ◌%◌, ◌<◌, ◌≤◌, Bool, true, false, ◌&&◌, ◌||◌, cond, eqb, ltb, leb, List, [], ◌∷◌, ◌++◌, map, max, Option, Some, None, refl, sym, ap, subst, ◌∙◌, arith, inl, inr, ◌⊎◌}
-use Rattle.std.specs.Prelude.{nat_lt, nat_le, not, ◌==◌, bytes_eq, length, take}
-use Rattle.std.specs.List.{list_any, list_all, flat_map, filter_map}
-use Rattle.std.proofs.lemmas.Bool.{true≢false, false≢true, cases_lt, cases_eq, and_parts, and_from, or_cases, eqb-true, eq-eqb, leb-true, ltb-true}
+use Rattle.std.proofs.Common.{◌≡◌, ℕ, zero, suc, ◌+◌, ◌-◌, ◌*◌, ◌<◌, ◌≤◌, Bool, true, false, ◌&&◌, cond, List, [], ◌∷◌, map, Some, refl, sym, ap, subst, ◌∙◌, arith, inl, inr, ◌⊎◌}
+use Rattle.std.specs.Prelude.{nat_lt, nat_le, not, ◌==◌, length}
+use Rattle.std.specs.List.{list_all}
+use Rattle.std.proofs.lemmas.Bool.{false≢true, cases_lt, and_parts, eqb-true, leb-true, ltb-true}
 use Rattle.std.proofs.lemmas.Option.{same_Some}
-use Rattle.pbft_model.specs.Words.{SigningState, Signed, Body, PrePrepare, Prepare, Commit, Certificate, ViewChange, NewView, Role, Replica, Part, part_of, as_message}
+use Rattle.pbft_model.specs.Words.{Signed, Body, PrePrepare, Prepare, Commit, Certificate, ViewChange, NewView, Role, Replica, as_message}
 use Rattle.pbft_codec.specs.declared.body.Body.TheVariants as bodies
-use Rattle.pbft_model.specs.Sequential.{Service, Outcome}
 use Rattle.pbft_model.specs.Setup.{Setup, primary, replicas, quorum, span, count, numbers_from}
-use Rattle.pbft_model.specs.Tables.{Key, Table, at, vote_key, entries_in, change_key}
+use Rattle.pbft_model.specs.Tables.{at, vote_key, change_key}
 use Rattle.pbft_model.specs.Certificates.{Fields, of_pre_prepare, of_prepare, of_commit, same_fields, is_by, voted, voted_among, certified, is_certificate, has_quorum}
-use Rattle.pbft_model.specs.Validity.{is_valid_new_view, are_given, given, given_numbers, greatest_of, given_digest, digest_or_null, highest, floor_of, top_of, certificates_in, changed_by, are_for_view, have_proofs, have_certificates, have_order, has_view, has_proof, has_certificates, bodies_in}
-use Rattle.pbft_model.specs.Core.{Core, is_prepared, is_certified, is_known, is_committed, next_number, floor_in, kept_on_leaving}
-use Rattle.pbft_model.specs.Acts.{Act, Destination, Take, Timeout, Send, Relay, Enter, Rise, Execute, Install, after, said, acted, signed_once_more, left_if_above, left_for, entered}
-use Rattle.pbft_model.specs.Rules.{Allowed, MaySay, MaySend, IsInside, wants_view, change_of, is_chosen, chosen_changes, new_view_of, view_change_of}
-use Rattle.pbft_model.specs.Histories.{core_after, IsHistory, IsEarlier, IsIn, HasSigned, Family, IsCorrect, IsReal, IsUnforged, HasCommitted, AgreesByView, signed_in, listed_in}
+use Rattle.pbft_model.specs.Validity.{is_valid_new_view, given, given_numbers, given_digest, digest_or_null, floor_of, top_of, certificates_in, changed_by, are_for_view, have_proofs, have_certificates, have_order, has_view, has_proof, has_certificates, bodies_in}
+use Rattle.pbft_model.specs.Core.{Core, is_prepared, is_certified, is_known, kept_on_leaving}
+use Rattle.pbft_model.specs.Acts.{Act, Destination, Take, Timeout, Send, Relay, Enter, Rise, Execute, Install, after, said, acted, signed_once_more, left_if_above, left_for}
+use Rattle.pbft_model.specs.Rules.{Allowed, MaySay, IsInside, change_of, is_chosen, chosen_changes}
+use Rattle.pbft_model.specs.Histories.{IsEarlier, IsIn, HasSigned, Family, IsCorrect, IsUnforged, HasCommitted, AgreesByView}
 use Rattle.pbft_model.proofs.Counting.{quorums_meet, quorum_has, count_with}
-use Rattle.pbft_model.proofs.Found.{in_any, in_all, from_map, in_map, in_flat, from_gathered, no_some}
+use Rattle.pbft_model.proofs.Found.{in_any, in_all, from_map, in_map, in_flat, from_gathered}
 use Rattle.pbft_model.proofs.Entries.{from_append}
-use Rattle.pbft_model.proofs.Events.{before, in_order, history_at, holds_on, earlier_trans, now, low_reached}
-use Rattle.pbft_model.proofs.Calm.{any_in, at_in, Calm, IsCalm, calm, calm_said}
-use Rattle.pbft_model.proofs.Real.{RealAs, RealCertificate, RealChange, RealMessage, RealCore, real_core, changes_in, list_in, real_change}
+use Rattle.pbft_model.proofs.Events.{before, in_order, history_at, holds_on, earlier_trans, low_reached}
+use Rattle.pbft_model.proofs.Calm.{at_in, calm, calm_said}
+use Rattle.pbft_model.proofs.Real.{RealAs, RealCertificate, RealChange, RealCore, real_core, changes_in, list_in, real_change}
 use Rattle.pbft_model.proofs.Stages.{Stage, Holds, holds_keeps, EnteredBy, basis_keeps, by_is, fields_are, voted_is, Remembers, remembers_after, remembers_leaving, view_up}
-use Rattle.pbft_model.proofs.Views.{greatest_above, given_one, given_role, one_given, in_given, given_at, below_top, highest_above, entered_holds}
-use Rattle.pbft_model.proofs.Voices.{core_at, Said, Leads, Led, Followed, CommittedTo, Vouched, vouched_one, led_one, led_from, prepare_said, commit_said, change_said, two_said, later, core_then, listed_fields, valid_list}
+use Rattle.pbft_model.proofs.Views.{greatest_above, given_one, given_role, one_given, given_at, below_top, highest_above, entered_holds}
+use Rattle.pbft_model.proofs.Voices.{core_at, Said, Led, CommittedTo, Vouched, vouched_one, led_one, led_from, prepare_said, commit_said, change_said, two_said, later, core_then, listed_fields, valid_list}
 
 -- the low mark never falls
 said_low : (c : Setup) (me : ℕ) (s : Core) (m : Signed Body) (b : Body) → MaySay c me s b → s.low ≤ (said c s m b).low
@@ -53,7 +52,7 @@ from_certificates [] x h = absurd h
 from_certificates (m ∷ ms) x h = elim (from_append x m.body.certificates (certificates_in ms) h) [
   | inl here ↦ (m, inl refl, here)
   | inr later ↦ let w = from_certificates ms x later in (w.0, inr w.1, w.2)
-  ]
+]
 
 -- the ViewChanges chosen are recorded ones
 pub from_chosen : (c : Setup) (me : ℕ) (s : Core) (m : Signed ViewChange) → IsIn m (chosen_changes c me s) → (i : ℕ) × (change_of s i ≡ Some m)
@@ -61,7 +60,7 @@ from_chosen c me s m h = let w = from_gathered (is_chosen c me s) (change_of s) 
 
 module _ (c : Setup) (family : Family) (u : IsUnforged c family) where
   signed_real : {B : Type 0} (kind : B → Body) (i : ℕ) (test : B → Bool) (m : Signed B) → is_by i test m ≡ true → RealAs c family kind m → IsCorrect c family.faulty i
-    → HasSigned (record { role = Replica; id = i; body = kind m.body }) (family.acts i)
+      → HasSigned (record { role = Replica; id = i; body = kind m.body }) (family.acts i)
   signed_real kind i test m e real correct =
       let by = by_is i test m e in
       let h = real by.0 (subst (λ (j : ℕ). IsCorrect c family.faulty j) (sym by.1) correct) in
@@ -76,8 +75,8 @@ module _ (c : Setup) (family : Family) (u : IsUnforged c family) where
     pub vouch : (i : ℕ) → IsCorrect c family.faulty i → voters i ≡ true → Vouched c family u i x
 
   pub certain_of : (x : Fields) (pre prep : ℕ → Bool) → certified c pre prep x.view ≡ true
-    → (pre (primary c x.view) ≡ true → (m : Signed PrePrepare) × (is_by (primary c x.view) (λ b. same_fields (of_pre_prepare b) x) m ≡ true) × RealAs c family bodies.PrePrepare m)
-    → ((i : ℕ) → prep i ≡ true → (m : Signed Prepare) × (is_by i (λ b. same_fields (of_prepare b) x) m ≡ true) × RealAs c family bodies.Prepare m) → Certain x
+      → (pre (primary c x.view) ≡ true → (m : Signed PrePrepare) × (is_by (primary c x.view) (λ b. same_fields (of_pre_prepare b) x) m ≡ true) × RealAs c family bodies.PrePrepare m)
+      → ((i : ℕ) → prep i ≡ true → (m : Signed Prepare) × (is_by i (λ b. same_fields (of_prepare b) x) m ≡ true) × RealAs c family bodies.Prepare m) → Certain x
   certain_of x pre prep e real_pre real_prep =
       let p = primary c x.view in
       let parts = and_parts (pre p) (nat_le (2 * c.config.f) (count (λ i. not (i == p) && prep i) (replicas c))) e in
@@ -113,7 +112,7 @@ module _ (c : Setup) (family : Family) (u : IsUnforged c family) where
       certain_of x (voted_among of_pre_prepare (y.pre_prepare ∷ []) x) (voted_among of_prepare y.prepares x)
       ((and_parts (certified c (voted_among of_pre_prepare (y.pre_prepare ∷ []) x) (voted_among of_prepare y.prepares x) x.view) (length y.prepares == 2 * c.config.f) e).0)
       (λ t. let w = in_any (is_by (primary c x.view) (λ b. same_fields (of_pre_prepare b) x)) (y.pre_prepare ∷ []) t in
-        (w.0, w.2, elim w.1 [ inl same ↦ subst (λ (m : Signed PrePrepare). RealAs c family bodies.PrePrepare m) (sym same) real.pre_prepare | inr none ↦ absurd none ]))
+      (w.0, w.2, elim w.1 [ inl same ↦ subst (λ (m : Signed PrePrepare). RealAs c family bodies.PrePrepare m) (sym same) real.pre_prepare | inr none ↦ absurd none ]))
       (λ j t. let w = in_any (is_by j (λ b. same_fields (of_prepare b) x)) y.prepares t in (w.0, w.2, real.prepares w.0 w.1))
 
   -- one certificate for each view and number
@@ -136,9 +135,9 @@ module _ (c : Setup) (family : Family) (u : IsUnforged c family) where
         voters = voted of_commit s.commits x;
         many = leb-true (quorum c) (count (voted of_commit s.commits x) (replicas c)) e;
         commit = λ j right t.
-          let w = voted_is of_commit s.commits x j t in
-          let fields = fields_are (of_commit w.0.body) x ((by_is j (λ b. same_fields (of_commit b) x) w.0 w.2).2) in
-          (w.0.body, commit_said c family u j w.0.body right (signed_real bodies.Commit j (λ b. same_fields (of_commit b) x) w.0 w.2 (real.2 (vote_key x.number x.view j) w.0 w.1) right), fields);
+            let w = voted_is of_commit s.commits x j t in
+            let fields = fields_are (of_commit w.0.body) x ((by_is j (λ b. same_fields (of_commit b) x) w.0 w.2).2) in
+            (w.0.body, commit_said c family u j w.0.body right (signed_real bodies.Commit j (λ b. same_fields (of_commit b) x) w.0 w.2 (real.2 (vote_key x.number x.view j) w.0 w.1) right), fields);
       }
 
   -- ---- what is remembered of a Commit
@@ -152,7 +151,7 @@ module _ (c : Setup) (family : Family) (u : IsUnforged c family) where
       (inside.up_to_high, inl (sym inside.view_is, inside.active, inr (parts.0, parts.1)))))
 
   remembers_at : (i : ℕ) (x : Fields) → IsCorrect c family.faulty i → (b : Commit) (w : Said c family i (bodies.Commit b)) → of_commit b ≡ x → (y : List Act) → IsEarlier (Send w.to w.message ∷ w.early) y → IsEarlier y (family.acts i)
-    → Remembers c x (core_at c family i y)
+      → Remembers c x (core_at c family i y)
   remembers_at i x correct b w is y h k =
       holds_on c i (family.signer i) (Remembers c x) (remembers_after c i x) (Send w.to w.message ∷ w.early) y h (history_at c i (family.signer i) y (family.acts i) k (u.histories i correct)) (commit_remembered i x b w is)
 
@@ -166,23 +165,23 @@ module _ (c : Setup) (family : Family) (u : IsUnforged c family) where
 
   -- A ViewChange for a higher view was said after the Commit, and tells of it.
   told : (i : ℕ) (x : Fields) (v : ViewChange) → IsCorrect c family.faulty i → CommittedTo c family u i x → Said c family i (bodies.ViewChange v) → x.view < v.view.0
-    → (x.number ≤ v.low.0) ⊎ ((y : Certificate) × IsIn y v.certificates × (y.pre_prepare.body.number.0 ≡ x.number) × (x.view ≤ y.pre_prepare.body.view.0))
+      → (x.number ≤ v.low.0) ⊎ ((y : Certificate) × IsIn y v.certificates × (y.pre_prepare.body.number.0 ≡ x.number) × (x.view ≤ y.pre_prepare.body.view.0))
   told i x v correct (b, w, is) w' higher = elim (two_said c family u i (bodies.Commit b) (bodies.ViewChange v) w w') [
     | inl same ↦ absurd cc
     | inr (inl h) ↦
-      let s = core_at c family i w'.early in
-      let tells = w'.says.tells_all in
-      elim (remembers_leaving c x s (remembers_at i x correct b w is w'.early h (before (Send w'.to w'.message) w'.early (family.acts i) w'.point))) [
-        | inl below ↦ inl (subst (λ (l : ℕ). x.number ≤ l) (sym (ap (λ (z : ViewChange). z.low.0) tells)) below)
-        | inr k ↦ inr (k.0, subst (λ (xs : List Certificate). IsIn k.0 xs) (sym (ap (λ (z : ViewChange). z.certificates) tells)) (at_in (kept_on_leaving c s) (x.number ∷ []) k.0 k.1), k.2, k.3)
+        let s = core_at c family i w'.early in
+        let tells = w'.says.tells_all in
+        elim (remembers_leaving c x s (remembers_at i x correct b w is w'.early h (before (Send w'.to w'.message) w'.early (family.acts i) w'.point))) [
+          | inl below ↦ inl (subst (λ (l : ℕ). x.number ≤ l) (sym (ap (λ (z : ViewChange). z.low.0) tells)) below)
+          | inr k ↦ inr (k.0, subst (λ (xs : List Certificate). IsIn k.0 xs) (sym (ap (λ (z : ViewChange). z.certificates) tells)) (at_in (kept_on_leaving c s) (x.number ∷ []) k.0 k.1), k.2, k.3)
         ]
     | inr (inr h) ↦
-      let left : v.view.0 ≤ (core_at c family i (Send w'.to w'.message ∷ w'.early)).view = subst (λ (s : Core). v.view.0 ≤ s.view) (sym (core_then c family u i (bodies.ViewChange v) w')) (omega arith) in
-      let at_commit = above_at i v.view.0 correct (Send w'.to w'.message ∷ w'.early) w.early h (before (Send w.to w.message) w.early (family.acts i) w.point) left in
-      let view_is : b.view.0 ≡ (core_at c family i w.early).view = w.says.inside.view_is in
-      let same : b.view.0 ≡ x.view = ap (λ (f : Fields). f.view) is in
-      absurd (omega arith)
-    ]
+        let left : v.view.0 ≤ (core_at c family i (Send w'.to w'.message ∷ w'.early)).view = subst (λ (s : Core). v.view.0 ≤ s.view) (sym (core_then c family u i (bodies.ViewChange v) w')) (omega arith) in
+        let at_commit = above_at i v.view.0 correct (Send w'.to w'.message ∷ w'.early) w.early h (before (Send w.to w.message) w.early (family.acts i) w.point) left in
+        let view_is : b.view.0 ≡ (core_at c family i w.early).view = w.says.inside.view_is in
+        let same : b.view.0 ≡ x.view = ap (λ (f : Fields). f.view) is in
+        absurd (omega arith)
+  ]
 
   -- ---- what a valid NewView carries
 
@@ -214,7 +213,7 @@ module _ (c : Setup) (family : Family) (u : IsUnforged c family) where
       (is, omega arith)
 
   pub carried : (x : Fields) (n : NewView) → Committing x → is_valid_new_view c n ≡ true → ((m : Signed ViewChange) → IsIn m n.changes → RealChange c family m) → x.view < n.view.0 → floor_of n.changes < x.number
-    → (y : Certificate) × IsIn y (certificates_in n.changes) × (y.pre_prepare.body.number.0 ≡ x.number) × (x.view ≤ y.pre_prepare.body.view.0)
+      → (y : Certificate) × IsIn y (certificates_in n.changes) × (y.pre_prepare.body.number.0 ≡ x.number) × (x.view ≤ y.pre_prepare.body.view.0)
   carried x n k valid real higher above =
       let w = quorums_meet c.config.f (replicas c) k.voters (changed_by n.changes) family.faulty refl k.many (many_changes n valid) u.few in
       let correct : IsCorrect c family.faulty w.0 = (w.1, w.4) in
@@ -223,10 +222,10 @@ module _ (c : Setup) (family : Family) (u : IsUnforged c family) where
       let said_it = change_said c family u w.0 v.0.body correct (signed_real bodies.ViewChange w.0 (λ v. true) v.0 v.2 ((real v.0 v.1).own) correct) in
       elim (told w.0 x v.0.body correct (k.commit w.0 correct w.2) said_it (omega arith)) [
         | inl below ↦
-          let low = greatest_above v.0.body.low.0 (map (λ (m : Signed ViewChange). m.body.low.0) n.changes) (in_map (λ (m : Signed ViewChange). m.body.low.0) n.changes v.0 v.1) in
-          absurd (omega arith)
+            let low = greatest_above v.0.body.low.0 (map (λ (m : Signed ViewChange). m.body.low.0) n.changes) (in_map (λ (m : Signed ViewChange). m.body.low.0) n.changes v.0 v.1) in
+            absurd (omega arith)
         | inr y ↦ (y.0, in_flat (λ (m : Signed ViewChange). m.body.certificates) n.changes v.0 y.0 v.1 y.1, y.2, y.3)
-        ]
+      ]
 
   -- ---- how a view was entered
 
@@ -249,8 +248,10 @@ module _ (c : Setup) (family : Family) (u : IsUnforged c family) where
       split a is.1 (low_reached c i (family.signer i) acts is.0) active above (entry_of i correct acts (before a acts (family.acts i) h)) where
         s : Core
         s = core_at c family i acts
+
         through : (a : Act) → (after c s a).view ≡ s.view → (after c s a).active ≡ s.active → (after c s a).active ≡ true → 0 < (after c s a).view → (s.active ≡ true → 0 < s.view → Entry i s.view acts) → Entry i (after c s a).view (a ∷ acts)
         through a view active is above rest = earlier_entry i s.view (after c s a).view a acts (sym view) (rest (sym active ∙ is) (subst (λ (v : ℕ). 0 < v) view above))
+
         sent : (to : Destination) (m : Signed Body) (b : Body) → m.body ≡ b → MaySay c i s b → (after c s (Send to m)).active ≡ true → 0 < (after c s (Send to m)).view → (s.active ≡ true → 0 < s.view → Entry i s.view acts) → Entry i (after c s (Send to m)).view (Send to m ∷ acts)
         sent to m (bodies.Request b) e says is above rest = absurd says
         sent to m (bodies.PrePrepare b) e says is above rest = through (Send to m) (ap (λ (x : Body). (said c s m x).view) e) (ap (λ (x : Body). (said c s m x).active) e) is above rest
@@ -262,6 +263,7 @@ module _ (c : Setup) (family : Family) (u : IsUnforged c family) where
         sent to m (bodies.NewView b) e says is above rest = record { act = Send to m; early = acts; n = b; point = inl refl; is = inr (to, m, refl, e); view_is = ap (λ (x : Body). (said c s m x).view) (sym e) }
         sent to m (bodies.Fetch b) e says is above rest = through (Send to m) (ap (λ (x : Body). (said c s m x).view) e ∙ (calm_said c s m (bodies.Fetch b) tt).0) (ap (λ (x : Body). (said c s m x).active) e ∙ (calm_said c s m (bodies.Fetch b) tt).1) is above rest
         sent to m (bodies.Snapshot b) e says is above rest = through (Send to m) (ap (λ (x : Body). (said c s m x).view) e) (ap (λ (x : Body). (said c s m x).active) e) is above rest
+
         split : (a : Act) → Allowed c i s a → s.low ≤ s.executed → (after c s a).active ≡ true → 0 < (after c s a).view → (s.active ≡ true → 0 < s.view → Entry i s.view acts) → Entry i (after c s a).view (a ∷ acts)
         split (Take m r) ok low is above rest = let k = calm c i s (Take m r) low ok tt in through (Take m r) k.0 k.1 is above rest
         split Timeout ok low is above rest = through Timeout refl refl is above rest
@@ -281,7 +283,7 @@ module _ (c : Setup) (family : Family) (u : IsUnforged c family) where
     pub view_now : s.view ≡ n.view.0
     pub low_is : s.low ≡ (core_at c family i early).low
     pub holds : (k : ℕ) → floor_of n.changes < k → k ≤ top_of n.changes → (core_at c family i early).low < k → k ≤ (core_at c family i early).low + span c
-      → Stage n.view.0 (Holds k n.view.0 (primary c n.view.0) (given_digest c n.changes k)) s
+        → Stage n.view.0 (Holds k n.view.0 (primary c n.view.0) (given_digest c n.changes k)) s
 
   same_low : (s : Core) (view : ℕ) → (left_if_above c s view).low ≡ s.low
   same_low s view = elim (nat_lt s.view view) as (λ b. (cond b (left_for c s view) s).low ≡ s.low) [ true ↦ refl | false ↦ refl ]
@@ -290,32 +292,36 @@ module _ (c : Setup) (family : Family) (u : IsUnforged c family) where
   enters i view acts correct h o = elim o.is [
     | inl w ↦ by_enter w.0 (subst (λ (a : Act). IsEarlier (a ∷ o.early) (family.acts i)) w.1 at) o.n w.2 (core_at c family i (o.act ∷ o.early)) (ap (λ (a : Act). core_at c family i (a ∷ o.early)) w.1)
     | inr w ↦ by_send w.0 w.1 (subst (λ (a : Act). IsEarlier (a ∷ o.early) (family.acts i)) w.2 at) o.n w.3 (core_at c family i (o.act ∷ o.early)) (ap (λ (a : Act). core_at c family i (a ∷ o.early)) w.2)
-    ] where
-      at : IsEarlier (o.act ∷ o.early) (family.acts i)
-      at = earlier_trans (o.act ∷ o.early) acts (family.acts i) o.point h
-      s : Core
-      s = core_at c family i o.early
-      real : IsEarlier o.early (family.acts i) → RealCore c family s
-      real k = real_core c family i correct u o.early k
-      by_enter : (m : Signed NewView) → IsEarlier (Enter m ∷ o.early) (family.acts i) → (n : NewView) → m.body ≡ n → (t : Core) → t ≡ core_at c family i (Enter m ∷ o.early) → Enters i n o.early t
-      by_enter m k n e t is = subst (λ (t : Core). Enters i n o.early t) (sym is) (subst (λ (n : NewView). Enters i n o.early (core_at c family i (Enter m ∷ o.early))) e
+  ] where
+    at : IsEarlier (o.act ∷ o.early) (family.acts i)
+    at = earlier_trans (o.act ∷ o.early) acts (family.acts i) o.point h
+
+    s : Core
+    s = core_at c family i o.early
+
+    real : IsEarlier o.early (family.acts i) → RealCore c family s
+    real k = real_core c family i correct u o.early k
+
+    by_enter : (m : Signed NewView) → IsEarlier (Enter m ∷ o.early) (family.acts i) → (n : NewView) → m.body ≡ n → (t : Core) → t ≡ core_at c family i (Enter m ∷ o.early) → Enters i n o.early t
+    by_enter m k n e t is = subst (λ (t : Core). Enters i n o.early t) (sym is) (subst (λ (n : NewView). Enters i n o.early (core_at c family i (Enter m ∷ o.early))) e
         (let ok = (history_at c i (family.signer i) (Enter m ∷ o.early) (family.acts i) k (u.histories i correct)).1 in
         let message = (real (before (Enter m) o.early (family.acts i) k)).6 (as_message bodies.NewView m) ok.taken in
         record {
           valid = ok.valid;
           changes = λ v within. real_change c family v (changes_in c family m.body m.role m.id m.sig message v within);
           leads = λ q within id role.
-            let own = list_in c family m.body m.role m.id m.sig message q within role (subst (λ (j : ℕ). IsCorrect c family.faulty j) (sym id) correct) in
-            led_from c family u i q.body correct
-            (subst (λ (r : Role). HasSigned (record { role = r; id = i; body = bodies.PrePrepare q.body }) (family.acts i)) role
-            (subst (λ (j : ℕ). HasSigned (record { role = q.role; id = j; body = bodies.PrePrepare q.body }) (family.acts j)) id own));
+              let own = list_in c family m.body m.role m.id m.sig message q within role (subst (λ (j : ℕ). IsCorrect c family.faulty j) (sym id) correct) in
+              led_from c family u i q.body correct
+              (subst (λ (r : Role). HasSigned (record { role = r; id = i; body = bodies.PrePrepare q.body }) (family.acts i)) role
+              (subst (λ (j : ℕ). HasSigned (record { role = q.role; id = j; body = bodies.PrePrepare q.body }) (family.acts j)) id own));
           basis = inl (refl, refl, refl);
           view_now = refl;
           low_is = same_low s m.body.view.0;
           holds = λ j floor top low high. inl (refl, refl, entered_holds c s m.body (primary c m.body.view.0) j (valid_list c family u m.body ok.valid) floor top low high);
         }))
-      by_send : (to : Destination) (m : Signed Body) → IsEarlier (Send to m ∷ o.early) (family.acts i) → (n : NewView) → m.body ≡ bodies.NewView n → (t : Core) → t ≡ core_at c family i (Send to m ∷ o.early) → Enters i n o.early t
-      by_send to m k n e t is =
+
+    by_send : (to : Destination) (m : Signed Body) → IsEarlier (Send to m ∷ o.early) (family.acts i) → (n : NewView) → m.body ≡ bodies.NewView n → (t : Core) → t ≡ core_at c family i (Send to m ∷ o.early) → Enters i n o.early t
+    by_send to m k n e t is =
         let ok = (history_at c i (family.signer i) (Send to m ∷ o.early) (family.acts i) k (u.histories i correct)).1 in
         let says : MaySay c i s (bodies.NewView n) = subst (λ (b : Body). MaySay c i s b) e ok.says in
         let w : Said c family i (bodies.NewView n) = record { early = o.early; to = to; message = m; point = k; body_is = e; says = says } in
@@ -323,8 +329,8 @@ module _ (c : Setup) (family : Family) (u : IsUnforged c family) where
         (record {
           valid = says.valid;
           changes = λ v within.
-            let f = from_chosen c i s v (subst (λ (xs : List (Signed ViewChange)). IsIn v xs) (ap (λ (z : NewView). z.changes) says.is) within) in
-            (real (before (Send to m) o.early (family.acts i) k)).5 (change_key s.view f.0) v f.1;
+              let f = from_chosen c i s v (subst (λ (xs : List (Signed ViewChange)). IsIn v xs) (ap (λ (z : NewView). z.changes) says.is) within) in
+              (real (before (Send to m) o.early (family.acts i) k)).5 (change_key s.view f.0) v f.1;
           leads = λ q within id role. (bodies.NewView n, w, inr (n, refl, (q, within, refl)));
           basis = inl (refl, refl, refl);
           view_now = refl;
@@ -361,7 +367,7 @@ module _ (c : Setup) (family : Family) (u : IsUnforged c family) where
 
   -- the low mark as a view is entered that is higher than that of a Commit
   commit_before : (i : ℕ) (x : Fields) → IsCorrect c family.faulty i → (b : Commit) (w : Said c family i (bodies.Commit b)) → of_commit b ≡ x → (view : ℕ) (acts : List Act) → IsEarlier acts (family.acts i) → (o : Entry i view acts) → x.view < view
-    → (core_at c family i (o.act ∷ o.early)).view ≡ view → x.number ≤ (core_at c family i o.early).low + span c
+      → (core_at c family i (o.act ∷ o.early)).view ≡ view → x.number ≤ (core_at c family i o.early).low + span c
   commit_before i x correct b w is view acts h o higher at_view =
       let point = earlier_trans (o.act ∷ o.early) acts (family.acts i) o.point h in
       let view_is : b.view.0 ≡ (core_at c family i w.early).view = w.says.inside.view_is in
@@ -371,16 +377,16 @@ module _ (c : Setup) (family : Family) (u : IsUnforged c family) where
         | inl (inr k) ↦ (remembers_at i x correct b w is o.early k (before o.act o.early (family.acts i) point)).0
         | inr (inl equal) ↦ absurd (no_commit (sym equal) o.is)
         | inr (inr k) ↦
-          let below = above_at i view correct (o.act ∷ o.early) w.early k (before (Send w.to w.message) w.early (family.acts i) w.point) (omega arith) in
-          absurd (omega arith)
-        ] where
-          no_commit : Send w.to w.message ∷ w.early ≡ o.act ∷ o.early → ((m : Signed NewView) × (o.act ≡ Enter m) × (m.body ≡ o.n)) ⊎ ((to : Destination) × (m : Signed Body) × (o.act ≡ Send to m) × (m.body ≡ bodies.NewView o.n)) → ⊥
-          no_commit e (inl (m, act, body)) = let both : Send w.to w.message ≡ Enter m = (let q : Send w.to w.message ≡ o.act = cc in q ∙ act) in cc
-          no_commit e (inr (to, m, act, body)) =
-              let both : Send w.to w.message ≡ Send to m = (let q : Send w.to w.message ≡ o.act = cc in q ∙ act) in
-              let one : w.message ≡ m = cc in
-              let clash : bodies.Commit b ≡ bodies.NewView o.n = sym w.body_is ∙ ap (λ (x : Signed Body). x.body) one ∙ body in
-              cc
+            let below = above_at i view correct (o.act ∷ o.early) w.early k (before (Send w.to w.message) w.early (family.acts i) w.point) (omega arith) in
+            absurd (omega arith)
+      ] where
+        no_commit : Send w.to w.message ∷ w.early ≡ o.act ∷ o.early → ((m : Signed NewView) × (o.act ≡ Enter m) × (m.body ≡ o.n)) ⊎ ((to : Destination) × (m : Signed Body) × (o.act ≡ Send to m) × (m.body ≡ bodies.NewView o.n)) → ⊥
+        no_commit e (inl (m, act, body)) = let both : Send w.to w.message ≡ Enter m = (let q : Send w.to w.message ≡ o.act = cc in q ∙ act) in cc
+        no_commit e (inr (to, m, act, body)) =
+            let both : Send w.to w.message ≡ Send to m = (let q : Send w.to w.message ≡ o.act = cc in q ∙ act) in
+            let one : w.message ≡ m = cc in
+            let clash : bodies.Commit b ≡ bodies.NewView o.n = sym w.body_is ∙ ap (λ (x : Signed Body). x.body) one ∙ body in
+            cc
 
   -- what is known at a point inside the active view
   record Since (i view number : ℕ) (acts : List Act) : Type 0 where
@@ -398,7 +404,7 @@ module _ (c : Setup) (family : Family) (u : IsUnforged c family) where
 
   -- a Prepare follows what is recorded
   bound_by : (i : ℕ) (s : Core) (n : NewView) (p : Prepare) → MaySay c i s (bodies.Prepare p) → n.view.0 ≡ p.view.0 → Holds p.number.0 n.view.0 (primary c n.view.0) (given_digest c n.changes p.number.0) s
-    → p.digest.0 ≡ given_digest c n.changes p.number.0
+      → p.digest.0 ≡ given_digest c n.changes p.number.0
   bound_by i s n p says view (inl below) = let above = says.inside.above_low in absurd (omega arith)
   bound_by i s n p says view (inr (m, found, digest)) =
       let w = voted_is of_pre_prepare s.pre_prepares (of_prepare p) (primary c p.view.0) says.proposed in
@@ -423,19 +429,23 @@ module _ (c : Setup) (family : Family) (u : IsUnforged c family) where
       let low_is = enter.low_is in
       let above_low = inside.above_low in
       record {
-        n = o.n; valid = enter.valid; view_is = o.view_is ∙ sym view_is; changes = enter.changes; above = floor;
+        n = o.n;
+        valid = enter.valid;
+        view_is = o.view_is ∙ sym view_is;
+        changes = enter.changes;
+        above = floor;
         bound = λ top. bound_by i s o.n p v.says (o.view_is ∙ sym view_is)
-          (stage_is o.n.view.0 (Holds p.number.0 o.n.view.0 (primary c o.n.view.0) (given_digest c o.n.changes p.number.0)) s (sym o.view_is)
-          (later c family u i o.n.view.0 (Holds p.number.0 o.n.view.0 (primary c o.n.view.0) (given_digest c o.n.changes p.number.0)) (holds_keeps c p.number.0 o.n.view.0 (primary c o.n.view.0) (given_digest c o.n.changes p.number.0)) correct
+            (stage_is o.n.view.0 (Holds p.number.0 o.n.view.0 (primary c o.n.view.0) (given_digest c o.n.changes p.number.0)) s (sym o.view_is)
+            (later c family u i o.n.view.0 (Holds p.number.0 o.n.view.0 (primary c o.n.view.0) (given_digest c o.n.changes p.number.0)) (holds_keeps c p.number.0 o.n.view.0 (primary c o.n.view.0) (given_digest c o.n.changes p.number.0)) correct
             (o.act ∷ o.early) v.early o.point early (enter.holds p.number.0 floor top (omega arith) (omega arith))));
       }
 
   -- what the list of an entered NewView has at a number, its primary signed
   list_led : (i view : ℕ) (acts : List Act) (o : Entry i view acts) → Enters i o.n o.early (core_at c family i (o.act ∷ o.early)) → (primary c view == i) ≡ true → (n : ℕ) → floor_of o.n.changes < n → n ≤ top_of o.n.changes
-    → Led c family u i (record { view = o.n.view.0; number = n; digest = given_digest c o.n.changes n })
+      → Led c family u i (record { view = o.n.view.0; number = n; digest = given_digest c o.n.changes n })
   list_led i view acts o enter leads n floor top =
       let w = one_given (primary c o.n.view.0) (given c o.n.view.0 o.n.changes) o.n.pre_prepares (record { view = o.n.view.0; number = n; digest = given_digest c o.n.changes n })
-        (valid_list c family u o.n enter.valid) (given_at c o.n.view.0 o.n.changes n floor top) in
+      (valid_list c family u o.n enter.valid) (given_at c o.n.view.0 o.n.changes n floor top) in
       let g = given_role (primary c o.n.view.0) (given c o.n.view.0 o.n.changes) o.n.pre_prepares w.0 (valid_list c family u o.n enter.valid) w.1 in
       let me : primary c o.n.view.0 ≡ i = ap (primary c) o.view_is ∙ eqb-true _ _ leads in
       subst (λ (f : Fields). Led c family u i f) w.2 (enter.leads w.0 w.1 (g.1 ∙ me) g.0)
@@ -450,11 +460,15 @@ module _ (c : Setup) (family : Family) (u : IsUnforged c family) where
       let floor = k.floor in
       let view_is : o.n.view.0 ≡ p.view.0 = o.view_is ∙ sym inside.view_is in
       record {
-        n = o.n; valid = k.enter.valid; view_is = view_is; changes = k.enter.changes; above = floor;
+        n = o.n;
+        valid = k.enter.valid;
+        view_is = view_is;
+        changes = k.enter.changes;
+        above = floor;
         bound = λ top.
-          let one = led_one c family u i (of_pre_prepare p) (record { view = o.n.view.0; number = p.number.0; digest = given_digest c o.n.changes p.number.0 }) correct
+            let one = led_one c family u i (of_pre_prepare p) (record { view = o.n.view.0; number = p.number.0; digest = given_digest c o.n.changes p.number.0 }) correct
             (bodies.PrePrepare p, v, inl (p, refl, refl)) (list_led i s.view v.early o k.enter v.says.leads p.number.0 floor top) (sym view_is) refl in
-          ap (λ (f : Fields). f.digest) one;
+            ap (λ (f : Fields). f.digest) one;
       }
 
   listed_after : (i : ℕ) (y : Fields) (n : NewView) (q : Signed PrePrepare) → IsCorrect c family.faulty i → Said c family i (bodies.NewView n) → IsIn q n.pre_prepares → of_pre_prepare q.body ≡ y → Opening y
@@ -465,10 +479,14 @@ module _ (c : Setup) (family : Family) (u : IsUnforged c family) where
       let above = given_above n.view.0 n.changes g.0 g.1 in
       let number : g.0.number ≡ y.number = ap (λ (z : Fields). z.number) (sym g.2 ∙ is) in
       record {
-        n = n; valid = w.says.valid; view_is = sym f.0; above = omega arith; bound = λ top. f.1;
+        n = n;
+        valid = w.says.valid;
+        view_is = sym f.0;
+        above = omega arith;
+        bound = λ top. f.1;
         changes = λ v inside.
-          let k = from_chosen c i s v (subst (λ (xs : List (Signed ViewChange)). IsIn v xs) (ap (λ (z : NewView). z.changes) w.says.is) inside) in
-          (real_core c family i correct u w.early (before (Send w.to w.message) w.early (family.acts i) w.point)).5 (change_key s.view k.0) v k.1;
+            let k = from_chosen c i s v (subst (λ (xs : List (Signed ViewChange)). IsIn v xs) (ap (λ (z : NewView). z.changes) w.says.is) inside) in
+            (real_core c family i correct u w.early (before (Send w.to w.message) w.early (family.acts i) w.point)).5 (change_key s.view k.0) v k.1;
       }
 
   pub after_commit : (i : ℕ) (x y : Fields) → IsCorrect c family.faulty i → CommittedTo c family u i x → Vouched c family u i y → x.view < y.view → x.number ≡ y.number → Opening y
@@ -530,4 +548,4 @@ module _ (c : Setup) (family : Family) (u : IsUnforged c family) where
       elim (cases_lt view view') [
         | inl less ↦ committed_only (suc view') x y a.1 b.0 (omega arith) (omega arith) refl
         | inr more ↦ sym (committed_only (suc view) y x b.1 a.0 (omega arith) (omega arith) refl)
-        ]
+      ]

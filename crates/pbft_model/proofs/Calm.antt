@@ -1,23 +1,23 @@
 -- What acts that stay in the view keep.
-use Rattle.std.proofs.Common.{◌≡◌, ℕ, zero, suc, ◌+◌, ◌%◌, ◌<◌, ◌≤◌, Bool, true, false, ◌&&◌, ◌||◌, cond, eqb, ltb, List, [], ◌∷◌, ◌++◌, map, filter, Option, Some, None, refl, sym, ap, subst, ◌∙◌, arith, inl, inr, ◌⊎◌}
-use Rattle.std.specs.Prelude.{is_some, bytes_eq, find, nat_lt, nat_le, not, ◌==◌}
-use Rattle.std.specs.List.{list_any, flat_map}
+use Rattle.std.proofs.Common.{◌≡◌, ℕ, ◌<◌, ◌≤◌, Bool, true, false, ◌||◌, cond, List, [], ◌∷◌, ◌++◌, filter, Some, None, refl, sym, ap, subst, ◌∙◌, arith, inl, inr, ◌⊎◌}
+use Rattle.std.specs.Prelude.{is_some, bytes_eq, find, nat_lt, ◌==◌}
+use Rattle.std.specs.List.{list_any}
 use Rattle.std.specs.Ordering.{nat_cmp, eq_by_cmp}
 use Rattle.std.specs.Cmp.Lexicographic.{slice_cmp}
-use Rattle.std.proofs.lemmas.Bool.{true≢false, false≢true, cases_Bool, and_parts, or_cases, or_left, or_right, cond-true, cond-false, eqb-true, lt-ltb, le-leb}
+use Rattle.std.proofs.lemmas.Bool.{false≢true, or_cases, or_left, or_right, cond-true, eqb-true, lt-ltb}
 use Rattle.std.proofs.lemmas.Slice.Eq.{bytes_eq-Decides}
 use Rattle.std.proofs.lemmas.Option.{same_Some}
-use Rattle.pbft_model.specs.Words.{Signed, Body, RequestBody, PrePrepare, Prepare, Checkpoint, Certificate, ViewChange, NewView}
+use Rattle.pbft_model.specs.Words.{Signed, Body, RequestBody, PrePrepare, Prepare, Checkpoint}
 use Rattle.pbft_codec.specs.declared.body.Body.TheVariants as bodies
-use Rattle.pbft_codec.specs.declared.body.Fetch.{Fetch}
-use Rattle.pbft_codec.specs.declared.body.Fetch.TheVariants as fetches
-use Rattle.pbft_model.specs.Sequential.{Service, Outcome}
+use Rattle.pbft_codec.specs.declared.body.fetch.Fetch.{Fetch}
+use Rattle.pbft_codec.specs.declared.body.fetch.Fetch.TheVariants as fetches
+use Rattle.pbft_model.specs.Sequential.{Service}
 use Rattle.pbft_model.specs.Setup.{Setup, null_digest, digest_of}
 use Rattle.pbft_model.specs.Tables.{Key, Table, at, keep, entries_in, first_in, is_above, vote_key, number_key, with_entry}
 use Rattle.pbft_model.specs.Certificates.{Fields}
 use Rattle.pbft_model.specs.Core.{Core, is_known, held_with, is_named, is_new, names, proof_of}
-use Rattle.pbft_model.specs.Acts.{Act, Destination, Take, Timeout, Send, Relay, Enter, Rise, Execute, Install, after, said, acted, recorded, discarded_to, still_held, add_request, with_body}
-use Rattle.pbft_model.specs.Rules.{Allowed, MaySay}
+use Rattle.pbft_model.specs.Acts.{Act, Take, Timeout, Send, Relay, Enter, Rise, Execute, Install, after, said, acted, recorded, discarded_to, still_held, add_request, with_body}
+use Rattle.pbft_model.specs.Rules.{Allowed}
 use Rattle.pbft_model.specs.Duties.{among}
 use Rattle.pbft_model.specs.Histories.{IsIn}
 use Rattle.pbft_model.proofs.Found.{kept_add, kept_keep, no_some}
@@ -55,7 +55,7 @@ pub find_filter : {X : Type 0} (p q : X → Bool) (xs : List X) → ((x : X) →
 find_filter p q [] h e = e
 find_filter {X} p q (x ∷ xs) h e = cases (p x) (q x) refl refl e (find_filter p q xs h) where
   cases : (a b : Bool) → p x ≡ a → q x ≡ b → is_some (cond a (Some x) (find p xs)) ≡ true → (is_some (find p xs) ≡ true → is_some (find p (filter q xs)) ≡ true)
-    → is_some (find p (cond b (x ∷ filter q xs) (filter q xs))) ≡ true
+      → is_some (find p (cond b (x ∷ filter q xs) (filter q xs))) ≡ true
   cases true true s t e rest = ap is_some (cond-true (p x) (Some x) (find p (filter q xs)) s)
   cases true false s t e rest = absurd (false≢true (sym t ∙ h x s))
   cases false true s t e rest = find_some p x (filter q xs) (rest e)
@@ -102,26 +102,34 @@ with_prepares : (c : Setup) (s : Core) (t : Table (Signed Prepare)) → Stays s.
 with_prepares c s t h = (refl, refl, refl, omega arith, stays _ _, h, λ n h e. e, λ n h e. e, λ q m h f e. e, stays _ _)
 
 known_with : (c : Setup) (held held' : List (Signed RequestBody)) (digest : List ℕ)
-  → (is_some (held_with c held digest) ≡ true → is_some (held_with c held' digest) ≡ true)
-  → (bytes_eq digest (null_digest c) || is_some (held_with c held digest)) ≡ true → (bytes_eq digest (null_digest c) || is_some (held_with c held' digest)) ≡ true
+    → (is_some (held_with c held digest) ≡ true → is_some (held_with c held' digest) ≡ true)
+    → (bytes_eq digest (null_digest c) || is_some (held_with c held digest)) ≡ true → (bytes_eq digest (null_digest c) || is_some (held_with c held' digest)) ≡ true
 known_with c held held' digest h e = elim (or_cases _ _ e) [ inl null ↦ or_left _ _ null | inr is ↦ or_right _ _ (h is) ]
 
 request_added : (c : Setup) (m : Signed RequestBody) (held : List (Signed RequestBody)) (digest : List ℕ) → is_some (held_with c held digest) ≡ true
-  → is_some (held_with c (add_request c m held) digest) ≡ true
+    → is_some (held_with c (add_request c m held) digest) ≡ true
 request_added c m held digest e = cases (is_some (held_with c held (digest_of c m))) where
   cases : (b : Bool) → is_some (held_with c (cond b held (held ++ m ∷ [])) digest) ≡ true
   cases true = e
   cases false = find_append (is_named c digest) held (m ∷ []) e
 
 with_held : (c : Setup) (s : Core) (m : Signed RequestBody) → Calm c s (record s { held = add_request c m s.held })
-with_held c s m =
-    (refl, refl, refl, omega arith, stays _ _, stays _ _, λ n h e. e, λ n h e. e,
-    λ q p h f e. known_with c s.held (add_request c m s.held) p.body.digest.0 (request_added c m s.held p.body.digest.0) e,
-    stays _ _)
+with_held c s m = (
+  refl,
+  refl,
+  refl,
+  omega arith,
+  stays _ _,
+  stays _ _,
+  λ n h e. e,
+  λ n h e. e,
+  λ q p h f e. known_with c s.held (add_request c m s.held) p.body.digest.0 (request_added c m s.held p.body.digest.0) e,
+  stays _ _,
+)
 
 -- a request that a PrePrepare names stays held
 named_held : (c : Setup) (service : Service) (ms : List (Signed PrePrepare)) (held : List (Signed RequestBody)) (digest : List ℕ) → names ms digest ≡ true
-  → is_some (held_with c held digest) ≡ true → is_some (held_with c (still_held c service ms held) digest) ≡ true
+    → is_some (held_with c held digest) ≡ true → is_some (held_with c (still_held c service ms held) digest) ≡ true
 named_held c service ms held digest named e =
     find_filter (is_named c digest) (λ m. is_new service m || names ms (digest_of c m)) held
     (λ m t. or_right (is_new service m) (names ms (digest_of c m)) (subst (λ (d : List ℕ). names ms d ≡ true) (sym ((bytes_eq-Decides (digest_of c m) digest).0 t)) named)) e
@@ -130,19 +138,23 @@ above_key : (number : ℕ) (q : Key) → number < first_in q → is_above number
 above_key number q h = lt-ltb number (first_in q) h
 
 discard_calm : (c : Setup) (s : Core) (number : ℕ) (proof : List (Signed Checkpoint)) → s.low ≤ number → Calm c s (acted (discarded_to c s number proof))
-discard_calm c s number proof h =
-    (refl, refl, refl, h,
-    λ q m above e. kept_keep (is_above number) s.pre_prepares q m (above_key number q above) e,
-    λ q m above e. kept_keep (is_above number) s.prepares q m (above_key number q above) e,
-    λ n above e. any_filter (λ k. k == n) (nat_lt number) s.prepared_numbers (λ k t. subst (λ (j : ℕ). nat_lt number j ≡ true) (sym (eqb-true k n t)) (lt-ltb number n above)) e,
-    λ n above e. any_filter (λ x. x.number == n) (λ x. nat_lt number x.number) s.proposed (λ x t. subst (λ (j : ℕ). nat_lt number j ≡ true) (sym (eqb-true x.number n t)) (lt-ltb number n above)) e,
-    λ q m above found e.
+discard_calm c s number proof h = (
+  refl,
+  refl,
+  refl,
+  h,
+  λ q m above e. kept_keep (is_above number) s.pre_prepares q m (above_key number q above) e,
+  λ q m above e. kept_keep (is_above number) s.prepares q m (above_key number q above) e,
+  λ n above e. any_filter (λ k. k == n) (nat_lt number) s.prepared_numbers (λ k t. subst (λ (j : ℕ). nat_lt number j ≡ true) (sym (eqb-true k n t)) (lt-ltb number n above)) e,
+  λ n above e. any_filter (λ x. x.number == n) (λ x. nat_lt number x.number) s.proposed (λ x t. subst (λ (j : ℕ). nat_lt number j ≡ true) (sym (eqb-true x.number n t)) (lt-ltb number n above)) e,
+  λ q m above found e.
       let stays_at = kept_keep (is_above number) s.pre_prepares q m (above_key number q above) found in
       let named : names (entries_in (keep (is_above number) s.pre_prepares)) m.body.digest.0 ≡ true =
-        any_in (λ p. bytes_eq p.body.digest.0 m.body.digest.0) m (entries_in (keep (is_above number) s.pre_prepares)) (at_in (keep (is_above number) s.pre_prepares) q m stays_at) ((bytes_eq-Decides m.body.digest.0 m.body.digest.0).1 refl) in
+      any_in (λ p. bytes_eq p.body.digest.0 m.body.digest.0) m (entries_in (keep (is_above number) s.pre_prepares)) (at_in (keep (is_above number) s.pre_prepares) q m stays_at) ((bytes_eq-Decides m.body.digest.0 m.body.digest.0).1 refl) in
       known_with c s.held (still_held c s.service (entries_in (keep (is_above number) s.pre_prepares)) s.held) m.body.digest.0
       (named_held c s.service (entries_in (keep (is_above number) s.pre_prepares)) s.held m.body.digest.0 named) e,
-    λ q x above e. kept_keep (is_above number) s.kept q x (above_key number q above) e)
+  λ q x above e. kept_keep (is_above number) s.kept q x (above_key number q above) e,
+)
 
 calm_recorded : (c : Setup) (s : Core) (m : Signed Body) (b : Body) → Calm c s (recorded c s m b)
 calm_recorded c s m (bodies.Request b) = with_held c s (with_body m b)
@@ -175,12 +187,30 @@ IsCalmBody (bodies.Snapshot b) = Unit {0}
 
 pub calm_said : (c : Setup) (s : Core) (m : Signed Body) (b : Body) → IsCalmBody b → Calm c s (said c s m b)
 calm_said c s m (bodies.Request b) k = absurd k
-calm_said c s m (bodies.PrePrepare b) k =
-    (refl, refl, refl, omega arith, (λ q x h e. kept_add _ s.pre_prepares (vote_key b.number.0 b.view.0 m.id) q (with_body m b) x e), stays _ _, λ n h e. e,
-    (λ n h e. or_right _ _ e), λ q m h f e. e, stays _ _)
-calm_said c s m (bodies.Prepare b) k =
-    (refl, refl, refl, omega arith, stays _ _, (λ q x h e. kept_add _ s.prepares (vote_key b.number.0 b.view.0 m.id) q (with_body m b) x e), (λ n h e. or_right _ _ e),
-    λ n h e. e, λ q m h f e. e, stays _ _)
+calm_said c s m (bodies.PrePrepare b) k = (
+  refl,
+  refl,
+  refl,
+  omega arith,
+  (λ q x h e. kept_add _ s.pre_prepares (vote_key b.number.0 b.view.0 m.id) q (with_body m b) x e),
+  stays _ _,
+  λ n h e. e,
+  (λ n h e. or_right _ _ e),
+  λ q m h f e. e,
+  stays _ _,
+)
+calm_said c s m (bodies.Prepare b) k = (
+  refl,
+  refl,
+  refl,
+  omega arith,
+  stays _ _,
+  (λ q x h e. kept_add _ s.prepares (vote_key b.number.0 b.view.0 m.id) q (with_body m b) x e),
+  (λ n h e. or_right _ _ e),
+  λ n h e. e,
+  λ q m h f e. e,
+  stays _ _,
+)
 calm_said c s m (bodies.Commit b) k = calm_self c s
 calm_said c s m (bodies.Reply b) k = calm_self c s
 calm_said c s m (bodies.Checkpoint b) k = calm_self c s

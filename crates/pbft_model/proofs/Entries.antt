@@ -1,11 +1,11 @@
 -- The values of a table after a change of it.
-use Rattle.std.proofs.Common.{◌≡◌, ℕ, Bool, true, false, cond, List, [], ◌∷◌, ◌++◌, Option, Some, None, refl, sym, ap, subst, ◌∙◌, inl, inr, ◌⊎◌}
+use Rattle.std.proofs.Common.{◌≡◌, Bool, true, false, cond, List, [], ◌∷◌, ◌++◌, inl, inr, ◌⊎◌}
 use Rattle.std.specs.Ordering.{nat_cmp}
 use Rattle.std.specs.Cmp.Lexicographic.{slice_cmp}
 use Rattle.std.specs.declared.cmp.Ordering.{Ordering}
 use Rattle.std.specs.declared.cmp.Ordering.TheVariants.{Less, Equal, Greater}
-use Rattle.std.specs.FinMap.Entries.{by_order, put}
-use Rattle.pbft_model.specs.Tables.{Key, Table, at, with_entry, keep, entries_in}
+use Rattle.std.specs.FinMap.Entries.{by_order}
+use Rattle.pbft_model.specs.Tables.{Key, Table, with_entry, keep, entries_in}
 use Rattle.pbft_model.specs.Histories.{IsIn}
 
 pub from_entry : {X : Type 0} (t : Table X) (k : Key) (x y : X) → IsIn y (entries_in (with_entry t k x)) → (y ≡ x) ⊎ IsIn y (entries_in t)
@@ -13,7 +13,7 @@ from_entry [] k x y (inl same) = inl same
 from_entry [] k x y (inr none) = absurd none
 from_entry {X} (e ∷ t) k x y h = cases (slice_cmp nat_cmp k e.0) h (from_entry t k x y) where
   cases : (o : Ordering) → IsIn y (entries_in (by_order o ((k, x) ∷ e ∷ t) ((e.0, x) ∷ t) (e ∷ with_entry t k x))) → (IsIn y (entries_in (with_entry t k x)) → (y ≡ x) ⊎ IsIn y (entries_in t))
-    → (y ≡ x) ⊎ IsIn y (entries_in (e ∷ t))
+      → (y ≡ x) ⊎ IsIn y (entries_in (e ∷ t))
   cases Less (inl same) rest = inl same
   cases Less (inr old) rest = inr old
   cases Equal (inl same) rest = inl same

@@ -1,16 +1,15 @@
 -- Points of a history, and what was done at them.
-use Rattle.std.proofs.Common.{◌≡◌, ℕ, ◌+◌, ◌<◌, ◌≤◌, Bool, true, false, cond, arith, List, [], ◌∷◌, Option, refl, sym, ap, subst, ◌∙◌, inl, inr, ◌⊎◌}
+use Rattle.std.proofs.Common.{ℕ, ◌≤◌, true, false, cond, arith, List, [], ◌∷◌, Option, refl, sym, subst, inl, inr, ◌⊎◌}
 use Rattle.std.specs.Prelude.{nat_lt}
-use Rattle.pbft_model.specs.Words.{SigningState, Signed, Body, PrePrepare, Part, part_of, as_message}
+use Rattle.pbft_model.specs.Words.{SigningState, Signed, Body, Part}
 use Rattle.pbft_codec.specs.declared.body.Body.TheVariants as bodies
-use Rattle.pbft_codec.specs.declared.body.Fetch.TheVariants as fetches
-use Rattle.pbft_model.specs.Sequential.{Service, Outcome}
+use Rattle.pbft_codec.specs.declared.body.fetch.Fetch.TheVariants as fetches
+use Rattle.pbft_model.specs.Sequential.{Service}
 use Rattle.pbft_model.specs.Setup.{Setup}
 use Rattle.pbft_model.specs.Core.{Core}
 use Rattle.pbft_model.specs.Acts.{Act, Destination, Take, Timeout, Send, Relay, Enter, Rise, Execute, Install, after, said, recorded, left_for, left_if_above}
 use Rattle.pbft_model.specs.Rules.{Allowed}
-use Rattle.pbft_model.specs.Histories.{core_after, IsHistory, IsEarlier, IsIn, HasSigned, HasTaken, signed_by_act, signed_in, listed_in}
-use Rattle.pbft_model.proofs.Found.{from_map}
+use Rattle.pbft_model.specs.Histories.{core_after, IsHistory, IsEarlier, IsIn, HasSigned, HasTaken, signed_by_act, signed_in}
 
 pub now : (acts : List Act) → IsEarlier acts acts
 now [] = refl
@@ -80,6 +79,7 @@ low_reached c me signer [] is = omega arith
 low_reached c me signer (a ∷ acts) is = reached_after (core_after c signer acts) a is.1 (low_reached c me signer acts is.0) where
   reached_left : (s : Core) (view : ℕ) → s.low ≤ s.executed → (left_if_above c s view).low ≤ (left_if_above c s view).executed
   reached_left s view h = elim (nat_lt s.view view) as (λ b. (cond b (left_for c s view) s).low ≤ (cond b (left_for c s view) s).executed) [ true ↦ h | false ↦ h ]
+
   reached_said : (s : Core) (m : Signed Body) (b : Body) → s.low ≤ s.executed → (said c s m b).low ≤ (said c s m b).executed
   reached_said s m (bodies.Request b) h = h
   reached_said s m (bodies.PrePrepare b) h = h
@@ -92,6 +92,7 @@ low_reached c me signer (a ∷ acts) is = reached_after (core_after c signer act
   reached_said s m (bodies.Fetch (fetches.Request d)) h = h
   reached_said s m (bodies.Fetch (fetches.State n)) h = h
   reached_said s m (bodies.Snapshot b) h = h
+
   reached_recorded : (s : Core) (m : Signed Body) (b : Body) → s.low ≤ s.executed → (recorded c s m b).low ≤ (recorded c s m b).executed
   reached_recorded s m (bodies.Request b) h = h
   reached_recorded s m (bodies.PrePrepare b) h = h
@@ -103,6 +104,7 @@ low_reached c me signer (a ∷ acts) is = reached_after (core_after c signer act
   reached_recorded s m (bodies.NewView b) h = h
   reached_recorded s m (bodies.Fetch b) h = h
   reached_recorded s m (bodies.Snapshot b) h = h
+
   reached_after : (s : Core) (a : Act) → Allowed c me s a → s.low ≤ s.executed → (after c s a).low ≤ (after c s a).executed
   reached_after s (Take m r) ok h = reached_recorded s m m.body h
   reached_after s Timeout ok h = h

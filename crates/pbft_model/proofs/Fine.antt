@@ -1,24 +1,23 @@
 -- What is due is allowed.
-use Rattle.std.proofs.Common.{◌≡◌, ℕ, zero, suc, ◌+◌, ◌*◌, ◌<◌, ◌≤◌, Bool, true, false, ◌&&◌, ◌||◌, cond, min, max, List, [], ◌∷◌, map, filter, Option, Some, None, refl, sym, ap, subst, ◌∙◌, arith, inl, inr, ◌⊎◌}
-use Rattle.std.specs.Prelude.{nat_lt, nat_le, not, ◌==◌, find, bytes_eq}
-use Rattle.std.specs.List.{list_any}
-use Rattle.std.proofs.lemmas.Bool.{true≢false, false≢true, cases_lt, and_parts, and_from, eqb-true, eq-eqb, leb-true, ltb-true, not-true}
-use Rattle.pbft_model.specs.Words.{Signed, Body, RequestBody, PrePrepare, Snapshot, ViewChange, NewView, Reply, Fetch, as_message}
+use Rattle.std.proofs.Common.{◌≡◌, ℕ, ◌+◌, ◌<◌, ◌≤◌, Bool, true, false, ◌&&◌, cond, min, List, [], ◌∷◌, filter, Option, Some, None, refl, sym, ap, subst, ◌∙◌, arith, inl, inr}
+use Rattle.std.specs.Prelude.{nat_lt, nat_le, not, ◌==◌, find}
+use Rattle.std.proofs.lemmas.Bool.{and_parts, eqb-true, leb-true, ltb-true, not-true}
+use Rattle.pbft_model.specs.Words.{Signed, Body, RequestBody, PrePrepare, Snapshot, ViewChange, Reply, Fetch}
 use Rattle.pbft_codec.specs.declared.body.Body.TheVariants as bodies
-use Rattle.pbft_codec.specs.declared.body.Fetch.TheVariants as fetches
-use Rattle.pbft_model.specs.Sequential.{Service, Outcome, last_reply_of}
-use Rattle.pbft_model.specs.Setup.{Setup, primary, quorum, replicas, span, count, view_limit, number_limit, numbers_from, digest_of}
-use Rattle.pbft_model.specs.Tables.{Key, Table, at, vote_key, number_key, first_in, entries_in}
-use Rattle.pbft_model.specs.Certificates.{Fields, of_pre_prepare, of_prepare, of_commit, same_fields, is_by, voted, some_by, is_stable, has_quorum}
+use Rattle.pbft_codec.specs.declared.body.fetch.Fetch.TheVariants as fetches
+use Rattle.pbft_model.specs.Sequential.{Service, last_reply_of}
+use Rattle.pbft_model.specs.Setup.{Setup, primary, span, view_limit, number_limit, digest_of}
+use Rattle.pbft_model.specs.Tables.{Table, at, vote_key, number_key, first_in, entries_in}
+use Rattle.pbft_model.specs.Certificates.{Fields, of_pre_prepare, same_fields, is_by, voted, some_by, is_stable, has_quorum}
 use Rattle.pbft_model.specs.Validity.{is_valid_new_view}
 use Rattle.pbft_model.specs.Core.{Core, floor_in, inside, is_placed, is_known, is_committed, is_prepared, held_with, next_number, pre_prepare_at, prepared_at, if_passes, is_new, is_proposed}
-use Rattle.pbft_model.specs.Acts.{Act, Destination, All, Send, with_body, is_awaited}
-use Rattle.pbft_model.specs.Rules.{Allowed, MaySay, own_message, IsInside, view_change_of, new_view_of, wants_view}
-use Rattle.pbft_model.specs.Duties.{Duty, Do, Executing, WornOut, or_else, when, say, first_for, change_to, due_on_timeout, due_reply, due_checkpoint, reply_body, answer_again, answer_to_request, pass_on, supply, answer_fetched, answer_to_fetch, enter_by, install_read, install_from, on_taken, due_answer, due_supply, due_enter, due_install, may_rise, rise_with, rise_among, due_rise, leads, propose, due_propose, among, agree, prepare_for, due_prepare, commit_to, commit_for, due_commit, execute_at, due_execute, higher_changes, least_view, join, due_join, due_open, due_fetch_state, is_lacking, ask_for, due_fetch_request, greatest_stable, due}
+use Rattle.pbft_model.specs.Acts.{Act, Destination, All, with_body, is_awaited}
+use Rattle.pbft_model.specs.Rules.{Allowed, MaySay, IsInside, view_change_of, new_view_of, wants_view}
+use Rattle.pbft_model.specs.Duties.{Duty, Executing, WornOut, or_else, when, say, first_for, change_to, due_on_timeout, due_reply, due_checkpoint, reply_body, answer_again, answer_to_request, pass_on, supply, answer_fetched, answer_to_fetch, enter_by, install_read, install_from, on_taken, due_answer, due_supply, due_enter, due_install, may_rise, rise_with, rise_among, due_rise, leads, propose, due_propose, among, agree, prepare_for, due_prepare, commit_to, commit_for, due_commit, execute_at, due_execute, higher_changes, least_view, join, due_join, due_open, due_fetch_state, is_lacking, ask_for, due_fetch_request, due}
 use Rattle.pbft_model.specs.Rows.{Fulfils}
 use Rattle.pbft_model.specs.Histories.{IsIn}
-use Rattle.pbft_model.proofs.Found.{passed, no_some}
-use Rattle.pbft_model.proofs.Stages.{by_is, is_by_from, prepared_is}
+use Rattle.pbft_model.proofs.Found.{passed}
+use Rattle.pbft_model.proofs.Stages.{by_is, is_by_from}
 use Rattle.pbft_model.proofs.Made.{same_self, numbers_within}
 use Rattle.pbft_model.proofs.Opening.{new_view_made}
 use Rattle.pbft_model.proofs.Sound.{IsSoundCore}
@@ -134,8 +133,12 @@ module _ (c : Setup) (me : ℕ) (s : Core) where
         let parts = and_parts (nat_lt s.executed b.number.0) (is_stable c s.checkpoints b.number.0 (c.hash b.state)) t in
         subst (λ (x : Act). Allowed c me s x) (sym is)
         (record {
-          above = ltb-true s.executed b.number.0 parts.0; stable = parts.1; message = with_body m b; taken = taken ∙ ap Some (same_message m (bodies.Snapshot b) e);
-          bytes_are = refl; reads = sound.1 m b state taken e reading;
+          above = ltb-true s.executed b.number.0 parts.0;
+          stable = parts.1;
+          message = with_body m b;
+          taken = taken ∙ ap Some (same_message m (bodies.Snapshot b) e);
+          bytes_are = refl;
+          reads = sound.1 m b state taken e reading;
         }))
 
     install_fine : (m : Signed Body) (b : Body) → m.body ≡ b → s.taken ≡ Some m → Fine (install_from c s m b)
@@ -186,11 +189,12 @@ module _ (c : Setup) (me : ℕ) (s : Core) where
         let floor : floor_in s < n = sound.0 (vote_key n s.view (primary c s.view)) m v.0 active refl in
         let own : is_by (primary c s.view) (λ b. same_fields (of_pre_prepare b) (of_pre_prepare m.body)) m ≡ true = is_by_from (primary c s.view) (is_placed s.view n) (λ b. same_fields (of_pre_prepare b) (of_pre_prepare m.body)) m (λ _. same_self (of_pre_prepare m.body)) v.1 in
         let here : voted of_pre_prepare s.pre_prepares (record { view = s.view; number = n; digest = m.body.digest.0 }) (primary c s.view) ≡ true =
-          subst (λ (o : Option (Signed PrePrepare)). some_by (primary c s.view) (λ b. same_fields (of_pre_prepare b) (record { view = s.view; number = n; digest = m.body.digest.0 })) o ≡ true) (sym v.0)
-          (subst (λ (x : Fields). is_by (primary c s.view) (λ b. same_fields (of_pre_prepare b) x) m ≡ true) (λ i. record { view = view i; number = number i; digest = m.body.digest.0 }) own) in
-        (record { active = active; view_is = view; above_floor = omega arith; above_low = omega arith; up_to_high = omega arith },
-        subst (λ (x : Fields). voted of_pre_prepare s.pre_prepares x (primary c x.view) ≡ true) (λ i. record { view = sym view i; number = sym number i; digest = m.body.digest.0 }) here,
-        number)
+        subst (λ (o : Option (Signed PrePrepare)). some_by (primary c s.view) (λ b. same_fields (of_pre_prepare b) (record { view = s.view; number = n; digest = m.body.digest.0 })) o ≡ true) (sym v.0)
+        (subst (λ (x : Fields). is_by (primary c s.view) (λ b. same_fields (of_pre_prepare b) x) m ≡ true) (λ i. record { view = view i; number = number i; digest = m.body.digest.0 }) own) in (
+          record { active = active; view_is = view; above_floor = omega arith; above_low = omega arith; up_to_high = omega arith },
+          subst (λ (x : Fields). voted of_pre_prepare s.pre_prepares x (primary c x.view) ≡ true) (λ i. record { view = sym view i; number = sym number i; digest = m.body.digest.0 }) here,
+          number,
+        )
 
     agree_fine : s.active ≡ true → leads c me s ≡ false → (n : ℕ) → IsIn n (inside c s) → among s.prepared_numbers n ≡ false → (o : Option (Signed PrePrepare)) → if_passes (λ m. is_known c s m.body.digest.0) (pre_prepare_at c s s.view n) ≡ o → Fine (agree me s o)
     agree_fine active follows n is once None e = none_fine
@@ -235,7 +239,7 @@ module _ (c : Setup) (me : ℕ) (s : Core) where
     higher_all [] m h = absurd h
     higher_all (x ∷ ms) m h = split (nat_lt s.view x.body.view.0 && not (x.id == me)) refl h (higher_all ms m) where
       split : (b : Bool) → (nat_lt s.view x.body.view.0 && not (x.id == me)) ≡ b → IsIn m (cond b (x ∷ filter (λ m. nat_lt s.view m.body.view.0 && not (m.id == me)) ms) (filter (λ m. nat_lt s.view m.body.view.0 && not (m.id == me)) ms))
-        → (IsIn m (filter (λ m. nat_lt s.view m.body.view.0 && not (m.id == me)) ms) → s.view < m.body.view.0) → s.view < m.body.view.0
+          → (IsIn m (filter (λ m. nat_lt s.view m.body.view.0 && not (m.id == me)) ms) → s.view < m.body.view.0) → s.view < m.body.view.0
       split true e (inl same) rest = subst (λ (y : Signed ViewChange). s.view < y.body.view.0) (sym same) (ltb-true s.view x.body.view.0 ((and_parts (nat_lt s.view x.body.view.0) (not (x.id == me)) e).0))
       split true e (inr later) rest = rest later
       split false e later rest = rest later

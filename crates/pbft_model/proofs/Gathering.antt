@@ -1,14 +1,14 @@
 -- What is gathered of the least signers has as many members, each by another signer.
-use Rattle.std.proofs.Common.{◌≡◌, ℕ, zero, suc, ◌+◌, ◌*◌, ◌<◌, ◌≤◌, Bool, true, false, ◌&&◌, cond, min, List, [], ◌∷◌, ◌++◌, length, Option, Some, None, refl, sym, ap, subst, ◌∙◌, arith, inl, inr, ◌⊎◌, add-one}
-use Rattle.std.specs.Prelude.{nat_lt, not, ◌==◌}
+use Rattle.std.proofs.Common.{◌≡◌, ℕ, zero, suc, ◌+◌, ◌<◌, ◌≤◌, Bool, true, false, ◌&&◌, cond, min, List, [], ◌∷◌, ◌++◌, length, Option, Some, None, refl, sym, ap, subst, ◌∙◌, arith, inl, inr}
+use Rattle.std.specs.Prelude.{nat_lt}
 use Rattle.std.specs.List.{list_any, filter_map, cons_option}
-use Rattle.std.proofs.lemmas.Bool.{true≢false, false≢true, cases_lt, cases_eq, and_parts, and_from, ltb-true, ltb-false, lt-ltb, le-ltb, cond-true}
+use Rattle.std.proofs.lemmas.Bool.{false≢true, ltb-true, ltb-false, cond-true}
 use Rattle.pbft_model.specs.Words.{Signed}
 use Rattle.pbft_model.specs.Setup.{count, numbers_from, is_least, gathered}
 use Rattle.pbft_model.specs.Certificates.{is_by}
 use Rattle.pbft_model.specs.Histories.{IsIn}
 use Rattle.pbft_model.proofs.Calm.{any_in}
-use Rattle.pbft_model.proofs.Stages.{count_more, in_numbers}
+use Rattle.pbft_model.proofs.Stages.{in_numbers}
 
 least_step : (m : ℕ) (a : Bool) (c k : ℕ) → k ≡ min m c → cond (a && nat_lt c m) 1 0 + k ≡ min m (cond a 1 0 + c)
 least_step m false c k e = omega arith
@@ -53,6 +53,7 @@ length_gathered {X} test value (suc n) h =
     ∙ length_more (gathered test value n) (value n) (test n) (h n) ∙ ap (λ (k : ℕ). cond (test n) 1 0 + k) (length_gathered test value n h) where
       g : ℕ → Option X
       g i = cond (test i) (value i) None
+
       zeros : 0 + n ≡ n
       zeros = omega arith
 
@@ -79,6 +80,6 @@ count_below p q (suc n) h = step (p n) (q n) (h n (omega arith)) (count_below p 
 
 -- each signer that passed is among what was gathered
 pub signers_gathered : {B : Type 0} (test : ℕ → Bool) (value : ℕ → Option (Signed B)) (say : B → Bool) (n : ℕ) → ((i : ℕ) → test i ≡ true → (m : Signed B) × (value i ≡ Some m) × (is_by i say m ≡ true))
-  → (q : ℕ → Bool) → ((i : ℕ) → test i ≡ true → list_any (is_by i say) (gathered test value n) ≡ true → q i ≡ true) → count test n ≤ count q n
+    → (q : ℕ → Bool) → ((i : ℕ) → test i ≡ true → list_any (is_by i say) (gathered test value n) ≡ true → q i ≡ true) → count test n ≤ count q n
 signers_gathered test value say n h q k =
     count_below test q n (λ i below t. let w = h i t in k i t (any_in (is_by i say) w.0 (gathered test value n) (in_gathered test value n i w.0 below t w.1) w.2))

@@ -1,27 +1,26 @@
 -- What a replica makes of what it keeps is valid.
-use Rattle.std.proofs.Common.{◌≡◌, ℕ, zero, suc, ◌+◌, ◌-◌, ◌*◌, ◌%◌, ◌<◌, ◌≤◌, Bool, true, false, ◌&&◌, ◌||◌, cond, min, T, List, [], ◌∷◌, ◌++◌, length, map, Option, Some, None, refl, sym, ap, subst, ◌∙◌, arith, inl, inr, ◌⊎◌}
+use Rattle.std.proofs.Common.{◌≡◌, ℕ, zero, suc, ◌+◌, ◌*◌, ◌<◌, ◌≤◌, Bool, true, false, ◌&&◌, ◌||◌, cond, T, List, [], ◌∷◌, length, Option, Some, None, refl, sym, ap, subst, ◌∙◌, arith, inl, inr, ◌⊎◌}
 use Rattle.std.specs.Prelude.{nat_lt, nat_le, not, ◌==◌, bytes_eq}
 use Rattle.std.specs.List.{list_any, list_all}
-use Rattle.std.specs.Ordering.{nat_cmp, is_lt, is_eq, ordering_then}
+use Rattle.std.specs.Ordering.{nat_cmp, is_lt, ordering_then}
 use Rattle.std.specs.Cmp.Lexicographic.{slice_cmp, nat_list_cmp_total}
 use Rattle.std.specs.declared.cmp.Ordering.{Ordering}
 use Rattle.std.specs.declared.cmp.Ordering.TheVariants.{Less, Equal, Greater}
 use Rattle.std.specs.FinMap.{slice_cmp-IsAntisymmetric, nat_cmp-IsAntisymmetric}
-use Rattle.std.specs.FinMap.Entries.{by_order, put, is_sorted, below_all, is_sorted-put, is_sorted-where_key}
-use Rattle.std.proofs.lemmas.Bool.{true≢false, false≢true, cases_lt, cases_eq, and_parts, and_from, or_cases, or_left, or_right, eqb-true, eq-eqb, ne_eqb, leb-true, le-leb, ltb-true, ltb-false, lt-ltb, not_from_false}
+use Rattle.std.specs.FinMap.Entries.{by_order, is_sorted, below_all, is_sorted-put, is_sorted-where_key}
+use Rattle.std.proofs.lemmas.Bool.{false≢true, and_parts, and_from, or_left, eq-eqb, leb-true, le-leb, ltb-true, lt-ltb}
 use Rattle.std.proofs.lemmas.Slice.Eq.{bytes_eq-Decides}
 use Rattle.std.proofs.lemmas.Option.{same_Some}
-use Rattle.pbft_model.specs.Words.{SigningState, Signed, Body, PrePrepare, Prepare, Checkpoint, Certificate, ViewChange, NewView, Role, Replica}
-use Rattle.pbft_codec.specs.declared.body.Body.TheVariants as bodies
-use Rattle.pbft_model.specs.Setup.{Setup, primary, replicas, quorum, span, count, numbers_from, is_replica, is_least, gathered, signer_after}
+use Rattle.pbft_model.specs.Words.{Signed, PrePrepare, Prepare, Checkpoint, Certificate, Replica}
+use Rattle.pbft_model.specs.Setup.{Setup, primary, replicas, quorum, span, count, numbers_from, is_replica, is_least, gathered}
 use Rattle.pbft_model.specs.Tables.{Key, Table, at, keep, with_entry, number_key, vote_key, checkpoint_key, entries_in, first_in}
-use Rattle.pbft_model.specs.Certificates.{Fields, of_pre_prepare, of_prepare, same_fields, is_by, some_by, voted, voted_among, certified, is_certificate, has_quorum, is_checkpoint_of, checkpointed, is_stable}
-use Rattle.pbft_model.specs.Validity.{digest_in, is_proof, has_view, has_proof, has_certificates, has_order, ascend_within, is_valid, is_valid_new_view, are_for_view, have_proofs, have_certificates, have_order, bodies_in, changed_by, given, are_given}
-use Rattle.pbft_model.specs.Core.{Core, is_certified, is_prepared, is_known, is_matching, prepared_at, certificate_of, with_certificate, with_certificates, kept_on_leaving, inside, proof_of}
-use Rattle.pbft_model.specs.Rules.{view_change_of, change_of, wants_view, other_wants, is_chosen, chosen_changes, new_view_of, signed_list, pre_prepare_of}
+use Rattle.pbft_model.specs.Certificates.{Fields, of_pre_prepare, of_prepare, same_fields, is_by, some_by, voted, voted_among, is_certificate, has_quorum, is_checkpoint_of, checkpointed, is_stable}
+use Rattle.pbft_model.specs.Validity.{digest_in, is_proof, ascend_within, is_valid}
+use Rattle.pbft_model.specs.Core.{Core, is_certified, is_known, is_matching, prepared_at, certificate_of, with_certificate, with_certificates, kept_on_leaving, inside, proof_of}
+use Rattle.pbft_model.specs.Rules.{view_change_of}
 use Rattle.pbft_model.specs.Histories.{IsIn}
-use Rattle.pbft_model.proofs.Found.{in_all, from_map, from_gathered, no_some}
-use Rattle.pbft_model.proofs.Stages.{by_is, fields_are, voted_is, prepared_is, count_more}
+use Rattle.pbft_model.proofs.Found.{from_map, from_gathered}
+use Rattle.pbft_model.proofs.Stages.{by_is, voted_is, prepared_is}
 use Rattle.pbft_model.proofs.Gathering.{count_least, length_gathered, signers_gathered}
 
 pub same_self : (x : Fields) → same_fields x x ≡ true
@@ -46,10 +45,10 @@ certificate_made c s n m e =
     let least = count_least (2 * c.config.f) (is_matching c s x) (replicas c) in
     let value : ℕ → Option (Signed Prepare) = λ i. at s.prepares (vote_key m.body.number.0 m.body.view.0 i) in
     let found : (i : ℕ) → is_least (2 * c.config.f) (is_matching c s x) i ≡ true → (p : Signed Prepare) × (value i ≡ Some p) × (is_by i (λ b. same_fields (of_prepare b) x) p ≡ true)
-      = λ i t. voted_is of_prepare s.prepares x i ((and_parts _ _ ((and_parts (is_matching c s x i) (nat_lt (count (is_matching c s x) i) (2 * c.config.f)) t).0)).1) in
+    = λ i t. voted_is of_prepare s.prepares x i ((and_parts _ _ ((and_parts (is_matching c s x i) (nat_lt (count (is_matching c s x) i) (2 * c.config.f)) t).0)).1) in
     let signers = signers_gathered (is_least (2 * c.config.f) (is_matching c s x)) value (λ b. same_fields (of_prepare b) x) (replicas c) found
-      (λ i. not (i == primary c x.view) && voted_among of_prepare (gathered (is_least (2 * c.config.f) (is_matching c s x)) value (replicas c)) x i)
-      (λ i t k. and_from _ _ ((and_parts (not (i == primary c x.view)) (voted of_prepare s.prepares x i) ((and_parts (is_matching c s x i) (nat_lt (count (is_matching c s x) i) (2 * c.config.f)) t).0)).0) k) in
+    (λ i. not (i == primary c x.view) && voted_among of_prepare (gathered (is_least (2 * c.config.f) (is_matching c s x)) value (replicas c)) x i)
+    (λ i t k. and_from _ _ ((and_parts (not (i == primary c x.view)) (voted of_prepare s.prepares x i) ((and_parts (is_matching c s x i) (nat_lt (count (is_matching c s x) i) (2 * c.config.f)) t).0)).0) k) in
     let long = length_gathered (is_least (2 * c.config.f) (is_matching c s x)) value (replicas c) (λ i t. let w = found i t in (w.0, w.1)) in
     let own : is_by (primary c x.view) (λ b. same_fields (of_pre_prepare b) x) m ≡ true = is_by_with (primary c x.view) (λ b. same_fields (of_pre_prepare b) x) m is.3 (is.4 ∙ ap (primary c) (sym is.0)) (same_self x) in
     and_from _ _ (and_from _ _ (or_left _ _ own) (le-leb (2 * c.config.f) (count (λ i. not (i == primary c x.view) && voted_among of_prepare (gathered (is_least (2 * c.config.f) (is_matching c s x)) value (replicas c)) x i) (replicas c)) (omega arith)))
@@ -58,7 +57,7 @@ certificate_made c s n m e =
 -- ---- a proof
 
 checkpoint_found : (cps : Table (Signed Checkpoint)) (number : ℕ) (digest : List ℕ) (i : ℕ) → checkpointed cps number digest i ≡ true
-  → (m : Signed Checkpoint) × (at cps (checkpoint_key number i) ≡ Some m) × (is_by i (is_checkpoint_of number digest) m ≡ true)
+    → (m : Signed Checkpoint) × (at cps (checkpoint_key number i) ≡ Some m) × (is_by i (is_checkpoint_of number digest) m ≡ true)
 checkpoint_found cps number digest i e = split (at cps (checkpoint_key number i)) e where
   split : (o : Option (Signed Checkpoint)) → some_by i (is_checkpoint_of number digest) o ≡ true → (m : Signed Checkpoint) × (o ≡ Some m) × (is_by i (is_checkpoint_of number digest) m ≡ true)
   split None e = absurd (false≢true e)
@@ -75,16 +74,16 @@ proof_made c s number digest e =
     let enough = leb-true (quorum c) (count test (replicas c)) e in
     let least = count_least (quorum c) test (replicas c) in
     let found : (i : ℕ) → is_least (quorum c) test i ≡ true → (m : Signed Checkpoint) × (value i ≡ Some m) × (is_by i (is_checkpoint_of number digest) m ≡ true)
-      = λ i t. checkpoint_found s.checkpoints number digest i ((and_parts (test i) (nat_lt (count test i) (quorum c)) t).0) in
+    = λ i t. checkpoint_found s.checkpoints number digest i ((and_parts (test i) (nat_lt (count test i) (quorum c)) t).0) in
     let ms = proof_of c s number digest in
     let long = length_gathered (is_least (quorum c) test) value (replicas c) (λ i t. let w = found i t in (w.0, w.1)) in
     let digest_is : digest_in ms ≡ digest = digest_of_all ms digest (λ m within.
-      let w = from_gathered (is_least (quorum c) test) value (replicas c) m within in
-      let v = found w.0 w.1 in
-      let same : v.0 ≡ m = same_Some v.0 m (sym v.1 ∙ w.2) in
-      let by = by_is w.0 (is_checkpoint_of number digest) v.0 v.2 in
-      subst (λ (p : Signed Checkpoint). p.body.digest.0 ≡ digest) same ((bytes_eq-Decides v.0.body.digest.0 digest).0 ((and_parts (v.0.body.number.0 == number) (bytes_eq v.0.body.digest.0 digest) by.2).1)))
-      (omega arith) in
+    let w = from_gathered (is_least (quorum c) test) value (replicas c) m within in
+    let v = found w.0 w.1 in
+    let same : v.0 ≡ m = same_Some v.0 m (sym v.1 ∙ w.2) in
+    let by = by_is w.0 (is_checkpoint_of number digest) v.0 v.2 in
+    subst (λ (p : Signed Checkpoint). p.body.digest.0 ≡ digest) same ((bytes_eq-Decides v.0.body.digest.0 digest).0 ((and_parts (v.0.body.number.0 == number) (bytes_eq v.0.body.digest.0 digest) by.2).1)))
+    (omega arith) in
     let signers = signers_gathered (is_least (quorum c) test) value (is_checkpoint_of number digest) (replicas c) found (λ i. list_any (is_by i (is_checkpoint_of number digest)) ms) (λ i t k. k) in
     let many : has_quorum c (λ i. list_any (is_by i (is_checkpoint_of number digest)) ms) ≡ true = le-leb (quorum c) (count (λ i. list_any (is_by i (is_checkpoint_of number digest)) ms) (replicas c)) (omega arith) in
     and_from _ _ (eq-eqb (length ms) (quorum c) (omega arith)) (subst (λ (d : List ℕ). has_quorum c (λ i. list_any (is_by i (is_checkpoint_of number d)) ms) ≡ true) (sym digest_is) many)
@@ -131,12 +130,13 @@ kept_with c s view (n ∷ ns) inside higher h = cases (prepared_at c s n) refl (
       let number = is.1 in
       let low = place.0 in
       let high = place.1 in
-      let view_is = is.0 in
-      (is_sorted-put (slice_cmp nat_cmp) nat_list_cmp_total (number_key n) (certificate_of c s m) (with_certificates c s ns s.kept) rest.0,
-      λ d within. elim (from_put (number_key n) (certificate_of c s m) (with_certificates c s ns s.kept) d within) [
-        | inl same ↦ subst (λ (x : Key × Certificate). IsKeptEntry c s.low view x) (sym same) (ap number_key (sym number), omega arith, omega arith, certificate_made c s n m e, omega arith)
-        | inr old ↦ rest.1 d old
-        ])
+      let view_is = is.0 in (
+        is_sorted-put (slice_cmp nat_cmp) nat_list_cmp_total (number_key n) (certificate_of c s m) (with_certificates c s ns s.kept) rest.0,
+        λ d within. elim (from_put (number_key n) (certificate_of c s m) (with_certificates c s ns s.kept) d within) [
+          | inl same ↦ subst (λ (x : Key × Certificate). IsKeptEntry c s.low view x) (sym same) (ap number_key (sym number), omega arith, omega arith, certificate_made c s n m e, omega arith)
+          | inr old ↦ rest.1 d old
+        ],
+      )
 
 pub numbers_within : (many first n : ℕ) → IsIn n (numbers_from first many) → (first ≤ n) × (n < first + many)
 numbers_within zero first n h = absurd h
@@ -152,15 +152,16 @@ kept_leaving c s view higher h =
     (higher_view c s.low s.view view s.kept (omega arith) h)
 
 pub kept_above : (c : Setup) (low number view : ℕ) (t : Table Certificate) → low ≤ number → IsKept c low view t → IsKept c number view (keep (λ key. nat_lt number (first_in key)) t)
-kept_above c low number view t up h =
-    (is_sorted-where_key (slice_cmp nat_cmp) (λ key. nat_lt number (first_in key)) t h.0,
-    λ e is.
+kept_above c low number view t up h = (
+  is_sorted-where_key (slice_cmp nat_cmp) (λ key. nat_lt number (first_in key)) t h.0,
+  λ e is.
       let w = from_where (λ key. nat_lt number (first_in key)) t e is in
       let k = h.1 e w.1 in
       let above = ltb-true number (first_in e.0) w.0 in
       let same : first_in e.0 ≡ e.1.pre_prepare.body.number.0 = ap first_in k.0 in
       let high = k.2 in
-      (k.0, omega arith, omega arith, k.3, k.4))
+      (k.0, omega arith, omega arith, k.3, k.4),
+)
 
 below_in : {X : Type 0} (k : Key) (t : Table X) (e : Key × X) → T (below_all (slice_cmp nat_cmp) k t) → IsIn e t → is_lt (slice_cmp nat_cmp k e.0) ≡ true
 below_in k [] e h is = absurd is
@@ -183,20 +184,20 @@ number_below n k e = cases (nat_lt n k) refl e where
     other false e = false≢true e
 
 ascending : (first last : ℕ) (t : Table Certificate) → T (is_sorted (slice_cmp nat_cmp) t)
-  → ((e : Key × Certificate) → IsIn e t → (e.0 ≡ number_key e.1.pre_prepare.body.number.0) × (first ≤ e.1.pre_prepare.body.number.0) × (e.1.pre_prepare.body.number.0 ≤ last)) → ascend_within first last (entries_in t) ≡ true
+    → ((e : Key × Certificate) → IsIn e t → (e.0 ≡ number_key e.1.pre_prepare.body.number.0) × (first ≤ e.1.pre_prepare.body.number.0) × (e.1.pre_prepare.body.number.0 ≤ last)) → ascend_within first last (entries_in t) ≡ true
 ascending first last [] sorted h = refl
 ascending first last (e ∷ t) sorted h =
     let w = h e (inl refl) in
     let parts = split (below_all (slice_cmp nat_cmp) e.0 t) (is_sorted (slice_cmp nat_cmp) t) sorted in
     and_from _ _ (le-leb first e.1.pre_prepare.body.number.0 w.1) (and_from _ _ (le-leb e.1.pre_prepare.body.number.0 last w.2)
     (ascending (e.1.pre_prepare.body.number.0 + 1) last t parts.1 (λ d is.
-      let v = h d (inr is) in
-      let less = number_below e.1.pre_prepare.body.number.0 d.1.pre_prepare.body.number.0
-        (subst (λ (k : Key). is_lt (slice_cmp nat_cmp k (number_key d.1.pre_prepare.body.number.0)) ≡ true) w.0 (subst (λ (k : Key). is_lt (slice_cmp nat_cmp e.0 k) ≡ true) v.0 (below_in e.0 t d parts.0 is))) in
-      (v.0, omega arith, v.2)))) where
-    split : (a b : Bool) → T (a && b) → T a × T b
-    split true b h = (tt, h)
-    split false b h = absurd h
+    let v = h d (inr is) in
+    let less = number_below e.1.pre_prepare.body.number.0 d.1.pre_prepare.body.number.0
+    (subst (λ (k : Key). is_lt (slice_cmp nat_cmp k (number_key d.1.pre_prepare.body.number.0)) ≡ true) w.0 (subst (λ (k : Key). is_lt (slice_cmp nat_cmp e.0 k) ≡ true) v.0 (below_in e.0 t d parts.0 is))) in
+    (v.0, omega arith, v.2)))) where
+      split : (a b : Bool) → T (a && b) → T a × T b
+      split true b h = (tt, h)
+      split false b h = absurd h
 
 -- ---- a ViewChange
 
@@ -208,7 +209,7 @@ view_change_made c s view higher kept proof =
     let k = kept_leaving c s view higher kept in
     let each : (x : Certificate) → IsIn x (entries_in (kept_on_leaving c s)) → (e : Key × Certificate) × IsIn e (kept_on_leaving c s) × (x ≡ e.1) = λ x is. from_map (λ (e : Key × Certificate). e.1) (kept_on_leaving c s) x is in
     and_from _ _ (and_from _ _ (lt-ltb 0 view (omega arith)) (all_from (λ x. nat_lt x.pre_prepare.body.view.0 view) (entries_in (kept_on_leaving c s)) (λ x is.
-      let w = each x is in subst (λ (y : Certificate). nat_lt y.pre_prepare.body.view.0 view ≡ true) (sym w.2) (lt-ltb w.0.1.pre_prepare.body.view.0 view ((k.1 w.0 w.1).4)))))
+    let w = each x is in subst (λ (y : Certificate). nat_lt y.pre_prepare.body.view.0 view ≡ true) (sym w.2) (lt-ltb w.0.1.pre_prepare.body.view.0 view ((k.1 w.0 w.1).4)))))
     (and_from _ _ proof
     (and_from _ _ (all_from (is_certificate c) (entries_in (kept_on_leaving c s)) (λ x is. let w = each x is in subst (λ (y : Certificate). is_certificate c y ≡ true) (sym w.2) ((k.1 w.0 w.1).3)))
     (ascending (s.low + 1) (s.low + span c) (kept_on_leaving c s) k.0 (λ e is. let w = k.1 e is in let low = w.1 in (w.0, omega arith, w.2)))))

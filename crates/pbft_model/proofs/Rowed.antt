@@ -1,12 +1,12 @@
 -- The acts of a journal's rows are a history.
-use Rattle.std.proofs.Common.{◌≡◌, ℕ, List, [], ◌∷◌, Option, refl, sym, subst}
+use Rattle.std.proofs.Common.{◌≡◌, ℕ, List, [], ◌∷◌, refl, sym, subst}
 use Rattle.pbft_model.specs.Words.{SigningState}
 use Rattle.pbft_model.specs.Setup.{Setup}
 use Rattle.pbft_model.specs.Core.{Core, start_of}
-use Rattle.pbft_model.specs.Acts.{Act, Take, Timeout, after}
+use Rattle.pbft_model.specs.Acts.{Act}
 use Rattle.pbft_model.specs.Rules.{Allowed}
 use Rattle.pbft_model.specs.Duties.{due}
-use Rattle.pbft_model.specs.Rows.{Row, Input, Received, TimedOut, Fulfils, HasLeaves, Follows, Begins, IsNext, IsLawfulFrom}
+use Rattle.pbft_model.specs.Rows.{Row, Input, Received, TimedOut, Fulfils, Follows, Begins, IsNext, IsLawfulFrom}
 use Rattle.pbft_model.specs.Histories.{core_after, IsHistory}
 use Rattle.pbft_model.proofs.Sound.{sound_at}
 use Rattle.pbft_model.proofs.Fine.{due_fine}

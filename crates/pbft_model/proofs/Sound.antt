@@ -1,18 +1,18 @@
 -- What holds of a replica's core at each point of its history.
-use Rattle.std.proofs.Common.{◌≡◌, ℕ, zero, suc, ◌+◌, ◌*◌, ◌<◌, ◌≤◌, Bool, true, false, ◌&&◌, ◌||◌, cond, List, [], ◌∷◌, length, max, Option, Some, None, refl, sym, ap, subst, ◌∙◌, arith, inl, inr, ◌⊎◌}
+use Rattle.std.proofs.Common.{◌≡◌, ℕ, ◌<◌, ◌≤◌, Bool, true, false, ◌&&◌, cond, List, [], ◌∷◌, Option, Some, refl, sym, ap, subst, ◌∙◌, arith, inl, inr}
 use Rattle.std.specs.Prelude.{nat_lt, nat_le, not, ◌==◌, MatchOption}
-use Rattle.std.proofs.lemmas.Bool.{true≢false, false≢true, cases_lt, cases_Bool, and_parts, and_from, or_cases, or_left, or_right, eqb-true, eq-eqb, leb-true, le-leb, ltb-true, lt-leb, not-true}
+use Rattle.std.proofs.lemmas.Bool.{true≢false, false≢true, cases_lt, and_parts, and_from, or_cases, or_left, or_right, eq-eqb, le-leb, ltb-true, not-true}
 use Rattle.std.proofs.lemmas.Option.{same_Some}
-use Rattle.pbft_model.specs.Words.{SigningState, Signed, Body, PrePrepare, Snapshot, Checkpoint, Certificate, ViewChange, NewView}
+use Rattle.pbft_model.specs.Words.{SigningState, Signed, Body, PrePrepare, Snapshot, ViewChange, NewView}
 use Rattle.pbft_codec.specs.declared.body.Body.TheVariants as bodies
-use Rattle.pbft_codec.specs.declared.body.Fetch.TheVariants as fetches
-use Rattle.pbft_model.specs.Sequential.{Service, Outcome}
-use Rattle.pbft_model.specs.Setup.{Setup, span}
-use Rattle.pbft_model.specs.Tables.{Key, Table, at, keep, first_in, view_in, vote_key, change_key, is_above, add_if}
-use Rattle.pbft_model.specs.Validity.{is_valid, is_valid_new_view, floor_of, top_of}
+use Rattle.pbft_codec.specs.declared.body.fetch.Fetch.TheVariants as fetches
+use Rattle.pbft_model.specs.Sequential.{Service}
+use Rattle.pbft_model.specs.Setup.{Setup}
+use Rattle.pbft_model.specs.Tables.{Key, Table, at, keep, first_in, view_in, vote_key, change_key, is_above}
+use Rattle.pbft_model.specs.Validity.{is_valid, floor_of, top_of}
 use Rattle.pbft_model.specs.Core.{Core, start_of, floor_in, is_admitted, is_inside}
-use Rattle.pbft_model.specs.Acts.{Act, Take, Timeout, Send, Relay, Enter, Rise, Execute, Install, after, said, recorded, entered, opened_by, with_list, left_for, left_if_above, add_pre_prepare, add_pre_prepares, add_change, is_of_entered, is_awaited, with_body}
-use Rattle.pbft_model.specs.Rules.{Allowed, MaySay, IsReading, IsStateAt, view_change_of}
+use Rattle.pbft_model.specs.Acts.{Act, Take, Timeout, Send, Relay, Enter, Rise, Execute, Install, after, said, recorded, entered, opened_by, with_list, left_for, add_pre_prepare, add_pre_prepares, is_of_entered, is_awaited, with_body}
+use Rattle.pbft_model.specs.Rules.{Allowed, MaySay, IsReading, IsStateAt}
 use Rattle.pbft_model.specs.Histories.{core_after, IsHistory}
 use Rattle.pbft_model.proofs.Found.{found_add, found_keep, no_some}
 use Rattle.pbft_model.proofs.Stages.{awaited_above}
@@ -41,20 +41,20 @@ module _ (c : Setup) where
       elim (cases_lt (floor_in s) number) [
         | inl above ↦ above
         | inr below ↦ absurd (true≢false (sym (and_from _ _ active (and_from _ _ (eq-eqb view s.view same) (le-leb number (floor_in s) below))) ∙ not-true _ b.1))
-        ]
+      ]
 
   -- what is added stands under its own number and view
   added_above : (s : Core) (m : Signed PrePrepare) (t : Table (Signed PrePrepare)) → s.active ≡ true → ((q : Key) (p : Signed PrePrepare) → at t q ≡ Some p → view_in q ≡ s.view → floor_in s < first_in q)
-    → (q : Key) (p : Signed PrePrepare) → at (add_pre_prepare c s m t) q ≡ Some p → view_in q ≡ s.view → floor_in s < first_in q
+      → (q : Key) (p : Signed PrePrepare) → at (add_pre_prepare c s m t) q ≡ Some p → view_in q ≡ s.view → floor_in s < first_in q
   added_above s m t active h q p e view = elim (found_add (is_admitted c s m.body.view.0 m.body.number.0) t (vote_key m.body.number.0 m.body.view.0 m.id) q m p e) [
     | inl new ↦
-      let above = admitted_above s m.body.view.0 m.body.number.0 new.2 active (ap view_in (sym new.0) ∙ view) in
-      subst (λ (k : Key). floor_in s < first_in k) (sym new.0) above
+        let above = admitted_above s m.body.view.0 m.body.number.0 new.2 active (ap view_in (sym new.0) ∙ view) in
+        subst (λ (k : Key). floor_in s < first_in k) (sym new.0) above
     | inr old ↦ h q p old view
-    ]
+  ]
 
   list_above : (s : Core) (ms : List (Signed PrePrepare)) (t : Table (Signed PrePrepare)) → s.active ≡ true → ((q : Key) (p : Signed PrePrepare) → at t q ≡ Some p → view_in q ≡ s.view → floor_in s < first_in q)
-    → (q : Key) (p : Signed PrePrepare) → at (add_pre_prepares c s ms t) q ≡ Some p → view_in q ≡ s.view → floor_in s < first_in q
+      → (q : Key) (p : Signed PrePrepare) → at (add_pre_prepares c s ms t) q ≡ Some p → view_in q ≡ s.view → floor_in s < first_in q
   list_above s [] t active h = h
   list_above s (m ∷ ms) t active h = list_above s ms (add_pre_prepare c s m t) active (added_above s m t active h)
 
@@ -65,7 +65,7 @@ module _ (c : Setup) where
   entered_keys view ms q e same = elim (or_cases (nat_lt view (view_in q)) (view == view_in q && nat_lt (top_of ms) (first_in q)) e) [
     | inl higher ↦ let less = ltb-true view (view_in q) higher in absurd (omega arith)
     | inr here ↦ let above = ltb-true (top_of ms) (first_in q) ((and_parts (view == view_in q) (nat_lt (top_of ms) (first_in q)) here).1) in omega arith
-    ]
+  ]
 
   left_sound : (s : Core) (view : ℕ) → s.view < view → IsSoundCore c s → IsSoundCore c (left_for c s view)
   left_sound s view higher h =
@@ -78,10 +78,15 @@ module _ (c : Setup) where
   entered_sound : (s : Core) (n : NewView) → s.view ≤ n.view.0 → IsSoundCore c s → IsSoundCore c (entered c s n)
   entered_sound s n up h = cases (nat_lt s.view n.view.0) refl where
     opened : (t : Core) → ReadsRight c t → ValidChanges c t → IsKept c t.low n.view.0 t.kept → HasProof c t → IsSoundCore c (with_list c (opened_by t n) n)
-    opened t reads valid kept proof =
-        ((λ q m e active view. list_above (opened_by t n) n.pre_prepares (opened_by t n).pre_prepares refl
+    opened t reads valid kept proof = (
+      (λ q m e active view. list_above (opened_by t n) n.pre_prepares (opened_by t n).pre_prepares refl
           (λ k p f same. entered_keys n.view.0 n.changes k ((found_keep (is_of_entered n.view.0 (top_of n.changes)) t.pre_prepares k p f).0) same) q m e view),
-        reads, valid, kept, proof)
+      reads,
+      valid,
+      kept,
+      proof,
+    )
+
     cases : (b : Bool) → nat_lt s.view n.view.0 ≡ b → IsSoundCore c (with_list c (opened_by (cond b (left_for c s n.view.0) s) n) n)
     cases true e = let l = left_sound s n.view.0 (ltb-true s.view n.view.0 e) h in opened (left_for c s n.view.0) l.1 l.2 l.3 l.4
     cases false e = opened s h.1 h.2 (h.3.0, λ d is. let w = h.3.1 d is in let below = w.4 in (w.0, w.1, w.2, w.3, omega arith)) h.4
@@ -95,11 +100,16 @@ module _ (c : Setup) where
   sound_said me s m (bodies.Checkpoint b) says h = h
   sound_said me s m (bodies.ViewChange b) says h =
       let l = left_sound s b.view.0 says.higher h in
-      let own : is_valid c b ≡ true = subst (λ (v : ViewChange). is_valid c v ≡ true) (sym says.tells_all) (view_change_made c s b.view.0 says.higher h.3 h.4) in
-      (l.0, l.1, (λ q p e. elim (found_add (true && is_awaited (left_for c s b.view.0) b.view.0) (left_for c s b.view.0).changes (change_key b.view.0 m.id) q (with_body m b) p e) [
-        | inl new ↦ subst (λ (x : Signed ViewChange). is_valid c x.body ≡ true) new.1 own
-        | inr old ↦ l.2 q p old
-        ]), l.3, l.4)
+      let own : is_valid c b ≡ true = subst (λ (v : ViewChange). is_valid c v ≡ true) (sym says.tells_all) (view_change_made c s b.view.0 says.higher h.3 h.4) in (
+        l.0,
+        l.1,
+        (λ q p e. elim (found_add (true && is_awaited (left_for c s b.view.0) b.view.0) (left_for c s b.view.0).changes (change_key b.view.0 m.id) q (with_body m b) p e) [
+          | inl new ↦ subst (λ (x : Signed ViewChange). is_valid c x.body ≡ true) new.1 own
+          | inr old ↦ l.2 q p old
+        ]),
+        l.3,
+        l.4,
+      )
   sound_said me s m (bodies.NewView b) says h = let same : b.view.0 ≡ s.view = ap (λ (n : NewView). n.view.0) says.is in entered_sound s b (omega arith) h
   sound_said me s m (bodies.Fetch (fetches.Request d)) says h = h
   sound_said me s m (bodies.Fetch (fetches.State n)) says h = h
@@ -114,18 +124,23 @@ module _ (c : Setup) where
   reads_now m reading h m' b t same e is = no_reading m.body reading b t h (ap (λ (x : Signed Body). x.body) (same_Some _ _ same) ∙ e) is
 
   sound_recorded : (s : Core) (m : Signed Body) (b : Body) (reading : Option Service) → IsReading c m.body reading → IsSoundCore c s
-    → IsSoundCore c (record (recorded c s m b) { taken = Some m; reading = reading; is_fresh = true; timed_out = false })
+      → IsSoundCore c (record (recorded c s m b) { taken = Some m; reading = reading; is_fresh = true; timed_out = false })
   sound_recorded s m (bodies.Request b) r reads h = (h.0, reads_now m r reads, h.2, h.3, h.4)
   sound_recorded s m (bodies.PrePrepare b) r reads h = (one_above s (with_body m b) h.0, reads_now m r reads, h.2, h.3, h.4)
   sound_recorded s m (bodies.Prepare b) r reads h = (h.0, reads_now m r reads, h.2, h.3, h.4)
   sound_recorded s m (bodies.Commit b) r reads h = (h.0, reads_now m r reads, h.2, h.3, h.4)
   sound_recorded s m (bodies.Reply b) r reads h = (h.0, reads_now m r reads, h.2, h.3, h.4)
   sound_recorded s m (bodies.Checkpoint b) r reads h = (h.0, reads_now m r reads, h.2, h.3, h.4)
-  sound_recorded s m (bodies.ViewChange b) r reads h =
-      (h.0, reads_now m r reads, (λ q p e. elim (found_add (is_valid c b && is_awaited s b.view.0) s.changes (change_key b.view.0 m.id) q (with_body m b) p e) [
-        | inl new ↦ subst (λ (x : Signed ViewChange). is_valid c x.body ≡ true) new.1 ((and_parts (is_valid c b) (is_awaited s b.view.0) new.2).0)
-        | inr old ↦ h.2 q p old
-        ]), h.3, h.4)
+  sound_recorded s m (bodies.ViewChange b) r reads h = (
+    h.0,
+    reads_now m r reads,
+    (λ q p e. elim (found_add (is_valid c b && is_awaited s b.view.0) s.changes (change_key b.view.0 m.id) q (with_body m b) p e) [
+      | inl new ↦ subst (λ (x : Signed ViewChange). is_valid c x.body ≡ true) new.1 ((and_parts (is_valid c b) (is_awaited s b.view.0) new.2).0)
+      | inr old ↦ h.2 q p old
+    ]),
+    h.3,
+    h.4,
+  )
   sound_recorded s m (bodies.NewView b) r reads h = (h.0, reads_now m r reads, h.2, h.3, h.4)
   sound_recorded s m (bodies.Fetch b) r reads h = (h.0, reads_now m r reads, h.2, h.3, h.4)
   sound_recorded s m (bodies.Snapshot b) r reads h = (h.0, reads_now m r reads, h.2, h.3, h.4)

@@ -1,23 +1,20 @@
 -- What a replica remembers of what it said.
-use Rattle.std.proofs.Common.{◌≡◌, ℕ, zero, suc, ◌+◌, ◌*◌, ◌<◌, ◌≤◌, Bool, true, false, ◌&&◌, ◌||◌, cond, eqb, ltb, leb, List, [], ◌∷◌, Option, Some, None, refl, sym, ap, subst, ◌∙◌, arith, inl, inr, ◌⊎◌}
-use Rattle.std.specs.Prelude.{nat_lt, nat_le, not, ◌==◌, bytes_eq}
-use Rattle.std.specs.List.{list_any}
-use Rattle.std.proofs.lemmas.Bool.{true≢false, false≢true, cases_lt, cases_eq, and_parts, and_from, or_cases, cond-true, cond-false, eqb-true, eq-eqb, ltb-true, ltb-false, leb-true, le-leb}
+use Rattle.std.proofs.Common.{◌≡◌, ℕ, zero, suc, ◌+◌, ◌*◌, ◌<◌, ◌≤◌, Bool, true, false, ◌&&◌, cond, List, [], ◌∷◌, Option, Some, None, refl, sym, ap, subst, ◌∙◌, arith, inl, inr, ◌⊎◌}
+use Rattle.std.specs.Prelude.{nat_lt, not, ◌==◌, bytes_eq}
+use Rattle.std.proofs.lemmas.Bool.{true≢false, false≢true, cases_lt, cases_eq, and_parts, and_from, or_cases, eqb-true, eq-eqb, ltb-true, ltb-false, leb-true, le-leb}
 use Rattle.std.proofs.lemmas.Slice.Eq.{bytes_eq-Decides}
-use Rattle.std.proofs.lemmas.Option.{same_Some}
-use Rattle.pbft_model.specs.Words.{SigningState, Signed, Body, PrePrepare, Prepare, Commit, Certificate, ViewChange, NewView, Role, Replica, Client}
+use Rattle.pbft_model.specs.Words.{Signed, Body, PrePrepare, Certificate, ViewChange, NewView, Role, Replica, Client}
 use Rattle.pbft_codec.specs.declared.body.Body.TheVariants as bodies
-use Rattle.pbft_model.specs.Sequential.{Service, Outcome}
 use Rattle.pbft_model.specs.Setup.{Setup, primary, replicas, span, count, numbers_from, is_replica}
-use Rattle.pbft_model.specs.Tables.{Key, Table, at, with_entry, number_key, vote_key, first_in}
-use Rattle.pbft_model.specs.Certificates.{Fields, of_pre_prepare, of_prepare, of_commit, same_fields, is_by, some_by, voted, certified}
-use Rattle.pbft_model.specs.Core.{Core, is_certified, is_prepared, is_known, is_placed, if_passes, pre_prepare_at, prepared_at, certificate_of, with_certificate, with_certificates, kept_on_leaving, inside}
-use Rattle.pbft_model.specs.Acts.{Act, Take, Timeout, Send, Relay, Enter, Rise, Execute, Install, after, said, recorded, acted, signed_once_more, entered, left_for, left_if_above, is_awaited}
+use Rattle.pbft_model.specs.Tables.{Table, at, with_entry, number_key, vote_key, first_in}
+use Rattle.pbft_model.specs.Certificates.{Fields, of_pre_prepare, of_prepare, same_fields, is_by, some_by, voted, certified}
+use Rattle.pbft_model.specs.Core.{Core, is_certified, is_prepared, is_known, is_placed, pre_prepare_at, prepared_at, certificate_of, with_certificate, with_certificates, kept_on_leaving, inside}
+use Rattle.pbft_model.specs.Acts.{Act, Take, Timeout, Send, Relay, Enter, Rise, Execute, Install, after, said, acted, signed_once_more, entered, left_for, is_awaited}
 use Rattle.pbft_model.specs.Rules.{Allowed, MaySay}
 use Rattle.pbft_model.specs.Duties.{among}
 use Rattle.pbft_model.specs.Histories.{IsIn}
-use Rattle.pbft_model.proofs.Found.{no_some, passed, passes, same_entry, other_entry}
-use Rattle.pbft_model.proofs.Calm.{Calm, IsCalm, calm, calm_said, has_number, Stays}
+use Rattle.pbft_model.proofs.Found.{passed, passes, same_entry, other_entry}
+use Rattle.pbft_model.proofs.Calm.{Calm, calm, calm_said, has_number, Stays}
 
 -- ---- tests
 
@@ -51,7 +48,7 @@ some_by_is i test None e = absurd (false≢true e)
 some_by_is i test (Some m) e = (m, refl, e)
 
 pub voted_is : {B : Type 0} (of : B → Fields) (votes : Table (Signed B)) (x : Fields) (i : ℕ) → voted of votes x i ≡ true
-  → (m : Signed B) × (at votes (vote_key x.number x.view i) ≡ Some m) × (is_by i (λ b. same_fields (of b) x) m ≡ true)
+    → (m : Signed B) × (at votes (vote_key x.number x.view i) ≡ Some m) × (is_by i (λ b. same_fields (of b) x) m ≡ true)
 voted_is of votes x i e = some_by_is i (λ b. same_fields (of b) x) (at votes (vote_key x.number x.view i)) e
 
 voted_stays : {B : Type 0} (of : B → Fields) (low : ℕ) (votes votes' : Table (Signed B)) (x : Fields) (i : ℕ) → low < x.number → Stays low votes votes' → voted of votes x i ≡ true → voted of votes' x i ≡ true
@@ -75,7 +72,7 @@ certified_more c a b a' b' view h k e =
     let w = and_parts _ _ e in
     let enough = leb-true (2 * c.config.f) (count (λ i. not (i == primary c view) && b i) (replicas c)) w.1 in
     let more = count_more (λ i. not (i == primary c view) && b i) (λ i. not (i == primary c view) && b' i) (replicas c)
-      (λ i t. let s = and_parts (not (i == primary c view)) (b i) t in and_from _ _ s.0 (k i s.1)) in
+    (λ i t. let s = and_parts (not (i == primary c view)) (b i) t in and_from _ _ s.0 (k i s.1)) in
     and_from _ _ (h (primary c view) w.0) (le-leb (2 * c.config.f) (count (λ i. not (i == primary c view) && b' i) (replicas c)) (omega arith))
 
 -- what is certified above the low mark stays so
@@ -99,13 +96,13 @@ pub awaited_above : (s : Core) (view : ℕ) → is_awaited s view ≡ true → s
 awaited_above s view e = elim (or_cases _ _ e) [
   | inl h ↦ let less = ltb-true s.view view h in omega arith
   | inr h ↦ let same = eqb-true view s.view ((and_parts _ _ h).0) in omega arith
-  ]
+]
 
 awaited_active : (s : Core) (view : ℕ) → s.active ≡ true → is_awaited s view ≡ true → s.view < view
 awaited_active s view active e = elim (or_cases _ _ e) [
   | inl h ↦ ltb-true s.view view h
   | inr h ↦ absurd (false≢true (subst (λ (b : Bool). not b ≡ true) active ((and_parts (view == s.view) (not s.active) h).1)))
-  ]
+]
 
 -- X, while the replica is active in the view u, or it is in a higher one
 abbrev pub Stage : ℕ → (Core → Type 0) → Core → Type 0
@@ -153,7 +150,7 @@ pub prepared_keeps : (c : Setup) (n : ℕ) (s t : Core) → Calm c s t → Prepa
 prepared_keeps c n s t calm h = let low = calm.3 in elim (cases_lt t.low n) [
   | inl above ↦ elim h [ inl below ↦ absurd (omega arith) | inr is ↦ inr (calm.6 n above is) ]
   | inr below ↦ inl below
-  ]
+]
 
 abbrev pub Proposed : ℕ → Core → Type 0
 Proposed n s = (n ≤ s.low) ⊎ (has_number s.proposed n ≡ true)
@@ -162,7 +159,7 @@ pub proposed_keeps : (c : Setup) (n : ℕ) (s t : Core) → Calm c s t → Propo
 proposed_keeps c n s t calm h = let low = calm.3 in elim (cases_lt t.low n) [
   | inl above ↦ elim h [ inl below ↦ absurd (omega arith) | inr is ↦ inr (calm.7 n above is) ]
   | inr below ↦ inl below
-  ]
+]
 
 -- the PrePrepare recorded at a place has this digest
 abbrev pub Holds : ℕ → ℕ → ℕ → List ℕ → Core → Type 0
@@ -172,7 +169,7 @@ pub holds_keeps : (c : Setup) (n view leader : ℕ) (digest : List ℕ) (s t : C
 holds_keeps c n view leader digest s t calm h = let low = calm.3 in elim (cases_lt t.low n) [
   | inl above ↦ elim h [ inl below ↦ absurd (omega arith) | inr w ↦ inr (w.0, calm.4 (vote_key n view leader) w.0 above w.1, w.2) ]
   | inr below ↦ inl below
-  ]
+]
 
 abbrev pub EnteredBy : List (Signed ViewChange) → Core → Type 0
 EnteredBy basis s = s.basis ≡ basis
@@ -187,10 +184,10 @@ in_numbers zero first n h k = absurd (omega arith)
 in_numbers (suc many) first n h k = elim (cases_eq n first) [
   | inl same ↦ inl same
   | inr other ↦ inr (in_numbers many (first + 1) n (elim (cases_lt first n) [ inl less ↦ omega arith | inr more ↦ absurd (other (omega arith)) ]) (omega arith))
-  ]
+]
 
 pub prepared_is : (c : Setup) (s : Core) (n : ℕ) (m : Signed PrePrepare) → prepared_at c s n ≡ Some m
-  → (m.body.view.0 ≡ s.view) × (m.body.number.0 ≡ n) × (is_prepared c s (of_pre_prepare m.body) ≡ true) × (m.role ≡ Replica) × (m.id ≡ primary c s.view)
+    → (m.body.view.0 ≡ s.view) × (m.body.number.0 ≡ n) × (is_prepared c s (of_pre_prepare m.body) ≡ true) × (m.role ≡ Replica) × (m.id ≡ primary c s.view)
 prepared_is c s n m e =
     let w = passed (λ p. is_prepared c s (of_pre_prepare p.body)) (pre_prepare_at c s s.view n) m e in
     let v = passed (is_by (primary c s.view) (is_placed s.view n)) (at s.pre_prepares (vote_key n s.view (primary c s.view))) m w.0 in
@@ -204,8 +201,8 @@ prepared_from c s x view e known =
     let by = by_is (primary c x.view) (λ b. same_fields (of_pre_prepare b) x) w.0 w.2 in
     let same = fields_are (of_pre_prepare w.0.body) x by.2 in
     let placed : is_by (primary c x.view) (is_placed x.view x.number) w.0 ≡ true =
-      is_by_from (primary c x.view) (λ b. same_fields (of_pre_prepare b) x) (is_placed x.view x.number) w.0
-      (λ _. and_from _ _ (eq-eqb _ _ (ap (λ (y : Fields). y.view) same)) (eq-eqb _ _ (ap (λ (y : Fields). y.number) same))) w.2 in
+    is_by_from (primary c x.view) (λ b. same_fields (of_pre_prepare b) x) (is_placed x.view x.number) w.0
+    (λ _. and_from _ _ (eq-eqb _ _ (ap (λ (y : Fields). y.view) same)) (eq-eqb _ _ (ap (λ (y : Fields). y.number) same))) w.2 in
     let found : pre_prepare_at c s x.view x.number ≡ Some w.0 = passes (is_by (primary c x.view) (is_placed x.view x.number)) (at s.pre_prepares (vote_key x.number x.view (primary c x.view))) w.0 w.1 placed in
     let found' : pre_prepare_at c s s.view x.number ≡ Some w.0 = subst (λ (v : ℕ). pre_prepare_at c s v x.number ≡ Some w.0) view found in
     let prepared : is_prepared c s (of_pre_prepare w.0.body) ≡ true = subst (λ (y : Fields). is_prepared c s y ≡ true) (sym same) (and_from _ _ e known) in
@@ -221,11 +218,14 @@ keeps_step c s view n k kept below w = cases (prepared_at c s k) refl where
   cases None e = w
   cases (Some m) e = elim (cases_eq n k) [
     | inl same ↦
-      let is = prepared_is c s k m e in
-      (certificate_of c s m, subst (λ (j : ℕ). at (with_entry kept (number_key k) (certificate_of c s m)) (number_key j) ≡ Some (certificate_of c s m)) (sym same) (same_entry kept (number_key k) (certificate_of c s m)),
-      is.1 ∙ sym same, subst (λ (v : ℕ). view ≤ v) (sym is.0) below)
+        let is = prepared_is c s k m e in (
+          certificate_of c s m,
+          subst (λ (j : ℕ). at (with_entry kept (number_key k) (certificate_of c s m)) (number_key j) ≡ Some (certificate_of c s m)) (sym same) (same_entry kept (number_key k) (certificate_of c s m)),
+          is.1 ∙ sym same,
+          subst (λ (v : ℕ). view ≤ v) (sym is.0) below,
+        )
     | inr other ↦ (w.0, other_entry kept (number_key k) (number_key n) (certificate_of c s m) (λ e. other (ap first_in e)) ∙ w.1, w.2, w.3)
-    ]
+  ]
 
 keeps_old : (c : Setup) (s : Core) (view n : ℕ) (ns : List ℕ) (kept : Table Certificate) → view ≤ s.view → KeepsOne view n kept → KeepsOne view n (with_certificates c s ns kept)
 keeps_old c s view n [] kept below w = w
@@ -258,36 +258,46 @@ remembers_leaving c x s r = let inside_high = r.0 in elim r.1 [
     | inl below ↦ inl below
     | inr w ↦ elim (cases_lt s.low x.number) [
       | inl above ↦
-        let p = prepared_from c s x (sym still.0) w.0 w.1 in
-        let view = still.0 in
-        inr (keeps_new c s x.view x.number (inside c s) s.kept p.0 (omega arith) (in_numbers (span c) (s.low + 1) x.number (omega arith) (omega arith)) p.1)
+          let p = prepared_from c s x (sym still.0) w.0 w.1 in
+          let view = still.0 in
+          inr (keeps_new c s x.view x.number (inside c s) s.kept p.0 (omega arith) (in_numbers (span c) (s.low + 1) x.number (omega arith) (omega arith)) p.1)
       | inr below ↦ inl below
-      ]
     ]
+  ]
   | inr left ↦ elim left.1 [
     | inl below ↦ inl below
     | inr w ↦ let less = left.0 in inr (keeps_old c s x.view x.number (inside c s) s.kept (omega arith) w)
-    ]
   ]
+]
 
 module _ (c : Setup) (me : ℕ) (x : Fields) where
   calm_remembers : (s t : Core) → Calm c s t → Remembers c x s → Remembers c x t
-  calm_remembers s t calm r = let low = calm.3 in let inside_high = r.0 in (omega arith, elim r.1 [
-    | inl still ↦ inl (calm.0 ∙ still.0, calm.1 ∙ still.1, elim (cases_lt t.low x.number) [
-      | inl above ↦ elim still.2 [
-        | inl below ↦ absurd (omega arith)
-        | inr w ↦ inr (certified_calm c s t x above calm w.0, known_calm c s t x above calm w.0 w.1)
-        ]
-      | inr below ↦ inl below
-      ])
-    | inr left ↦ inr (subst (λ (v : ℕ). x.view < v) (sym calm.0) left.0, elim (cases_lt t.low x.number) [
-      | inl above ↦ elim left.1 [
-        | inl below ↦ absurd (omega arith)
-        | inr w ↦ inr (w.0, calm.9 (number_key x.number) w.0 above w.1, w.2, w.3)
-        ]
-      | inr below ↦ inl below
-      ])
-    ])
+  calm_remembers s t calm r = let low = calm.3 in let inside_high = r.0 in (
+    omega arith,
+    elim r.1 [
+      | inl still ↦ inl (
+        calm.0 ∙ still.0,
+        calm.1 ∙ still.1,
+        elim (cases_lt t.low x.number) [
+          | inl above ↦ elim still.2 [
+            | inl below ↦ absurd (omega arith)
+            | inr w ↦ inr (certified_calm c s t x above calm w.0, known_calm c s t x above calm w.0 w.1)
+          ]
+          | inr below ↦ inl below
+        ],
+      )
+      | inr left ↦ inr (
+        subst (λ (v : ℕ). x.view < v) (sym calm.0) left.0,
+        elim (cases_lt t.low x.number) [
+          | inl above ↦ elim left.1 [
+            | inl below ↦ absurd (omega arith)
+            | inr w ↦ inr (w.0, calm.9 (number_key x.number) w.0 above w.1, w.2, w.3)
+          ]
+          | inr below ↦ inl below
+        ],
+      )
+    ],
+  )
 
   view_of : (s : Core) → Remembers c x s → x.view ≤ s.view
   view_of s r = elim r.1 [ inl still ↦ let same = still.0 in omega arith | inr left ↦ let less = left.0 in omega arith ]
@@ -300,10 +310,13 @@ module _ (c : Setup) (me : ℕ) (x : Fields) where
   entered_remembers s n up up' r = cases (nat_lt s.view n.view.0) refl where
     cases : (b : Bool) → nat_lt s.view n.view.0 ≡ b → (x.number ≤ (cond b (left_for c s n.view.0) s).low + span c) × (Still c x (entered c s n) ⊎ ((x.view < n.view.0) × ((x.number ≤ (cond b (left_for c s n.view.0) s).low) ⊎ KeepsOne x.view x.number (cond b (left_for c s n.view.0) s).kept)))
     cases true e = let higher = ltb-true s.view n.view.0 e in let below = view_of s r in (r.0, inr (omega arith, remembers_leaving c x s r))
-    cases false e = let below = ltb-false s.view n.view.0 e in (r.0, elim r.1 [
-      | inl still ↦ let less = up still.1 in absurd (omega arith)
-      | inr left ↦ let less = left.0 in inr (omega arith, left.1)
-      ])
+    cases false e = let below = ltb-false s.view n.view.0 e in (
+      r.0,
+      elim r.1 [
+        | inl still ↦ let less = up still.1 in absurd (omega arith)
+        | inr left ↦ let less = left.0 in inr (omega arith, left.1)
+      ],
+    )
 
   said_remembers : (s : Core) (m : Signed Body) (b : Body) → MaySay c me s b → Remembers c x s → Remembers c x (acted (signed_once_more (said c s m b) b))
   said_remembers s m (bodies.Request b) says r = absurd says

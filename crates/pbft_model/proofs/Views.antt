@@ -1,16 +1,14 @@
 -- Entering a view: what is recorded then.
-use Rattle.std.proofs.Common.{◌≡◌, ℕ, zero, suc, ◌+◌, ◌-◌, ◌*◌, ◌<◌, ◌≤◌, Bool, true, false, ◌&&◌, ◌||◌, cond, eqb, ltb, leb, List, [], ◌∷◌, map, max, Option, Some, None, refl, sym, ap, subst, ◌∙◌, arith, inl, inr, ◌⊎◌}
-use Rattle.std.specs.Prelude.{nat_lt, nat_le, not, ◌==◌, bytes_eq}
-use Rattle.std.specs.List.{list_any, flat_map}
-use Rattle.std.proofs.lemmas.Bool.{true≢false, false≢true, cases_lt, cases_eq, and_parts, and_from, or_cases, or_from, and_right, cond-true, cond-false, eqb-true, eq-eqb, ltb-true, ltb-false, le-ltb, leb-true, le-leb, lt-leb, not_from_false, lt-ltb}
-use Rattle.pbft_model.specs.Words.{SigningState, Signed, Body, PrePrepare, Certificate, ViewChange, NewView, Replica}
-use Rattle.pbft_codec.specs.declared.body.Body.TheVariants as bodies
-use Rattle.pbft_model.specs.Setup.{Setup, primary, replicas, span, numbers_from}
+use Rattle.std.proofs.Common.{◌≡◌, ℕ, ◌+◌, ◌-◌, ◌<◌, ◌≤◌, Bool, true, false, ◌&&◌, cond, List, [], ◌∷◌, map, Option, Some, None, refl, sym, ap, subst, ◌∙◌, arith, inl, inr}
+use Rattle.std.specs.Prelude.{nat_lt, nat_le, ◌==◌}
+use Rattle.std.proofs.lemmas.Bool.{true≢false, false≢true, cases_lt, cases_eq, and_parts, and_from, or_from, and_right, eqb-true, eq-eqb, le-ltb, leb-true, le-leb, lt-leb, not_from_false, lt-ltb}
+use Rattle.pbft_model.specs.Words.{Signed, PrePrepare, Certificate, ViewChange, NewView, Replica}
+use Rattle.pbft_model.specs.Setup.{Setup, span}
 use Rattle.pbft_model.specs.Tables.{Key, Table, at, keep, vote_key, first_in, add_if}
 use Rattle.pbft_model.specs.Certificates.{Fields, of_pre_prepare, same_fields, is_by}
-use Rattle.pbft_model.specs.Validity.{floor_of, top_of, greatest_of, certificates_in, given, given_digest, given_numbers, are_given, highest, higher, digest_or_null}
-use Rattle.pbft_model.specs.Core.{Core, is_admitted, is_inside, floor_in}
-use Rattle.pbft_model.specs.Acts.{add_pre_prepare, add_pre_prepares, opened_by, with_list, entered, left_if_above, left_for, is_of_entered}
+use Rattle.pbft_model.specs.Validity.{floor_of, top_of, greatest_of, certificates_in, given, given_digest, given_numbers, are_given, highest, higher}
+use Rattle.pbft_model.specs.Core.{Core, is_admitted}
+use Rattle.pbft_model.specs.Acts.{add_pre_prepare, add_pre_prepares, opened_by, entered, left_if_above, left_for, is_of_entered}
 use Rattle.pbft_model.specs.Histories.{IsIn}
 use Rattle.pbft_model.proofs.Found.{found_add, kept_add, at_added, found_keep, from_map, in_map, in_flat}
 use Rattle.pbft_model.proofs.Stages.{by_is, fields_are, in_numbers, Holds}
@@ -36,7 +34,7 @@ given_at c view ms n h k =
 pub below_top : (ms : List (Signed ViewChange)) (m : Signed ViewChange) (x : Certificate) → IsIn m ms → IsIn x m.body.certificates → x.pre_prepare.body.number.0 ≤ top_of ms
 below_top ms m x h k =
     let below = greatest_above x.pre_prepare.body.number.0 (map (λ y. y.pre_prepare.body.number.0) (certificates_in ms))
-      (in_map (λ (y : Certificate). y.pre_prepare.body.number.0) (certificates_in ms) x (in_flat (λ (m : Signed ViewChange). m.body.certificates) ms m x h k)) in
+    (in_map (λ (y : Certificate). y.pre_prepare.body.number.0) (certificates_in ms) x (in_flat (λ (m : Signed ViewChange). m.body.certificates) ms m x h k)) in
     omega arith
 
 -- each PrePrepare of the list has the fields of one that is given
@@ -82,6 +80,7 @@ higher_of number x None xs view w = absurd (none w.1) where
 higher_of number x (Some y) xs view w = cases ((x.pre_prepare.body.number.0 == number) && nat_le y.pre_prepare.body.view.0 x.pre_prepare.body.view.0) refl where
   same : y ≡ w.0
   same = let e = w.1 in cc
+
   cases : (b : Bool) → ((x.pre_prepare.body.number.0 == number) && nat_le y.pre_prepare.body.view.0 x.pre_prepare.body.view.0) ≡ b → IsHighest number view (cond b (Some x) (Some y)) (x ∷ xs)
   cases true e =
       let parts = and_parts _ _ e in
@@ -91,7 +90,7 @@ higher_of number x (Some y) xs view w = cases ((x.pre_prepare.body.number.0 == n
   cases false e = (w.0, w.1, inr w.2, w.3, w.4)
 
 higher_new : (number : ℕ) (x : Certificate) (o : Option Certificate) (xs : List Certificate) → ((y : Certificate) → o ≡ Some y → IsIn y xs × (y.pre_prepare.body.number.0 ≡ number)) → x.pre_prepare.body.number.0 ≡ number
-  → IsHighest number x.pre_prepare.body.view.0 (higher number x o) (x ∷ xs)
+    → IsHighest number x.pre_prepare.body.view.0 (higher number x o) (x ∷ xs)
 higher_new number x None xs old is = subst (λ (b : Bool). IsHighest number x.pre_prepare.body.view.0 (cond b (Some x) None) (x ∷ xs)) (sym (eq-eqb _ _ is)) (x, refl, inl refl, is, omega arith)
 higher_new number x (Some y) xs old is = cases ((x.pre_prepare.body.number.0 == number) && nat_le y.pre_prepare.body.view.0 x.pre_prepare.body.view.0) refl where
   cases : (b : Bool) → ((x.pre_prepare.body.number.0 == number) && nat_le y.pre_prepare.body.view.0 x.pre_prepare.body.view.0) ≡ b → IsHighest number x.pre_prepare.body.view.0 (cond b (Some x) (Some y)) (x ∷ xs)
@@ -99,7 +98,7 @@ higher_new number x (Some y) xs old is = cases ((x.pre_prepare.body.number.0 == 
   cases false e = elim (cases_lt x.pre_prepare.body.view.0 y.pre_prepare.body.view.0) [
     | inl less ↦ (y, refl, inr ((old y refl).0), (old y refl).1, omega arith)
     | inr more ↦ absurd (true≢false (sym (and_from _ _ (eq-eqb _ _ is) (le-leb y.pre_prepare.body.view.0 x.pre_prepare.body.view.0 more)) ∙ e))
-    ]
+  ]
 
 highest_is : (number : ℕ) (xs : List Certificate) (y : Certificate) → highest number xs ≡ Some y → IsIn y xs × (y.pre_prepare.body.number.0 ≡ number)
 highest_is number [] y e = absurd cc
@@ -151,24 +150,24 @@ module _ (c : Setup) (s : Core) (view leader n : ℕ) (digest : List ℕ) (admit
       let number_of : m.body.number.0 ≡ x.number = ap (λ (y : Fields). y.number) fields in
       elim (cases_eq x.number n) [
         | inl same ↦
-          let number_is : m.body.number.0 ≡ n = number_of ∙ same in
-          let digest_is : m.body.digest.0 ≡ digest = ap (λ (y : Fields). y.digest) fields ∙ (alike x (inl refl)).1 same in
-          let y = at_added t (vote_key n view leader) m in
-          let here : Has (add_if true (vote_key n view leader) m t) = (y.0, y.1, elim y.2 [ inl own ↦ ap (λ (p : Signed PrePrepare). p.body.digest.0) own ∙ digest_is | inr old ↦ free y.0 old ]) in
-          let with_key : Has (add_if true (vote_key m.body.number.0 m.body.view.0 m.id) m t) = subst (λ (k : Key). Has (add_if true k m t)) (λ i. vote_key (sym number_is i) (sym view_is i) (sym by.1 i)) here in
-          let is : is_admitted c s m.body.view.0 m.body.number.0 ≡ true = (λ i. is_admitted c s (view_is i) (number_is i)) ∙ admitted in
-          has_more ms (add_pre_prepare c s m t) (subst (λ (b : Bool). Has (add_if b (vote_key m.body.number.0 m.body.view.0 m.id) m t)) (sym is) with_key)
+            let number_is : m.body.number.0 ≡ n = number_of ∙ same in
+            let digest_is : m.body.digest.0 ≡ digest = ap (λ (y : Fields). y.digest) fields ∙ (alike x (inl refl)).1 same in
+            let y = at_added t (vote_key n view leader) m in
+            let here : Has (add_if true (vote_key n view leader) m t) = (y.0, y.1, elim y.2 [ inl own ↦ ap (λ (p : Signed PrePrepare). p.body.digest.0) own ∙ digest_is | inr old ↦ free y.0 old ]) in
+            let with_key : Has (add_if true (vote_key m.body.number.0 m.body.view.0 m.id) m t) = subst (λ (k : Key). Has (add_if true k m t)) (λ i. vote_key (sym number_is i) (sym view_is i) (sym by.1 i)) here in
+            let is : is_admitted c s m.body.view.0 m.body.number.0 ≡ true = (λ i. is_admitted c s (view_is i) (number_is i)) ∙ admitted in
+            has_more ms (add_pre_prepare c s m t) (subst (λ (b : Bool). Has (add_if b (vote_key m.body.number.0 m.body.view.0 m.id) m t)) (sym is) with_key)
         | inr other ↦
-          let later : IsIn w.0 xs = elim w.1 [ inl same ↦ absurd (other (ap (λ (y : Fields). y.number) (sym same) ∙ w.2)) | inr later ↦ later ] in
-          recorded_list xs ms (add_pre_prepare c s m t) parts.1 (λ y h. alike y (inr h)) (w.0, later, w.2)
-          (λ p found. elim (found_add (is_admitted c s m.body.view.0 m.body.number.0) t (vote_key m.body.number.0 m.body.view.0 m.id) (vote_key n view leader) m p found) [
-            | inl new ↦ absurd (other (sym number_of ∙ sym (ap first_in new.0)))
-            | inr old ↦ free p old
+            let later : IsIn w.0 xs = elim w.1 [ inl same ↦ absurd (other (ap (λ (y : Fields). y.number) (sym same) ∙ w.2)) | inr later ↦ later ] in
+            recorded_list xs ms (add_pre_prepare c s m t) parts.1 (λ y h. alike y (inr h)) (w.0, later, w.2)
+            (λ p found. elim (found_add (is_admitted c s m.body.view.0 m.body.number.0) t (vote_key m.body.number.0 m.body.view.0 m.id) (vote_key n view leader) m p found) [
+              | inl new ↦ absurd (other (sym number_of ∙ sym (ap first_in new.0)))
+              | inr old ↦ free p old
             ])
       ]
 
   pub listed_has : (ms : List (Signed ViewChange)) (ps : List (Signed PrePrepare)) (t : Table (Signed PrePrepare)) → are_given leader (given c view ms) ps ≡ true → digest ≡ given_digest c ms n → floor_of ms < n → n ≤ top_of ms
-    → ((m : Signed PrePrepare) → at t (vote_key n view leader) ≡ Some m → ⊥) → (m : Signed PrePrepare) × (at (add_pre_prepares c s ps t) (vote_key n view leader) ≡ Some m) × (m.body.digest.0 ≡ digest)
+      → ((m : Signed PrePrepare) → at t (vote_key n view leader) ≡ Some m → ⊥) → (m : Signed PrePrepare) × (at (add_pre_prepares c s ps t) (vote_key n view leader) ≡ Some m) × (m.body.digest.0 ≡ digest)
   unfolding Free Has all_alike
   listed_has ms ps t e is h k none =
       recorded_list (given c view ms) ps t e
@@ -187,12 +186,13 @@ same_low c s view = elim (nat_lt s.view view) as (λ b. (cond b (left_for c s vi
 
 -- After entering, each number up to the top that lies between the marks holds the digest that is given.
 pub entered_holds : (c : Setup) (s : Core) (b : NewView) (leader n : ℕ) → are_given leader (given c b.view.0 b.changes) b.pre_prepares ≡ true → floor_of b.changes < n → n ≤ top_of b.changes → s.low < n → n ≤ s.low + span c
-  → Holds n b.view.0 leader (given_digest c b.changes n) (entered c s b)
+    → Holds n b.view.0 leader (given_digest c b.changes n) (entered c s b)
 entered_holds c s b leader n e h k low high = inr (from (left_if_above c s b.view.0) (same_low c s b.view.0)) where
   above_top : (t : Core) (m : Signed PrePrepare) → at (keep (is_of_entered b.view.0 (top_of b.changes)) t.pre_prepares) (vote_key n b.view.0 leader) ≡ Some m → ⊥
   above_top t m found =
       let test = (found_keep (is_of_entered b.view.0 (top_of b.changes)) t.pre_prepares (vote_key n b.view.0 leader) m found).0 in
       false≢true (sym (or_from (nat_lt b.view.0 b.view.0) _ (le-ltb b.view.0 b.view.0 (omega arith)) (and_right (b.view.0 == b.view.0) (nat_lt (top_of b.changes) n) (le-ltb (top_of b.changes) n k))) ∙ test)
+
   from : (t : Core) → t.low ≡ s.low → (m : Signed PrePrepare) × (at (add_pre_prepares c (opened_by t b) b.pre_prepares (opened_by t b).pre_prepares) (vote_key n b.view.0 leader) ≡ Some m) × (m.body.digest.0 ≡ given_digest c b.changes n)
   from t same =
       listed_has c (opened_by t b) b.view.0 leader n (given_digest c b.changes n) (admits c t b n h (omega arith) (omega arith)) b.changes b.pre_prepares (opened_by t b).pre_prepares e refl h k (above_top t)

@@ -1,22 +1,22 @@
 -- What a correct replica signed, and that it speaks with one voice.
-use Rattle.std.proofs.Common.{◌≡◌, ℕ, zero, suc, ◌+◌, ◌-◌, ◌*◌, ◌<◌, ◌≤◌, Bool, true, false, ◌&&◌, ◌||◌, cond, eqb, ltb, leb, List, [], ◌∷◌, map, max, Option, Some, None, refl, sym, ap, subst, ◌∙◌, arith, inl, inr, ◌⊎◌}
-use Rattle.std.specs.Prelude.{nat_lt, nat_le, not, ◌==◌, bytes_eq}
-use Rattle.std.specs.List.{list_any, list_all}
-use Rattle.std.proofs.lemmas.Bool.{true≢false, false≢true, cases_lt, cases_eq, and_parts, and_from, or_cases, eqb-true, eq-eqb, or_left}
-use Rattle.pbft_model.specs.Words.{SigningState, Signed, Body, PrePrepare, Prepare, Commit, Certificate, ViewChange, NewView, Role, Replica, Part, part_of, as_message}
+use Rattle.std.proofs.Common.{◌≡◌, ℕ, ◌<◌, true, ◌&&◌, List, ◌∷◌, map, refl, sym, ap, subst, ◌∙◌, arith, inl, inr, ◌⊎◌}
+use Rattle.std.specs.Prelude.{◌==◌}
+use Rattle.std.specs.List.{list_all}
+use Rattle.std.proofs.lemmas.Bool.{true≢false, and_parts, eqb-true, eq-eqb, or_left}
+use Rattle.pbft_model.specs.Words.{Signed, Body, PrePrepare, Prepare, Commit, ViewChange, NewView, Replica, Part, part_of, as_message}
 use Rattle.pbft_codec.specs.declared.body.Body.TheVariants as bodies
-use Rattle.pbft_model.specs.Setup.{Setup, primary, replicas, span}
-use Rattle.pbft_model.specs.Certificates.{Fields, of_pre_prepare, of_prepare, of_commit, same_fields, is_by, voted}
-use Rattle.pbft_model.specs.Validity.{is_valid_new_view, are_given, given, greatest_of, given_digest, are_for_view, have_proofs, have_certificates, have_order, has_order, bodies_in}
-use Rattle.pbft_model.specs.Core.{Core, is_prepared, next_number, floor_in}
-use Rattle.pbft_model.specs.Acts.{Act, Destination, Send, after, said, acted, signed_once_more}
-use Rattle.pbft_model.specs.Rules.{Allowed, MaySay, MaySend}
+use Rattle.pbft_model.specs.Setup.{Setup, primary}
+use Rattle.pbft_model.specs.Certificates.{Fields, of_pre_prepare, of_prepare, of_commit}
+use Rattle.pbft_model.specs.Validity.{is_valid_new_view, are_given, given, given_digest, are_for_view, have_proofs, have_certificates, have_order, has_order, bodies_in}
+use Rattle.pbft_model.specs.Core.{Core, next_number}
+use Rattle.pbft_model.specs.Acts.{Act, Destination, Send, said, acted, signed_once_more}
+use Rattle.pbft_model.specs.Rules.{MaySay}
 use Rattle.pbft_model.specs.Duties.{among}
-use Rattle.pbft_model.specs.Histories.{core_after, IsHistory, IsEarlier, IsIn, HasSigned, Family, IsCorrect, IsReal, IsUnforged, signed_in, listed_in}
+use Rattle.pbft_model.specs.Histories.{core_after, IsEarlier, IsIn, HasSigned, Family, IsCorrect, IsUnforged, listed_in}
 use Rattle.pbft_model.proofs.Found.{in_any, from_map, in_map}
-use Rattle.pbft_model.proofs.Events.{Sent, SentIn, sent_of, before, in_order, history_at, holds_on, earlier_trans}
+use Rattle.pbft_model.proofs.Events.{Sent, sent_of, before, in_order, history_at, holds_on}
 use Rattle.pbft_model.proofs.Calm.{any_in, has_number, Calm}
-use Rattle.pbft_model.proofs.Stages.{Stage, stage_after, Prepared, prepared_keeps, Proposed, proposed_keeps, by_is, fields_are}
+use Rattle.pbft_model.proofs.Stages.{Stage, stage_after, Prepared, prepared_keeps, Proposed, proposed_keeps}
 use Rattle.pbft_model.proofs.Views.{greatest_above, given_one, in_given}
 
 module _ (c : Setup) (family : Family) where
@@ -36,9 +36,13 @@ module _ (c : Setup) (family : Family) where
   module _ (u : IsUnforged c family) where
     said_of : (i : ℕ) (m : Signed Body) (body : Body) → IsCorrect c family.faulty i → Sent (family.acts i) m → m.body ≡ body → Said i body
     said_of i m body correct w e = record {
-      early = w.early; to = w.to; message = m; point = w.at; body_is = e;
+      early = w.early;
+      to = w.to;
+      message = m;
+      point = w.at;
+      body_is = e;
       says = subst (λ (b : Body). MaySay c i (core_at i w.early) b) e
-        ((history_at c i (family.signer i) (Send w.to m ∷ w.early) (family.acts i) w.at (u.histories i correct)).1.says);
+          ((history_at c i (family.signer i) (Send w.to m ∷ w.early) (family.acts i) w.at (u.histories i correct)).1.says);
     }
 
     -- it is a PrePrepare with these fields, alone or in the list of an own NewView
@@ -72,7 +76,7 @@ module _ (c : Setup) (family : Family) where
         elim w.within [
           | inl same ↦ said_of i w.message b correct w.sent (ap (λ (x : Part). x.body) (sym same))
           | inr listed ↦ absurd (no_list w.message.body b (part_by i b) listed refl other)
-          ]
+        ]
 
     pub prepare_said : (i : ℕ) (b : Prepare) → IsCorrect c family.faulty i → HasSigned (part_by i (bodies.Prepare b)) (family.acts i) → Said i (bodies.Prepare b)
     prepare_said i b correct h = alone i (bodies.Prepare b) (λ q e. cc) correct h
@@ -104,12 +108,12 @@ module _ (c : Setup) (family : Family) where
         elim w.within [
           | inl same ↦ (bodies.PrePrepare b, said_of i w.message (bodies.PrePrepare b) correct w.sent (ap (λ (x : Part). x.body) (sym same)), inl (b, refl, refl))
           | inr listed ↦
-            let v = from_map (λ (q : Signed PrePrepare). part_of (as_message bodies.PrePrepare q)) (listed_in w.message.body) (part_by i (bodies.PrePrepare b)) listed in
-            let same : bodies.PrePrepare b ≡ bodies.PrePrepare v.0.body = ap (λ (x : Part). x.body) v.2 in
-            let n = listed_body w.message.body v.0 v.1 in
-            let same_body : b ≡ v.0.body = cc in
-            (bodies.NewView n.0, said_of i w.message (bodies.NewView n.0) correct w.sent n.1, inr (n.0, refl, (v.0, n.2, ap of_pre_prepare (sym same_body))))
-          ]
+              let v = from_map (λ (q : Signed PrePrepare). part_of (as_message bodies.PrePrepare q)) (listed_in w.message.body) (part_by i (bodies.PrePrepare b)) listed in
+              let same : bodies.PrePrepare b ≡ bodies.PrePrepare v.0.body = ap (λ (x : Part). x.body) v.2 in
+              let n = listed_body w.message.body v.0 v.1 in
+              let same_body : b ≡ v.0.body = cc in
+              (bodies.NewView n.0, said_of i w.message (bodies.NewView n.0) correct w.sent n.1, inr (n.0, refl, (v.0, n.2, ap of_pre_prepare (sym same_body))))
+        ]
 
     -- ---- one voice
 
@@ -123,13 +127,13 @@ module _ (c : Setup) (family : Family) where
 
     -- a thing is done once: what was done in the view is not done again
     clash : (i : ℕ) (b b' : Body) (w : Said i b) (w' : Said i b') (view : ℕ) (X : Core → Type 0) → ((s t : Core) → Calm c s t → X s → X t) → IsCorrect c family.faulty i
-      → Stage view X (core_at i (Send w.to w.message ∷ w.early)) → ((core_at i w'.early).view ≡ view) → ((core_at i w'.early).active ≡ true → X (core_at i w'.early) → ⊥)
-      → IsEarlier (Send w.to w.message ∷ w.early) w'.early → ⊥
+        → Stage view X (core_at i (Send w.to w.message ∷ w.early)) → ((core_at i w'.early).view ≡ view) → ((core_at i w'.early).active ≡ true → X (core_at i w'.early) → ⊥)
+        → IsEarlier (Send w.to w.message ∷ w.early) w'.early → ⊥
     clash i b b' w w' view X keeps correct st same never h =
         elim (later i view X keeps correct (Send w.to w.message ∷ w.early) w'.early h (before (Send w'.to w'.message) w'.early (family.acts i) w'.point) st) [
           | inl now ↦ never now.1 now.2
           | inr higher ↦ absurd (omega arith)
-          ]
+        ]
 
     same_message : (to to' : Destination) (m m' : Signed Body) (x y : List Act) → Send to m ∷ x ≡ Send to' m' ∷ y → m ≡ m'
     same_message to to' m m' x y e = cc
@@ -141,7 +145,7 @@ module _ (c : Setup) (family : Family) where
       | inl (inr h) ↦ inr (inl h)
       | inr (inl same) ↦ inl (sym w.body_is ∙ ap (λ (m : Signed Body). m.body) (sym (same_message w'.to w.to w'.message w.message w'.early w.early same)) ∙ w'.body_is)
       | inr (inr h) ↦ inr (inr h)
-      ]
+    ]
 
     prepared_after : (i : ℕ) (b : Prepare) (w : Said i (bodies.Prepare b)) → Stage b.view.0 (Prepared b.number.0) (core_at i (Send w.to w.message ∷ w.early))
     prepared_after i b w =
@@ -160,11 +164,12 @@ module _ (c : Setup) (family : Family) where
           (sym w'.says.inside.view_is ∙ sym views) (λ _ done. prepare_new (core_at i w'.early) b' i b.number.0 w'.says numbers done) h)
       | inr (inr h) ↦ absurd (clash i (bodies.Prepare b') (bodies.Prepare b) w' w b'.view.0 (Prepared b'.number.0) (prepared_keeps c b'.number.0) correct (prepared_after i b' w')
           (sym w.says.inside.view_is ∙ views) (λ _ done. prepare_new (core_at i w.early) b i b'.number.0 w.says (sym numbers) done) h)
-      ] where
-        views : b.view.0 ≡ b'.view.0
-        views = ap (λ (f : Fields). f.view) is ∙ view ∙ ap (λ (f : Fields). f.view) (sym is')
-        numbers : b.number.0 ≡ b'.number.0
-        numbers = ap (λ (f : Fields). f.number) is ∙ number ∙ ap (λ (f : Fields). f.number) (sym is')
+    ] where
+      views : b.view.0 ≡ b'.view.0
+      views = ap (λ (f : Fields). f.view) is ∙ view ∙ ap (λ (f : Fields). f.view) (sym is')
+
+      numbers : b.number.0 ≡ b'.number.0
+      numbers = ap (λ (f : Fields). f.number) is ∙ number ∙ ap (λ (f : Fields). f.number) (sym is')
 
     -- ---- proposals
 
@@ -183,18 +188,22 @@ module _ (c : Setup) (family : Family) where
         (ap (λ (f : Fields). f.view) (sym same) ∙ g.0, subst (λ (f : Fields). f.digest ≡ given_digest c n.changes f.number) same g.1)
 
     proposed_then : (i : ℕ) (s : Core) (m : Signed Body) (x : Fields) (b : PrePrepare) → of_pre_prepare b ≡ x → MaySay c i s (bodies.PrePrepare b)
-      → Stage x.view (Proposed x.number) (acted (signed_once_more (said c s m (bodies.PrePrepare b)) (bodies.PrePrepare b)))
+        → Stage x.view (Proposed x.number) (acted (signed_once_more (said c s m (bodies.PrePrepare b)) (bodies.PrePrepare b)))
     proposed_then i s m x b is says =
         let inside = says.inside in
         subst (λ (y : Fields). Stage y.view (Proposed y.number) (acted (signed_once_more (said c s m (bodies.PrePrepare b)) (bodies.PrePrepare b)))) is
         (inl (sym inside.view_is, inside.active, inr (or_left _ _ (eq-eqb b.number.0 b.number.0 refl))))
 
     listed_then : (i : ℕ) (s : Core) (m : Signed Body) (x : Fields) (n : NewView) (q : Signed PrePrepare) → IsIn q n.pre_prepares → of_pre_prepare q.body ≡ x → MaySay c i s (bodies.NewView n)
-      → Stage x.view (Proposed x.number) (acted (signed_once_more (said c s m (bodies.NewView n)) (bodies.NewView n)))
+        → Stage x.view (Proposed x.number) (acted (signed_once_more (said c s m (bodies.NewView n)) (bodies.NewView n)))
     listed_then i s m x n q within is says =
         let f = listed_fields n q x says.valid within is in
-        inl (sym f.0, refl, inr (any_in (λ (y : Fields). y.number == x.number) (of_pre_prepare q.body) (map (λ p. of_pre_prepare p.body) n.pre_prepares)
-          (in_map (λ (p : Signed PrePrepare). of_pre_prepare p.body) n.pre_prepares q within) (eq-eqb _ _ (ap (λ (y : Fields). y.number) is))))
+        inl (
+          sym f.0,
+          refl,
+          inr (any_in (λ (y : Fields). y.number == x.number) (of_pre_prepare q.body) (map (λ p. of_pre_prepare p.body) n.pre_prepares)
+              (in_map (λ (p : Signed PrePrepare). of_pre_prepare p.body) n.pre_prepares q within) (eq-eqb _ _ (ap (λ (y : Fields). y.number) is))),
+        )
 
     led_after : (i : ℕ) (x : Fields) (body : Body) (w : Said i body) → Leads x body → Stage x.view (Proposed x.number) (core_at i (Send w.to w.message ∷ w.early))
     led_after i x body w leads = subst (λ (s : Core). Stage x.view (Proposed x.number) s) (sym (core_then i body w)) (from leads) where
@@ -246,14 +255,14 @@ module _ (c : Setup) (family : Family) where
     led_one i x y correct (body, w, leads) (body', w', leads') view number = elim (two_said i body body' w w') [
       | inl same ↦ same_leads i x y body (core_at i w.early) w.says leads (subst (λ (z : Body). Leads y z) (sym same) leads') view number
       | inr (inl h) ↦
-        let new = led_new i y body' (core_at i w'.early) leads' w'.says in
-        absurd (clash i body body' w w' x.view (Proposed x.number) (proposed_keeps c x.number) correct (led_after i x body w leads) (new.0 ∙ sym view)
+          let new = led_new i y body' (core_at i w'.early) leads' w'.says in
+          absurd (clash i body body' w w' x.view (Proposed x.number) (proposed_keeps c x.number) correct (led_after i x body w leads) (new.0 ∙ sym view)
           (λ active done. new.1 active (subst (λ (k : ℕ). Proposed k (core_at i w'.early)) number done)) h)
       | inr (inr h) ↦
-        let new = led_new i x body (core_at i w.early) leads w.says in
-        absurd (clash i body' body w' w y.view (Proposed y.number) (proposed_keeps c y.number) correct (led_after i y body' w' leads') (new.0 ∙ view)
+          let new = led_new i x body (core_at i w.early) leads w.says in
+          absurd (clash i body' body w' w y.view (Proposed y.number) (proposed_keeps c y.number) correct (led_after i y body' w' leads') (new.0 ∙ view)
           (λ active done. new.1 active (subst (λ (k : ℕ). Proposed k (core_at i w.early)) (sym number) done)) h)
-      ]
+    ]
 
     -- the primary prepares nothing
     pub led_or_followed : (i : ℕ) (x y : Fields) → Led i x → Followed i y → x.view ≡ y.view → ⊥

@@ -3,8 +3,8 @@ use Rattle.std.specs.Prelude.{ℕ, ◌+◌, ◌%◌, ◌==◌, Bool, true, false
 use Rattle.std.specs.List.{flat_map}
 use Rattle.pbft_model.specs.Words.{Signed, Body, RequestBody, PrePrepare, Prepare, Commit, Checkpoint, ViewChange, NewView}
 use Rattle.pbft_codec.specs.declared.body.Body.TheVariants as bodies
-use Rattle.pbft_codec.specs.declared.body.Fetch.{Fetch}
-use Rattle.pbft_codec.specs.declared.body.Fetch.TheVariants as fetches
+use Rattle.pbft_codec.specs.declared.body.fetch.Fetch.{Fetch}
+use Rattle.pbft_codec.specs.declared.body.fetch.Fetch.TheVariants as fetches
 use Rattle.pbft_model.specs.Sequential.{Service, Outcome, encoded}
 use Rattle.pbft_model.specs.Setup.{Setup, digest_of, signer_after}
 use Rattle.pbft_model.specs.Tables.{Table, Key, with_entry, add_if, keep, entries_in, vote_key, checkpoint_key, change_key, number_key, first_in, view_in, is_above}

@@ -1,12 +1,12 @@
 -- Statement: what a replica keeps, and what it reads off it (Castro and Liskov, section 4).
-use Rattle.std.specs.Prelude.{ℕ, ◌+◌, ◌*◌, ◌==◌, Bool, true, false, ◌&&◌, ◌||◌, not, nat_lt, nat_le, List, [], ◌∷◌, map, filter, take, find, max, Option, Some, None, is_some, bytes_eq, if◌then◌else◌}
-use Rattle.std.specs.List.{list_any, filter_map}
+use Rattle.std.specs.Prelude.{ℕ, ◌+◌, ◌*◌, ◌==◌, Bool, true, false, ◌&&◌, ◌||◌, not, nat_lt, nat_le, List, [], ◌∷◌, map, filter, find, max, Option, Some, None, is_some, bytes_eq, if◌then◌else◌}
+use Rattle.std.specs.List.{list_any}
 use Rattle.std.specs.Option.{option_map}
 use Rattle.pbft_model.specs.Words.{SigningState, Signed, Body, RequestBody, PrePrepare, Prepare, Commit, Checkpoint, Certificate, ViewChange, Request, Reply}
 use Rattle.pbft_model.specs.Sequential.{Service, genesis_of, last_reply_of}
 use Rattle.pbft_model.specs.Setup.{Setup, replicas, quorum, primary, span, null_digest, digest_of, request_in, numbers_from, is_least, gathered}
 use Rattle.pbft_model.specs.Tables.{Table, at, with_entry, vote_key, checkpoint_key, number_key, entries_in}
-use Rattle.pbft_model.specs.Certificates.{checkpointed, Fields, of_pre_prepare, of_prepare, of_commit, same_fields, is_by, voted, certified, has_quorum, is_checkpoint_of}
+use Rattle.pbft_model.specs.Certificates.{checkpointed, Fields, of_pre_prepare, of_prepare, of_commit, is_by, voted, certified, has_quorum}
 use Rattle.pbft_model.specs.Validity.{floor_of, greatest_of}
 
 pub record Core : Type 0 where

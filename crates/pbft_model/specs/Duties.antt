@@ -3,7 +3,7 @@ use Rattle.std.specs.Prelude.{ℕ, ◌+◌, ◌==◌, Bool, true, ◌&&◌, not,
 use Rattle.std.specs.List.{list_any}
 use Rattle.pbft_model.specs.Words.{Signed, Body, RequestBody, PrePrepare, Checkpoint, Snapshot, ViewChange, Reply, Fetch, as_message}
 use Rattle.pbft_codec.specs.declared.body.Body.TheVariants as bodies
-use Rattle.pbft_codec.specs.declared.body.Fetch.TheVariants as fetches
+use Rattle.pbft_codec.specs.declared.body.fetch.Fetch.TheVariants as fetches
 use Rattle.pbft_model.specs.Sequential.{Service, encoded, last_reply_of}
 use Rattle.pbft_model.specs.Setup.{Setup, primary, replicas, span, count, digest_of, view_limit, number_limit}
 use Rattle.pbft_model.specs.Tables.{Table, at, number_key, entries_in, first_in}
@@ -185,7 +185,7 @@ propose c me s (Some m) =
     let number = next_number s in
     if nat_le number (s.low + span c)
     then Some (if number == number_limit then WornOut
-        else say me s All (bodies.PrePrepare (pre_prepare_of (record { view = s.view; number = number; digest = digest_of c m }))))
+    else say me s All (bodies.PrePrepare (pre_prepare_of (record { view = s.view; number = number; digest = digest_of c m }))))
     else None
 
 abbrev pub due_propose : Setup → ℕ → Core → Option Duty

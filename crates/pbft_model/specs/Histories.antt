@@ -84,7 +84,7 @@ pub record IsUnforged (c : Setup) (family : Family) : Type 0 where
   pub few : count family.faulty (replicas c) ≤ c.config.f
   pub histories : (i : ℕ) → IsCorrect c family.faulty i → IsHistory c i (family.signer i) (family.acts i)
   pub real : (i : ℕ) → IsCorrect c family.faulty i → (m p : Signed Body) → HasTaken m (family.acts i) → IsIn p (messages_in m)
-    → IsReal c family (part_of p)
+      → IsReal c family (part_of p)
 
 -- A replica holds the digest committed-local at some point of its history.
 pub record HasCommitted (c : Setup) (family : Family) (i view number : ℕ) (digest : List ℕ) : Type 0 where

@@ -1,8 +1,7 @@
 -- Statement: a row is what one message or one timeout makes a replica do, up to where nothing is due; a journal
 -- is a list of rows.
 use Rattle.std.specs.Prelude.{◌≡◌, ℕ, ◌+◌, ◌<◌, ◌≤◌, Bool, true, false, List, [], ◌∷◌, ◌++◌, Option, Some, None}
-use Rattle.pbft_model.specs.Words.{SigningState, leaf_count_of, Signed, Body, Replica, Reply}
-use Rattle.lms_tree.specs.Signature.{public_key_of}
+use Rattle.pbft_model.specs.Words.{SigningState, leaf_count, IsKeyOf, Signed, Body, Replica, Reply}
 use Rattle.seal.specs.Signers.{key_of}
 use Rattle.pbft_model.specs.Sequential.{Service, Outcome, IsStep}
 use Rattle.pbft_model.specs.Setup.{Setup}
@@ -93,7 +92,7 @@ Fulfils c s (Some WornOut) a = ⊥
 
 -- The signer has the leaves that the act takes.
 abbrev pub HasLeaves : Core → Act → Type 0
-HasLeaves s a = s.signer.next_leaf + leaves_for a ≤ leaf_count_of s.signer.height
+HasLeaves s a = s.signer.next_leaf + leaves_for a ≤ leaf_count s.signer
 
 -- The acts do what is due, one after another.
 abbrev pub Follows : Setup → ℕ → Core → List Act → Core → Type 0
@@ -129,7 +128,7 @@ pub data Halt : Type 0 where
 -- The next duty wants a view or a number that is not there, or more leaves than there are.
 abbrev pub Lacks : Core → Option Duty → Halt → Type 0
 Lacks s (Some WornOut) Worn = Unit {0}
-Lacks s (Some (Do a)) Exhausted = leaf_count_of s.signer.height < s.signer.next_leaf + leaves_for a
+Lacks s (Some (Do a)) Exhausted = leaf_count s.signer < s.signer.next_leaf + leaves_for a
 Lacks s None halt = ⊥
 Lacks s (Some WornOut) Exhausted = ⊥
 Lacks s (Some (Do a)) Worn = ⊥
@@ -152,7 +151,7 @@ IsLawfulFrom c me s (row ∷ rows) t = (u : Core) × IsNext c me s row u × IsLa
 
 -- The signer's key is the replica's listed one, at whatever leaf.
 abbrev pub IsListed : Setup → ℕ → SigningState → Type 0
-IsListed c me signer = key_of c.config Replica me ≡ Some (public_key_of signer.height signer.id signer.secret)
+IsListed c me signer = (key : List ℕ) × (key_of c.config Replica me ≡ Some key) × IsKeyOf key signer
 
 -- A lawful journal of a replica, of some signer with its key.
 pub record IsJournal (c : Setup) (me : ℕ) (rows : List Row) : Type 0 where

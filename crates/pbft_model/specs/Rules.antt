@@ -1,16 +1,16 @@
 -- Statement: what a replica may do: one guard for each kind of act (Castro and Liskov, sections 4.2 to 4.4).
-use Rattle.std.specs.Prelude.{◌≡◌, ◌⊎◌, ℕ, ◌+◌, ◌*◌, ◌<◌, ◌≤◌, ◌==◌, Bool, true, false, ◌||◌, ◌&&◌, not, List, [], ◌∷◌, take, Option, Some, None, MatchOption, length, if◌then◌else◌}
-use Rattle.std.specs.List.{list_any, filter_map}
+use Rattle.std.specs.Prelude.{◌≡◌, ◌⊎◌, ℕ, ◌+◌, ◌*◌, ◌<◌, ◌≤◌, ◌==◌, Bool, true, false, ◌||◌, ◌&&◌, not, List, [], ◌∷◌, Option, Some, None, MatchOption, length}
+use Rattle.std.specs.List.{list_any}
 use Rattle.pbft_model.specs.Words.{Reply, SigningState, Signed, Body, RequestBody, PrePrepare, Prepare, Commit, Checkpoint, ReplyBody, Snapshot, ViewChange, NewView, IsChecked, as_message}
 use Rattle.pbft_codec.specs.declared.body.Body.TheVariants as bodies
 use Rattle.pbft_model.specs.Sequential.{Service, Outcome, IsStep, IsSound, encoded, last_reply_of}
-use Rattle.pbft_model.specs.Setup.{Setup, primary, replicas, span, signed_by, signer_after, numbers_from, is_least, gathered}
+use Rattle.pbft_model.specs.Setup.{Setup, primary, replicas, span, signed_by, signer_after, is_least, gathered}
 use Rattle.pbft_model.specs.Tables.{at, change_key, number_key, entries_in}
 use Rattle.pbft_model.specs.Certificates.{Fields, of_pre_prepare, of_prepare, of_commit, voted, some_by, is_stable}
 use Rattle.pbft_model.specs.Validity.{is_valid_new_view, given}
 use Rattle.pbft_model.specs.Core.{Core, floor_in, is_prepared, is_committed, request_of, held_with, kept_on_leaving, next_number}
 use Rattle.pbft_model.specs.Acts.{Act, Take, Timeout, Send, Relay, Enter, Rise, Execute, Install, is_awaited}
-use Rattle.pbft_model.specs.Words.{Reply, placed}
+use Rattle.pbft_model.specs.Words.{Reply}
 
 -- ---- the messages that a replica makes of what it keeps
 

@@ -1,8 +1,8 @@
 -- Statement: who takes part, and the numbers that follow from it (Castro and Liskov, section 3).
 use Rattle.std.proofs.Common.{zero, suc}
-use Rattle.std.specs.Prelude.{ℕ, ◌+◌, ◌*◌, ◌%◌, Bool, true, false, ◌&&◌, cond, nat_lt, List, [], ◌∷◌, Option, Some, None}
+use Rattle.std.specs.Prelude.{ℕ, ◌+◌, ◌*◌, ◌%◌, Bool, true, false, ◌&&◌, cond, nat_lt, List, [], ◌∷◌, Option, None}
 use Rattle.std.specs.List.{filter_map}
-use Rattle.pbft_model.specs.Words.{Configuration, replicas_for, Body, RequestBody, Signed, Role, Replica, Client, Request, SigningState, signed_text, as_message, sealed}
+use Rattle.pbft_model.specs.Words.{Configuration, replicas_for, Body, RequestBody, Signed, Role, Replica, Client, Request, SigningState, signed_text, as_message, sealed_message}
 use Rattle.pbft_codec.specs.declared.body.Body.TheVariants as bodies
 
 -- A configuration and the hash function. Every law holds for every hash; the replicas' is SHA-256.
@@ -69,7 +69,7 @@ gathered test value n = filter_map (λ i. cond (test i) (value i) None) (numbers
 
 -- what a replica signs with its next leaf: the signature is that of the signer
 unfoldable pub signature_by : SigningState → ℕ → Body → List ℕ
-signature_by signer me body = (sealed signer Replica me body).sig
+signature_by signer me body = (sealed_message signer Replica me body).sig
 
 -- an own message, signed with the signer's next leaf
 abbrev pub signed_by : {B : Type 0} → (B → Body) → SigningState → ℕ → B → Signed B

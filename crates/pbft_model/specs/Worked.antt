@@ -1,14 +1,14 @@
 -- Statement: worked histories: what some messages make a replica do, act by act. They pin the duties.
-use Rattle.std.specs.Prelude.{◌≡◌, ℕ, List, [], ◌∷◌, ◌++◌, Option, Some, None, true, false}
-use Rattle.pbft_model.specs.Words.{SigningState, Signed, Body, PrePrepare, Prepare, Commit, RequestBody, Certificate, ViewChange, NewView, Replica, Client, Reply, signed_text, as_message}
+use Rattle.std.specs.Prelude.{ℕ, List, [], ◌∷◌, Some, None, false}
+use Rattle.pbft_model.specs.Words.{SigningState, Signed, Body, RequestBody, Certificate, ViewChange, NewView, Replica, Client, Reply, as_message}
 use Rattle.lms_tree.specs.declared.height.Height.TheVariants.{H5}
 use Rattle.pbft_codec.specs.declared.body.Body.TheVariants as bodies
-use Rattle.pbft_codec.specs.declared.body.Fetch.TheVariants as fetches
-use Rattle.pbft_model.specs.Sequential.{Service, Outcome, IsStep, genesis_of}
-use Rattle.pbft_model.specs.Setup.{Setup, request_in, digest_of, null_digest, signed_by, signer_after}
+use Rattle.pbft_codec.specs.declared.body.fetch.Fetch.TheVariants as fetches
+use Rattle.pbft_model.specs.Sequential.{Service, Outcome}
+use Rattle.pbft_model.specs.Setup.{Setup, signed_by, signer_after}
 use Rattle.pbft_model.specs.Certificates.{Fields}
-use Rattle.pbft_model.specs.Core.{Core, start_of}
-use Rattle.pbft_model.specs.Acts.{Act, Take, Timeout, Send, Relay, Enter, Rise, Execute, Install, Destination, All, ToReplica, ToClient, after}
+use Rattle.pbft_model.specs.Core.{Core}
+use Rattle.pbft_model.specs.Acts.{Act, Take, Timeout, Send, Enter, Execute, All, ToClient, after}
 use Rattle.pbft_model.specs.Rules.{pre_prepare_of}
 use Rattle.pbft_model.specs.Rows.{Reacts}
 
@@ -73,9 +73,9 @@ through_backup id secret service =
     ∷ (Take (from_replica 2 (a_prepare 0 1 (1 ∷ []))) None ∷ Send All (own signer 1 1 (a_commit 0 1 (1 ∷ []))) ∷ [])
     ∷ (Take (from_replica 0 (a_commit 0 1 (1 ∷ []))) None ∷ [])
     ∷ (Take (from_replica 3 (a_commit 0 1 (1 ∷ []))) None
-        ∷ Execute 1 (1 ∷ []) service the_outcome
-        ∷ Send (ToClient 100) (own signer 1 2 (bodies.Reply (record { view = record { 0 = 0 }; client = record { 0 = 100 }; time = 1; number = record { 0 = 1 }; result = 9 ∷ [] })))
-        ∷ [])
+    ∷ Execute 1 (1 ∷ []) service the_outcome
+    ∷ Send (ToClient 100) (own signer 1 2 (bodies.Reply (record { view = record { 0 = 0 }; client = record { 0 = 100 }; time = 1; number = record { 0 = 1 }; result = 9 ∷ [] })))
+    ∷ [])
     ∷ []
 
 -- ---- a view change, at the primary of the next view
@@ -132,17 +132,17 @@ abbrev pub others_new_view : NewView
 others_new_view = record {
   view = record { 0 = 1 };
   changes = typed 1 (record {
-      view = record { 0 = 1 };
-      low = record { 0 = 0 };
-      checkpoints = [];
-      certificates = record {
-        pre_prepare = typed 0 (pre_prepare_of (at_place 0 2 (1 ∷ [])));
-        prepares = typed 1 (record { view = record { 0 = 0 }; number = record { 0 = 2 }; digest = record { 0 = 1 ∷ [] } })
-            ∷ typed 2 (record { view = record { 0 = 0 }; number = record { 0 = 2 }; digest = record { 0 = 1 ∷ [] } })
-            ∷ [];
-      } ∷ [];
-    })
-    ∷ typed 2 empty_view_change ∷ typed 3 empty_view_change ∷ [];
+    view = record { 0 = 1 };
+    low = record { 0 = 0 };
+    checkpoints = [];
+    certificates = record {
+      pre_prepare = typed 0 (pre_prepare_of (at_place 0 2 (1 ∷ [])));
+      prepares = typed 1 (record { view = record { 0 = 0 }; number = record { 0 = 2 }; digest = record { 0 = 1 ∷ [] } })
+          ∷ typed 2 (record { view = record { 0 = 0 }; number = record { 0 = 2 }; digest = record { 0 = 1 ∷ [] } })
+          ∷ [];
+    } ∷ [];
+  })
+      ∷ typed 2 empty_view_change ∷ typed 3 empty_view_change ∷ [];
   pre_prepares = typed 1 (pre_prepare_of (at_place 1 1 (0 ∷ []))) ∷ typed 1 (pre_prepare_of (at_place 1 2 (1 ∷ []))) ∷ [];
 }
 
@@ -152,9 +152,9 @@ joining_view id secret =
     (Take (from_replica 1 (a_view_change 1 0)) None ∷ [])
     ∷ (Take (from_replica 2 (a_view_change 1 0)) None ∷ Send All (own signer 3 0 (a_view_change 1 0)) ∷ [])
     ∷ (Take (from_replica 1 (bodies.NewView others_new_view)) None
-        ∷ Enter (typed 1 others_new_view)
-        ∷ Send All (own signer 3 1 (a_prepare 1 1 (0 ∷ [])))
-        ∷ Send All (own signer 3 2 (bodies.Fetch (fetches.Request (record { 0 = 1 ∷ [] }))))
-        ∷ [])
+    ∷ Enter (typed 1 others_new_view)
+    ∷ Send All (own signer 3 1 (a_prepare 1 1 (0 ∷ [])))
+    ∷ Send All (own signer 3 2 (bodies.Fetch (fetches.Request (record { 0 = 1 ∷ [] }))))
+    ∷ [])
     ∷ (Take (as_message bodies.Request the_request) None ∷ Send All (own signer 3 3 (a_prepare 1 2 (1 ∷ []))) ∷ [])
     ∷ []
