@@ -15,3 +15,4 @@ pub mod Opening
 pub mod Sound
 pub mod Fine
 pub mod Rowed
+pub mod Unique

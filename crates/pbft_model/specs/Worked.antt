@@ -1,5 +1,5 @@
 -- Statement: worked histories: what some messages make a replica do, act by act. They pin the duties.
-use Rattle.std.specs.Prelude.{ℕ, List, [], ◌∷◌, Some, None, false}
+use Rattle.std.specs.Prelude.{ℕ, List, [], ◌∷◌, Some, None, false, ◌≡◌, map, length}
 use Rattle.pbft_model.specs.Words.{SigningState, Signed, Body, RequestBody, Certificate, ViewChange, NewView, Replica, Client, Reply, as_message}
 use Rattle.lms_tree.specs.declared.height.Height.TheVariants.{H5}
 use Rattle.pbft_codec.specs.declared.body.Body.TheVariants as bodies
@@ -8,7 +8,7 @@ use Rattle.pbft_model.specs.Sequential.{Service, Outcome}
 use Rattle.pbft_model.specs.Setup.{Setup, signed_by, signer_after}
 use Rattle.pbft_model.specs.Certificates.{Fields}
 use Rattle.pbft_model.specs.Core.{Core}
-use Rattle.pbft_model.specs.Acts.{Act, Take, Timeout, Send, Enter, Execute, All, ToClient, after}
+use Rattle.pbft_model.specs.Acts.{Act, Rise, Install, Take, Timeout, Send, Enter, Execute, All, ToClient, after}
 use Rattle.pbft_model.specs.Rules.{pre_prepare_of}
 use Rattle.pbft_model.specs.Rows.{Reacts}
 
@@ -24,6 +24,11 @@ toy = record { config = record { f = 1; k = 2; keys = []; clients = [] }; hash =
 abbrev pub through : Setup → Core → List Act → Core
 through c s [] = s
 through c s (a ∷ acts) = through c (after c s a) acts
+
+-- and after several such lists
+abbrev pub through_all : Setup → Core → List (List Act) → Core
+through_all c s [] = s
+through_all c s (acts ∷ rest) = through_all c (through c s acts) rest
 
 -- Each begins with what is taken, and the acts behind it are what is due, up to where nothing is.
 abbrev pub Works : Setup → ℕ → Core → List (List Act) → Type 0
@@ -157,4 +162,55 @@ joining_view id secret =
     ∷ Send All (own signer 3 2 (bodies.Fetch (fetches.Request (record { 0 = 1 ∷ [] }))))
     ∷ [])
     ∷ (Take (as_message bodies.Request the_request) None ∷ Send All (own signer 3 3 (a_prepare 1 2 (1 ∷ []))) ∷ [])
+    ∷ []
+
+-- ---- a checkpoint at a backup: two null requests are executed, the number 2 becomes stable, and all up to it is discarded
+
+abbrev pub a_checkpoint : ℕ → List ℕ → Body
+a_checkpoint number digest = bodies.Checkpoint (record { number = record { 0 = number }; digest = record { 0 = digest } })
+
+-- the state after so many null requests
+abbrev pub after_null : ℕ → Service
+after_null number = record { config = toy.config; number = number; tenants = [] }
+
+abbrev pub no_reply : ℕ → Outcome
+no_reply number = record { number = record { 0 = number }; reply = None; kept = false }
+
+abbrev pub reaching_a_checkpoint : List ℕ → List ℕ → List (List Act)
+reaching_a_checkpoint id secret =
+    let signer = fresh id secret in
+    (Take (from_replica 0 (a_pre_prepare 0 1 (0 ∷ []))) None ∷ Send All (own signer 3 0 (a_prepare 0 1 (0 ∷ []))) ∷ [])
+    ∷ (Take (from_replica 1 (a_prepare 0 1 (0 ∷ []))) None ∷ Send All (own signer 3 1 (a_commit 0 1 (0 ∷ []))) ∷ [])
+    ∷ (Take (from_replica 0 (a_commit 0 1 (0 ∷ []))) None ∷ [])
+    ∷ (Take (from_replica 1 (a_commit 0 1 (0 ∷ []))) None ∷ Execute 1 (0 ∷ []) (after_null 1) (no_reply 1) ∷ [])
+    ∷ (Take (from_replica 0 (a_pre_prepare 0 2 (0 ∷ []))) None ∷ Send All (own signer 3 2 (a_prepare 0 2 (0 ∷ []))) ∷ [])
+    ∷ (Take (from_replica 1 (a_prepare 0 2 (0 ∷ []))) None ∷ Send All (own signer 3 3 (a_commit 0 2 (0 ∷ []))) ∷ [])
+    ∷ (Take (from_replica 0 (a_commit 0 2 (0 ∷ []))) None ∷ [])
+    ∷ (Take (from_replica 1 (a_commit 0 2 (0 ∷ []))) None
+    ∷ Execute 2 (0 ∷ []) (after_null 2) (no_reply 2)
+    ∷ Send All (own signer 3 4 (a_checkpoint 2 (1 ∷ [])))
+    ∷ [])
+    ∷ (Take (from_replica 0 (a_checkpoint 2 (1 ∷ []))) None ∷ [])
+    ∷ (Take (from_replica 1 (a_checkpoint 2 (1 ∷ []))) None ∷ Rise 2 (1 ∷ []) ∷ [])
+    ∷ []
+
+-- what is left after it: the proof of the low mark, and nothing recorded
+pub record IsDiscarded (s : Core) : Type 0 where
+  pub low : s.low ≡ 2
+  pub proof : map (λ m. m.id) s.proof ≡ 0 ∷ 1 ∷ 3 ∷ []
+  pub pre_prepares : s.pre_prepares ≡ []
+  pub prepares : s.prepares ≡ []
+  pub commits : s.commits ≡ []
+  pub checkpoints : s.checkpoints ≡ []
+  pub snapshots : length s.snapshots ≡ 1
+
+-- ---- a snapshot is fetched and installed by a replica that lagged; no Checkpoint is signed for it
+
+abbrev pub installing : List ℕ → List ℕ → Service → List (List Act)
+installing id secret state =
+    let signer = fresh id secret in
+    (Take (from_replica 0 (a_checkpoint 2 (1 ∷ []))) None ∷ [])
+    ∷ (Take (from_replica 1 (a_checkpoint 2 (1 ∷ []))) None ∷ [])
+    ∷ (Take (from_replica 2 (a_checkpoint 2 (1 ∷ []))) None ∷ Send All (own signer 3 0 (bodies.Fetch (fetches.State (record { 0 = 2 })))) ∷ [])
+    ∷ (Take (from_replica 1 (bodies.Snapshot (record { number = record { 0 = 2 }; state = 5 ∷ [] }))) (Some state) ∷ Install 2 (5 ∷ []) state ∷ [])
     ∷ []

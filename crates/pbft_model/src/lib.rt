@@ -9,11 +9,11 @@ ghost use Rattle.lms_tree.specs.SigningState.{SigningState};
 ghost use Rattle.pbft_model.specs.Acts.{Act};
 ghost use Rattle.pbft_model.specs.Core.{Core, start_of};
 ghost use Rattle.pbft_model.specs.Duties.{due};
-ghost use Rattle.pbft_model.specs.Rows.{Row, Fulfils, IsLawfulFrom};
+ghost use Rattle.pbft_model.specs.Rows.{Row, Fulfils, IsLawfulFrom, IsNext};
 ghost use Rattle.pbft_model.specs.Rules.{Allowed};
 ghost use Rattle.pbft_model.specs.Sequential.{Service, IsStep, genesis_of};
 ghost use Rattle.pbft_model.specs.Setup.{request_in};
-ghost use Rattle.pbft_model.specs.Worked.{Works, toy, fresh, the_request, the_outcome, through_backup, changing_view, joining_view};
+ghost use Rattle.pbft_model.specs.Worked.{Works, toy, fresh, the_request, the_outcome, through_backup, changing_view, joining_view, reaching_a_checkpoint, installing, through_all, IsDiscarded};
 ghost use Rattle.pbft_model.specs.Histories.{Family, IsUnforged, AgreesByView, IsHistory, core_after};
 
 /// Agreement by view: where nobody forges, no two digests are committed at one number, whatever
@@ -34,6 +34,12 @@ pub fn a_journal_is_a_history()
         → (acts : List Act) × IsHistory c me signer acts × (core_after c signer acts ≡ last) }
 {}
 
+/// A row is determined by the core before it and its input, and so is the core after it.
+pub fn a_row_is_unique()
+    ensures { (c : Setup) (me : ℕ) (s t t' : Core) (row row' : Row) → row.input ≡ row'.input → IsNext c me s row t → IsNext c me s row' t'
+        → (row ≡ row') × (t ≡ t') }
+{}
+
 /// A worked history: a request through a backup up to its reply.
 pub fn a_request_through_a_backup()
     ensures { (id secret : List ℕ) (service : Service) → IsStep (genesis_of toy.config) (Some (request_in the_request)) service the_outcome
@@ -50,4 +56,17 @@ pub fn a_view_change_at_the_next_primary()
 /// request and asks for the other.
 pub fn a_view_change_at_a_backup()
     ensures { (id secret : List ℕ) → Works toy 3 (start_of toy (fresh id secret)) (joining_view id secret) }
+{}
+
+/// A worked history: two null requests are executed, the number 2 becomes stable, and what it
+/// discards.
+pub fn a_checkpoint_at_a_backup()
+    ensures works { (id secret : List ℕ) → Works toy 3 (start_of toy (fresh id secret)) (reaching_a_checkpoint id secret) }
+    ensures discards { (id secret : List ℕ) → IsDiscarded (through_all toy (start_of toy (fresh id secret)) (reaching_a_checkpoint id secret)) }
+{}
+
+/// A worked history: a replica that lagged fetches a snapshot and installs it, and signs no
+/// Checkpoint for it.
+pub fn a_snapshot_is_installed()
+    ensures { (id secret : List ℕ) (state : Service) → Works toy 3 (start_of toy (fresh id secret)) (installing id secret state) }
 {}
