@@ -16,3 +16,4 @@ pub mod Sound
 pub mod Fine
 pub mod Rowed
 pub mod Unique
+pub mod Executing

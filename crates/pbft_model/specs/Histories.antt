@@ -2,7 +2,7 @@
 use Rattle.std.specs.Prelude.{◌≡◌, ◌⊎◌, ℕ, ◌<◌, ◌≤◌, Bool, true, false, List, [], ◌∷◌, map, Option}
 use Rattle.pbft_model.specs.Words.{SigningState, Signed, Body, PrePrepare, Replica, Part, part_of, messages_in, as_message}
 use Rattle.pbft_codec.specs.declared.body.Body.TheVariants as bodies
-use Rattle.pbft_model.specs.Sequential.{Service}
+use Rattle.pbft_model.specs.Sequential.{Service, Outcome}
 use Rattle.pbft_model.specs.Setup.{Setup, replicas, count}
 use Rattle.pbft_model.specs.Core.{Core, start_of, is_committed}
 use Rattle.pbft_model.specs.Acts.{Act, Take, Timeout, Send, Relay, Enter, Rise, Execute, Install, after}
@@ -98,3 +98,16 @@ abbrev pub AgreesByView : Setup → Family → Type 0
 AgreesByView c family =
     (i j view view' number : ℕ) (digest digest' : List ℕ) → HasCommitted c family i view number digest
     → HasCommitted c family j view' number digest' → digest ≡ digest'
+
+-- A replica executed the number with the digest.
+pub record HasExecuted (c : Setup) (family : Family) (i number : ℕ) (digest : List ℕ) : Type 0 where
+  pub correct : IsCorrect c family.faulty i
+  pub service : Service
+  pub outcome : Outcome
+  pub early : List Act
+  pub point : IsEarlier (Execute number digest service outcome ∷ early) (family.acts i)
+
+-- No two correct replicas execute different digests at one number.
+abbrev pub ExecutesAlike : Setup → Family → Type 0
+ExecutesAlike c family =
+    (i j number : ℕ) (digest digest' : List ℕ) → HasExecuted c family i number digest → HasExecuted c family j number digest' → digest ≡ digest'

@@ -14,12 +14,17 @@ ghost use Rattle.pbft_model.specs.Rules.{Allowed};
 ghost use Rattle.pbft_model.specs.Sequential.{Service, IsStep, genesis_of};
 ghost use Rattle.pbft_model.specs.Setup.{request_in};
 ghost use Rattle.pbft_model.specs.Worked.{Works, toy, fresh, the_request, the_outcome, through_backup, changing_view, joining_view, reaching_a_checkpoint, installing, through_all, IsDiscarded};
-ghost use Rattle.pbft_model.specs.Histories.{Family, IsUnforged, AgreesByView, IsHistory, core_after};
+ghost use Rattle.pbft_model.specs.Histories.{Family, IsUnforged, AgreesByView, ExecutesAlike, IsHistory, core_after};
 
 /// Agreement by view: where nobody forges, no two digests are committed at one number, whatever
 /// their views.
 pub fn agreement_by_view()
     ensures { (c : Setup) (family : Family) → IsUnforged c family → AgreesByView c family }
+{}
+
+/// Where nobody forges, no two correct replicas execute different digests at one number.
+pub fn executions_agree()
+    ensures { (c : Setup) (family : Family) → IsUnforged c family → ExecutesAlike c family }
 {}
 
 /// What is due is allowed: whatever act does the duty, at each point of a history.
