@@ -1,0 +1,13 @@
+pub mod Words
+pub mod Setup
+pub mod Tables
+pub mod Certificates
+pub mod Validity
+pub mod Sequential
+pub mod Core
+pub mod Acts
+pub mod Rules
+pub mod Duties
+pub mod Rows
+pub mod Histories
+pub mod Worked
