@@ -141,7 +141,7 @@ some_is a b e = cc
 opcode_byte_is : (a b : Opcode) → opcode_byte a ≡ opcode_byte b → a ≡ b
 opcode_byte_is a b e = some_is a b (sym (opcode_again a) ∙ ap opcode_of e ∙ opcode_again b)
 
--- what an instruction says: its opcode, its registers and its immediate; r0 and 0 stand where a field has no use
+-- what an instruction says: its opcode, its registers and its immediate; r0 and 0 where a field has no use
 record Parts : Type 0 where
   opcode : Opcode
   dst : Reg

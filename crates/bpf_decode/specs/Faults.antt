@@ -57,7 +57,7 @@ has_stray_field Call slot = not (slot.dst == 0) || not (slot.src == 0) || is_not
 has_stray_field Exit slot =
     not (slot.dst == 0) || not (slot.src == 0) || is_not_zero slot.offset || is_not_zero slot.imm
 
--- The first fault of the fields beside the opcode: a register above r10 (RFC 9669, 2.1), the offset, a stray field.
+-- The first fault of the fields other than the opcode: a register above r10 (RFC 9669, 2.1), the offset, a stray field.
 abbrev pub field_fault : Opcode → Slot → Option DecodeFault
 field_fault opcode slot =
     if nat_lt 10 slot.dst || nat_lt 10 slot.src then Some BadRegister

@@ -1,4 +1,4 @@
--- What is known at a slot holds on each edge to it.
+-- The abstract state at a slot is below that of each edge to it.
 use Rattle.std.proofs.Common.{◌≡◌, ℕ, zero, suc, ◌<◌, ◌≤◌, Bool, true, false, cond, eqb, leb, List, [], ◌∷◌, Option, Some, None, refl, sym, ap, subst, ◌∙◌, arith, inl, inr, map, filter, fold}
 use Rattle.std.proofs.lemmas.Bool.{cases_lt, eq-eqb, leb-true, leb-false}
 use Rattle.bpf_decode.specs.declared.insn.Insn.{Insn}
@@ -86,7 +86,7 @@ fold_below s (t ∷ ts) x (inl e) =
     subst (λ (y : AbstractState). IsBelow (fold join (join s t) ts) y) (sym e) (IsBelow-trans _ _ _ (fold_below_first (join s t) ts) (IsBelow-join_right s t))
 fold_below s (t ∷ ts) x (inr h) = fold_below (join s t) ts x h
 
--- where ways join, each of them knows what is known there
+-- a join is below each state that is joined
 pub join_all_below : (xs : List AbstractState) (x : AbstractState) → IsOneOf x xs → (j : AbstractState) × (join_all xs ≡ Some j) × IsBelow j x
 join_all_below [] x h = absurd h
 join_all_below (s ∷ ss) x (inl e) =
@@ -116,6 +116,6 @@ incoming_one code s e (suc n) h lt =
           IsOneOf-right e.state (incoming code n e.target) _ (flows_to_one e.target e (edges_at code n) (subst (λ (k : ℕ). IsOneOf e (edges_at code k)) same h) refl)
     ]
 
--- an edge to a later slot: what is known there is known on the edge
+-- an edge to a later slot: the slot's state is below the edge's
 pub arrives : (code : List Insn) (s : ℕ) (e : Edge) → IsOneOf e (edges_at code s) → s < e.target → (j : AbstractState) × (state_at code e.target ≡ Some j) × IsBelow j e.state
 arrives code s e h lt = join_all_below (incoming code e.target e.target) e.state (incoming_one code s e e.target h lt)

@@ -118,7 +118,7 @@ truncate_in a x fa ix =
 fits_wider : (r : Range) → WellFormed 32 r → WellFormed 64 r
 fits_wider r f = let b = f.below in record { ordered = f.ordered; below = omega arith }
 
--- the result of an instruction lies in what is known of it
+-- the result of an instruction lies in its range
 pub transfer_in : (width : AluWidth) (op : AluOp) (a b : Range) (x y : ℕ) → WellFormed 64 a → WellFormed 64 b → In x a → In y b → In (alu_of width op x y) (transfer width op a b)
 transfer_in W32 op a b x y fa fb ix iy =
     let ca = truncate_in a x fa ix in

@@ -1,5 +1,5 @@
--- Accepted code is safe: each machine that is reached stands at a slot that a path leads to, and holds what is known
--- there.
+-- Accepted code is safe: each machine that is reached is at a slot that a path leads to, and the slot's abstract state
+-- is true of it.
 use Rattle.std.proofs.Common.{◌≡◌, ◌⊎◌, ℕ, zero, suc, ◌+◌, ◌<◌, ◌≤◌, Bool, true, false, ◌&&◌, cond, leb, List, [], ◌∷◌, ◌++◌, length, get_or, Option, Some, None, ℤ, refl, sym, ap, subst, ◌∙◌, arith, inl, inr, map}
 use Rattle.std.specs.List.{list_all}
 use Rattle.std.specs.Option.{is_some, is_none}

@@ -1,4 +1,4 @@
--- What is known at a slot is true of the machines that come there, and stays true over an instruction.
+-- The abstract state at a slot is true of the machines that come there, and stays true over an instruction.
 use Rattle.std.proofs.Common.{◌≡◌, ℕ, ◌+◌, ◌-◌, ◌^◌, ◌<◌, ◌≤◌, Bool, true, false, ◌&&◌, ◌||◌, cond, eqb, leb, ltb, List, [], ◌∷◌, ◌++◌, length, replicate, Option, Some, None, ℤ, refl, sym, ap, subst, ◌∙◌, arith, inl, inr}
 use Rattle.std.specs.Prelude.{IsSome}
 use Rattle.std.specs.List.{list_all, list_any, enumerate_from}
@@ -44,7 +44,7 @@ pub record Holds (registers : Registers) (r : ℕ) (x : Range) : Type 0 where
   pub is : map.get registers r ≡ Some value
   pub in_range : In value x
 
--- what is known is true of the machine
+-- an abstract state is true of a machine
 pub record Abstracts (state : AbstractState) (m : Machine) : Type 0 where
   pub ranges : (r : ℕ) (x : Range) → state.ranges r ≡ Some x → Holds m.frame.registers r x
   pub initialized : (address : ℕ) → state.initialized address ≡ true → IsSome (map.get m.memory address)
@@ -172,7 +172,7 @@ some_here : {A : Type 0} (o : Option A) → is_some o ≡ true → (x : A) × (o
 some_here None h = absurd cc
 some_here (Some x) h = (x, refl)
 
--- an operand: what is known of it, and what it is
+-- an operand: its range and its value
 record Operand (o : Option Range) (v : Option ℕ) : Type 0 where
   range : Range
   range_is : o ≡ Some range
@@ -188,7 +188,7 @@ register_operand state m r means fit h =
     let holds = means.ranges r x.0 x.1 in
     record { range = x.0; range_is = x.1; value = holds.value; value_is = holds.is; in_range = holds.in_range; fits = fit r x.0 x.1 }
 
--- a constant that is a number of 64 bits
+-- an immediate that is a number of 64 bits
 unfoldable pub ImmInRange : Source → Type 0
 ImmInRange (source.Imm value) = cast_unsigned w64 value < 2 ^ 64
 ImmInRange (source.Reg reg) = Unit {0}
@@ -225,7 +225,7 @@ destination_operand state m Mov d means fit h = record {
   fits = record { ordered = omega arith; below = omega arith };
 }
 
--- what an arithmetic instruction does, and what is known of it
+-- what an arithmetic instruction does, and the range of its result
 pub record Moves (state : AbstractState) (m : Machine) (x : Insn) (dst : ℕ) : Type 0 where
   pub value : ℕ
   pub goes : effect m x ≡ Some (Continues (moved m (slots_of x) dst value))
@@ -310,7 +310,7 @@ after m slots answer =
       entries = answer.entries;
     }
 
--- what a helper does, and what is known of it
+-- what a helper does, and the abstract state behind it
 pub record Answers (state : AbstractState) (m : Machine) (helper : Helper) (number : ℤ) : Type 0 where
   pub answer : Answer
   pub goes : effect m (CallHelper number) ≡ Some (Continues (after m (slots_of (CallHelper number)) answer))

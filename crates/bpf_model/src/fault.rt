@@ -8,7 +8,7 @@ use std::alloc::AllocError;
 use thiserror::Error;
 
 /// Why code is refused. Of several faults the first one is reported: the decoder's; then those of the
-/// structure, slot by slot, in the order in which they stand here; then the first of a slot that is
+/// structure, slot by slot, in the order in which they are listed here; then the first of a slot that is
 /// reached, in that order too.
 #[derive(Clone, Copy, Debug, PartialEq, Eq, Error)]
 pub enum VerifyFault {

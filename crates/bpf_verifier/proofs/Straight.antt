@@ -213,7 +213,7 @@ pub safe_of : (bytes : List ℕ) (code : List Insn) (bound : ℕ) → IsProcedur
 safe_of bytes code bound p insns is =
     subst (λ (c : List Insn). IsSafe c bound) (same_code bytes code insns p.is_code is) p.safe
 
--- an instruction that falls through is not the last, and the helper that it calls is known
+-- an instruction that falls through is not the last, and the helper that it calls is one of this host
 pub well_structured : (code : List Insn) (slot : ℕ) (x : Insn) → insn_at code slot ≡ Some x → structure_fault code slot ≡ None → ((falls_through x && leb (length code) (slot + slots_of x)) ≡ false) × (calls_unknown x ≡ false)
 well_structured code slot x is none =
     let stands : insn_structure_fault (length code) slot x ≡ None = sym (structure_is code slot x is) ∙ none in
