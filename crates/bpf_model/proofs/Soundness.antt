@@ -24,7 +24,7 @@ use Rattle.bpf_decode.specs.declared.insn.Source.{Source}
 use Rattle.bpf_decode.specs.declared.insn.Source.TheVariants as source
 use Rattle.bpf_decode.specs.Encoding.{IsInsn}
 use Rattle.bpf_model.specs.Code.{slots_of}
-use Rattle.tenant_maps.specs.Entries.{Entries, has_place, put}
+use Rattle.tenant_maps.specs.Entries.{Entries, has_room, put}
 use Rattle.bpf_model.specs.Machine.{Machine, Memory, Registers, Call, IsCall, start, arguments_start, frame_end, is_in_bounds, bytes_at, stored}
 use Rattle.bpf_model.specs.declared.helper.Helper.{Helper}
 use Rattle.bpf_model.specs.declared.helper.Helper.TheVariants.{Get, Put}
@@ -343,12 +343,12 @@ get_writes m address (Some value) values =
 
 put_values : (entries : Entries) (key value : List ℕ) → length value ≡ 32 → AreValues entries → AreValues (put entries key value)
 unfolding AreValues
-put_values entries key value long values q v h = cases (has_place entries key) refl where
+put_values entries key value long values q v h = cases (has_room entries key) refl where
   found : (b : Bool) → cond b (Some value) (map.get entries q) ≡ Some v → length v ≡ 32
   found true e = let same : value ≡ v = some_is _ _ e in subst (λ (w : List ℕ). length w ≡ 32) same long
   found false e = values q v e
 
-  cases : (b : Bool) → has_place entries key ≡ b → length v ≡ 32
+  cases : (b : Bool) → has_room entries key ≡ b → length v ≡ 32
   cases true e =
       found (eq_by_cmp (slice_cmp nat_cmp) q key) (sym (map.get-insert nat_list_cmp_total entries key value q) ∙ sym (ap (λ (p : Bool). map.get (cond p (map.insert entries key value) entries) q) e) ∙ h)
   cases false e = values q v (sym (ap (λ (p : Bool). map.get (cond p (map.insert entries key value) entries) q) e) ∙ h)
@@ -439,7 +439,7 @@ put_answers state m number is means values has inside there =
     record {
       answer = put_effect m key.0 value.0;
       goes = helper_effect m number Put a.value b.value (put_effect m key.0 value.0) is a.value_is b.value_is (put_answer m a.value b.value key.0 value.0 key.1 value.1);
-      small = put_value_small (has_place m.entries key.0);
+      small = put_value_small (has_room m.entries key.0);
       stays = λ k h. h;
       initialized = λ k h. absurd cc;
       values = put_values m.entries key.0 value.0 value.2 values;

@@ -14,7 +14,7 @@ use Rattle.host_types.specs.declared.config.ClientEntry.{ClientEntry}
 use Rattle.host_types.specs.declared.request.Request.{Request}
 use Rattle.host_types.specs.declared.request.Reply.{Reply}
 use Rattle.host_types.specs.Configuration.{Configuration, IsConfiguration, tenants_of, entry_of}
-use Rattle.tenant_maps.specs.Entries.{Entries, has_place, put}
+use Rattle.tenant_maps.specs.Entries.{Entries, has_room, put}
 use Rattle.tenant_maps.proofs.EntriesLemmas.{All-keys-put, All-values-put, count_stays}
 use Rattle.bpf_num.specs.Bind.{◌>>=◌}
 use Rattle.bpf_decode.specs.declared.insn.Insn.{Insn}
@@ -45,7 +45,7 @@ use Rattle.service_core.proofs.Injective.{found_has, last_bounded}
 abbrev order : List ℕ → List ℕ → Rattle.std.specs.declared.cmp.Ordering.Ordering
 order = slice_cmp nat_cmp
 
-sized_insert : (entries : Entries) (key value : List ℕ) → IsSizedMap entries → length key ≡ 16 → length value ≡ 32 → has_place entries key ≡ true → IsSizedMap (finite.insert entries key value)
+sized_insert : (entries : Entries) (key value : List ℕ) → IsSizedMap entries → length key ≡ 16 → length value ≡ 32 → has_room entries key ≡ true → IsSizedMap (finite.insert entries key value)
 sized_insert entries key value is k v room = record {
   keys = subst (λ es. All (λ (x : List ℕ). length x ≡ 16) (map (λ e. e.0) es)) (sym (finite.entries-insert nat_list_cmp_total entries key value)) (All-keys-put (λ x. length x ≡ 16) key value (finite.entries entries) k is.keys);
   values = subst (λ es. All (λ (x : List ℕ). length x ≡ 32) (map (λ e. e.1) es)) (sym (finite.entries-insert nat_list_cmp_total entries key value)) (All-values-put (λ x. length x ≡ 32) key value (finite.entries entries) v is.values);
@@ -53,8 +53,8 @@ sized_insert entries key value is k v room = record {
 }
 
 sized_put : (entries : Entries) (key value : List ℕ) → IsSizedMap entries → length key ≡ 16 → length value ≡ 32 → IsSizedMap (put entries key value)
-sized_put entries key value is k v = cases (has_place entries key) refl where
-  cases : (b : Bool) → has_place entries key ≡ b → IsSizedMap (cond b (finite.insert entries key value) entries)
+sized_put entries key value is k v = cases (has_room entries key) refl where
+  cases : (b : Bool) → has_room entries key ≡ b → IsSizedMap (cond b (finite.insert entries key value) entries)
   cases true room = sized_insert entries key value is k v room
   cases false room = is
 

@@ -8,7 +8,7 @@ use Rattle.std.specs.FinMap as finite
 use Rattle.std.specs.FinMap.Entries.{is_sorted-where_key, find-where_key, where_key, put as put_entry, by_order}
 use Rattle.std.specs.declared.cmp.Ordering.TheVariants.{Less, Equal, Greater}
 use Rattle.std.proofs.lemmas.List.Elements.{All-cons, All-head, All-tail, All-nil}
-use Rattle.tenant_maps.specs.Entries.{Entries, IsKey, IsValue, IsTenantMap, has_place, put, next_key}
+use Rattle.tenant_maps.specs.Entries.{Entries, IsKey, IsValue, IsTenantMap, has_room, put, next_key}
 
 -- the order of the bytes of keys
 abbrev pub order : List ℕ → List ℕ → Ordering
@@ -57,7 +57,7 @@ count_stays false false n m h lt few e = absurd (true≢false (sym h))
 -- The map with an entry that there is room for.
 pub IsTenantMap-insert : (entries : Entries) (key value : List ℕ) → IsTenantMap entries
     → IsKey key → IsValue value
-    → has_place entries key ≡ true → IsTenantMap (finite.insert entries key value)
+    → has_room entries key ≡ true → IsTenantMap (finite.insert entries key value)
 IsTenantMap-insert entries key value is k v room = record {
   keys = subst (λ es. All IsKey (map (λ e. e.0) es)) (sym (finite.entries-insert nat_list_cmp_total entries key value)) (All-keys-put IsKey key value _ k is.keys);
   values = subst (λ es. All IsValue (map (λ e. e.1) es)) (sym (finite.entries-insert nat_list_cmp_total entries key value)) (All-values-put IsValue key value _ v is.values);
@@ -81,7 +81,7 @@ put_cases false entries more is then = is
 pub IsTenantMap-put : (entries : Entries) (key value : List ℕ) → IsTenantMap entries
     → IsKey key → IsValue value
     → IsTenantMap (put entries key value)
-IsTenantMap-put entries key value is k v = put_cases (has_place entries key) _ _ is (IsTenantMap-insert entries key value is k v)
+IsTenantMap-put entries key value is k v = put_cases (has_room entries key) _ _ is (IsTenantMap-insert entries key value is k v)
 
 turned : {A : Type 0} (b : Bool) (x y : A) → cond (not b) x y ≡ cond b y x
 turned true x y = refl
@@ -126,13 +126,13 @@ IsTenantMap-empty =
     }
 
 -- What is read after a put of a key that there is room for.
-pub get-put : (entries : Entries) (key value other : List ℕ) → has_place entries key ≡ true
+pub get-put : (entries : Entries) (key value other : List ℕ) → has_room entries key ≡ true
     → finite.get (put entries key value) other ≡ cond (eq_by_cmp order other key) (Some value) (finite.get entries other)
 get-put entries key value other room =
     ap (λ b. finite.get (cond b (finite.insert entries key value) entries) other) room ∙ finite.get-insert nat_list_cmp_total entries key value other
 
 -- A key is read as it was put.
-pub get-put_here : (entries : Entries) (key value : List ℕ) → has_place entries key ≡ true → finite.get (put entries key value) key ≡ Some value
+pub get-put_here : (entries : Entries) (key value : List ℕ) → has_room entries key ≡ true → finite.get (put entries key value) key ≡ Some value
 get-put_here entries key value room =
     get-put entries key value key room ∙ ap (λ b. cond b (Some value) (finite.get entries key)) ((eq_by_cmp_equiv nat_list_cmp_total).refl key)
 
@@ -176,7 +176,7 @@ put_last key value (e ∷ es) below =
 pub entries-put_last : (entries : Entries) (key value : List ℕ) → All (λ other. order other key ≡ Less) (finite.keys entries) → finite.len entries < 4096
     → finite.entries (put entries key value) ≡ finite.entries entries ++ (key, value) ∷ []
 entries-put_last entries key value below few =
-    let room : has_place entries key ≡ true = ap (λ b. finite.contains_key entries key || b) (lt-ltb (finite.len entries) 4096 few) ∙ or_true (finite.contains_key entries key) in
+    let room : has_room entries key ≡ true = ap (λ b. finite.contains_key entries key || b) (lt-ltb (finite.len entries) 4096 few) ∙ or_true (finite.contains_key entries key) in
     ap (λ b. finite.entries (cond b (finite.insert entries key value) entries)) room
     ∙ finite.entries-insert nat_list_cmp_total entries key value
     ∙ put_last key value (finite.entries entries) below

@@ -17,7 +17,7 @@ use Rattle.std.specs.BTreeMap.Range.{entries_between}
 use Rattle.std.specs.declared.ops.Bound.TheVariants.{Excluded, Unbounded}
 use Rattle.std.specs.FinMap as finite
 use Rattle.std.specs.FinMap.Entries.{is_sorted, below_all}
-use Rattle.tenant_maps.specs.Entries.{Entries, IsKey, IsValue, IsTenantMap, has_place, put, next_key}
+use Rattle.tenant_maps.specs.Entries.{Entries, IsKey, IsValue, IsTenantMap, has_room, put, next_key}
 use Rattle.tenant_maps.specs.TenantEntries.{meaning}
 use Rattle.tenant_maps.proofs.EntriesLemmas.{order, order_tells, or_true, IsTenantMap-empty, IsTenantMap-insert, IsTenantMap-remove, values_after_insert}
 
@@ -93,36 +93,36 @@ or_false true = refl
 or_false false = refl
 
 -- where the map isn't full, each key can be written
-pub has_place-room : (entries : Entries) (key : List ℕ) (n : ℕ) → n ≡ finite.len entries → n < 4096 → nat_lt n 4096 ≡ has_place entries key
-has_place-room entries key n e few =
+pub has_room-few : (entries : Entries) (key : List ℕ) (n : ℕ) → n ≡ finite.len entries → n < 4096 → nat_lt n 4096 ≡ has_room entries key
+has_room-few entries key n e few =
     let below : nat_lt n 4096 ≡ true = lt-ltb n 4096 few in
     below ∙ sym (ap (λ b. finite.contains_key entries key || b) (ap (λ k. nat_lt k 4096) (sym e) ∙ below) ∙ or_true (finite.contains_key entries key))
 
-pub can_insert : (entries : Entries) (key : List ℕ) (n : ℕ) → n ≡ finite.len entries → n < 4096 → has_place entries key ≡ true
-can_insert entries key n e few = sym (has_place-room entries key n e few) ∙ lt-ltb n 4096 few
+pub can_insert : (entries : Entries) (key : List ℕ) (n : ℕ) → n ≡ finite.len entries → n < 4096 → has_room entries key ≡ true
+can_insert entries key n e few = sym (has_room-few entries key n e few) ∙ lt-ltb n 4096 few
 
 -- where it is full, a key that is there can be
-pub has_place-full : (entries : Entries) (key : List ℕ) (n : ℕ) → n ≡ finite.len entries → 4096 ≤ n → finite.contains_key entries key ≡ has_place entries key
-has_place-full entries key n e many =
+pub has_room-full : (entries : Entries) (key : List ℕ) (n : ℕ) → n ≡ finite.len entries → 4096 ≤ n → finite.contains_key entries key ≡ has_room entries key
+has_room-full entries key n e many =
     let full : nat_lt n 4096 ≡ false = le-ltb n 4096 many in
     sym (ap (λ b. finite.contains_key entries key || b) (ap (λ k. nat_lt k 4096) (sym e) ∙ full) ∙ or_false (finite.contains_key entries key))
 
 -- an insertion that there is room for keeps a tenant's map, also where memory ran out
 pub IsTenantMap-after_insert : {X E : Type 0} (m n : BTreeMap (List ℕ) (List ℕ)) (k v : List ℕ) (r : Result X E) → IsOrdered order m → IsOrdered order n
     → OnOk r (Updates order m n k (Some v)) → OnErr r (IsUnchanged m n)
-    → IsTenantMap (meaning m) → IsKey k → IsValue v → has_place (meaning m) k ≡ true → IsTenantMap (meaning n)
+    → IsTenantMap (meaning m) → IsKey k → IsValue v → has_room (meaning m) k ≡ true → IsTenantMap (meaning n)
 IsTenantMap-after_insert m n k v (Ok x) o p u same is key value room =
     subst IsTenantMap (sym (meaning-insert m n k v o p u)) (IsTenantMap-insert (meaning m) k v is key value room)
 IsTenantMap-after_insert m n k v (Err x) o p u same is key value room =
     subst IsTenantMap (sym (meaning-unchanged m n same)) is
 
 -- a key that is there can be written
-pub has_place-stored : (entries : Entries) (key value : List ℕ) → finite.get entries key ≡ Some value → has_place entries key ≡ true
-has_place-stored entries key value e = ap (λ o. is_some o || nat_lt (finite.len entries) 4096) e
+pub has_room-stored : (entries : Entries) (key value : List ℕ) → finite.get entries key ≡ Some value → has_room entries key ≡ true
+has_room-stored entries key value e = ap (λ o. is_some o || nat_lt (finite.len entries) 4096) e
 
 -- a new key can't where the map is full
-pub has_place-new : (entries : Entries) (key : List ℕ) → finite.get entries key ≡ None → 4096 ≤ finite.len entries → has_place entries key ≡ false
-has_place-new entries key e many = ap (λ o. is_some o || nat_lt (finite.len entries) 4096) e ∙ le-ltb (finite.len entries) 4096 many
+pub has_room-new : (entries : Entries) (key : List ℕ) → finite.get entries key ≡ None → 4096 ≤ finite.len entries → has_room entries key ≡ false
+has_room-new entries key e many = ap (λ o. is_some o || nat_lt (finite.len entries) 4096) e ∙ le-ltb (finite.len entries) 4096 many
 
 -- a value written over another keeps a tenant's map
 pub IsTenantMap-after_overwrite : (m n : BTreeMap (List ℕ) (List ℕ)) (k v old : List ℕ) → IsOrdered order m → IsOrdered order n → Updates order m n k (Some v) → tree.keys n ≡ tree.keys m
@@ -145,12 +145,12 @@ room_of_new true few h new = absurd (true≢false new)
 room_of_new false few h new = h
 
 -- room for a new key is room for one entry more
-pub room-has_place : (entries : Entries) (key : List ℕ) → has_place entries key ≡ true → finite.get entries key ≡ None → finite.len entries < 4096
-room-has_place entries key room new =
+pub few-has_room : (entries : Entries) (key : List ℕ) → has_room entries key ≡ true → finite.get entries key ≡ None → finite.len entries < 4096
+few-has_room entries key room new =
     ltb-true (finite.len entries) 4096 (room_of_new (finite.contains_key entries key) _ room (ap is_some new))
 
 pub meaning-put : (m n : BTreeMap (List ℕ) (List ℕ)) (k v : List ℕ) → IsOrdered order m → IsOrdered order n → Updates order m n k (Some v)
-    → has_place (meaning m) k ≡ true → meaning n ≡ put (meaning m) k v
+    → has_room (meaning m) k ≡ true → meaning n ≡ put (meaning m) k v
 meaning-put m n k v o p u room =
     meaning-insert m n k v o p u ∙ sym (ap (λ b. cond b (finite.insert (meaning m) k v) (meaning m)) room)
 
@@ -167,4 +167,4 @@ pub IsValue-from : (value : List ℕ) → length value ≡ 32 → ((i : ℕ) →
 IsValue-from value e bytes = (e, All-from_get_or (λ byte. byte < 256) value 0 (λ i _. bytes i))
 
 -- What an ordered map means, and what its calls do to the meaning.
-pub ruleset meanings = (entries-meaning, get-meaning, len-meaning, meaning-unchanged, meaning-put, meaning-remove, meaning-empty, IsTenantMap-empty, IsTenantMap-after_insert, IsTenantMap-after_remove, IsKey-from, IsValue-from, has_place-room, has_place-full, on_err, room-has_place)
+pub ruleset meanings = (entries-meaning, get-meaning, len-meaning, meaning-unchanged, meaning-put, meaning-remove, meaning-empty, IsTenantMap-empty, IsTenantMap-after_insert, IsTenantMap-after_remove, IsKey-from, IsValue-from, has_room-few, has_room-full, on_err, few-has_room)

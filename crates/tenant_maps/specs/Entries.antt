@@ -23,12 +23,12 @@ pub record IsTenantMap (entries : Entries) : Type 0 where
   pub count : map.len entries ≤ 4096
 
 -- Whether the key can be written: it is in the map already, or the map has room for one entry more.
-abbrev pub has_place : Entries → List ℕ → Bool
-has_place entries key = map.contains_key entries key || nat_lt (map.len entries) 4096
+abbrev pub has_room : Entries → List ℕ → Bool
+has_room entries key = map.contains_key entries key || nat_lt (map.len entries) 4096
 
 -- The map after the key was written: as it was, where there was no room.
 abbrev pub put : Entries → List ℕ → List ℕ → Entries
-put entries key value = cond (has_place entries key) (map.insert entries key value) entries
+put entries key value = cond (has_room entries key) (map.insert entries key value) entries
 
 -- The least key greater than this one, in the order of the bytes: the first such, since the keys ascend.
 abbrev pub next_key : Entries → List ℕ → Option (List ℕ)

@@ -1,6 +1,6 @@
 ghost use Rattle.std.specs.Prelude.{◌≡◌, ◌++◌, IfOk, Some, true, flat_map};
 ghost use Rattle.std.specs.FinMap as map;
-ghost use Rattle.tenant_maps.specs.Entries.{has_place};
+ghost use Rattle.tenant_maps.specs.Entries.{has_room};
 
 use super::*;
 use std::alloc::{AllocError, Global};
@@ -13,7 +13,7 @@ fn written<P: MapPort>(
     key: [u8; 16],
     value: [u8; 32],
 ) -> Result<Option<[u8; 32]>, AllocError>
-    ensures { IfOk result (λ found. has_place (P.entries port.old) key ≡ true → found ≡ Some value) }
+    ensures { IfOk result (λ found. has_room (P.entries port.old) key ≡ true → found ≡ Some value) }
 {
     port.put(key, value)?;
     Ok(port.get(&key))
@@ -32,7 +32,7 @@ fn written_in_map(
     key: [u8; 16],
     value: [u8; 32],
 ) -> Result<Option<[u8; 32]>, AllocError>
-    ensures { IfOk result (λ found. has_place tenant_map.old.entries key ≡ true → found ≡ Some value) }
+    ensures { IfOk result (λ found. has_room tenant_map.old.entries key ≡ true → found ≡ Some value) }
 {
     written(tenant_map, key, value)
 }

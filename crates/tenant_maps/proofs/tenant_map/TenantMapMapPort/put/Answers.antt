@@ -1,16 +1,16 @@
 use Rattle.std.proofs.Common.{◌≡◌, refl, Some, IsSome, sym, ap, subst, ◌∙◌, rules}
 use Rattle.std.specs.Option.{option_copied_mut}
 use Rattle.std.specs.BTreeMap as tree
-use Rattle.tenant_maps.specs.Entries.{has_place}
+use Rattle.tenant_maps.specs.Entries.{has_room}
 use Rattle.tenant_maps.proofs.EntriesLemmas.{order}
-use Rattle.tenant_maps.proofs.MeaningLemmas.{IsTenantMap-after_insert, IsTenantMap-after_overwrite, IsKey-from, IsValue-from, has_place-room, can_insert}
+use Rattle.tenant_maps.proofs.MeaningLemmas.{IsTenantMap-after_insert, IsTenantMap-after_overwrite, IsKey-from, IsValue-from, has_room-few, can_insert}
 use Rattle.tenant_maps.proofs.tenant_map.TenantMapMapPort.put.Goals as goal
 
 pub invariant_of-self-inside : goal.invariant_of-self-inside
 invariant_of-self-inside c =
     let key = IsKey-from c.args.key (search rules) (search rules) in
     let value = IsValue-from c.args.value (search rules) (search rules) in
-    let room = ap (λ map. has_place map.entries c.args.key) c.self.view_is ∙ can_insert c.args.self.now.entries c.args.key c.len.result c.len.ensures c.if-len-lt-MAX_ENTRIES.true in
+    let room = ap (λ map. has_room map.entries c.args.key) c.self.view_is ∙ can_insert c.args.self.now.entries c.args.key c.len.result c.len.ensures c.if-len-lt-MAX_ENTRIES.true in
     (IsTenantMap-after_insert c.self.inside.map c.insert.new.self c.args.key c.args.value c.insert.result c.self.invariant c.insert.ensures.ordered c.insert.ensures.updates c.insert.ensures.err c.self.inside.bounded key value room, tt)
 
 pub invariant_of-self-inside-2 : goal.invariant_of-self-inside-2
