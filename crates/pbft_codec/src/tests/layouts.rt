@@ -27,6 +27,21 @@ const PREPARE: Prepare = Prepare {
     digest: DIGEST,
 };
 
+const COMMIT: Commit = Commit {
+    view: VIEW,
+    number: NUMBER,
+    digest: DIGEST,
+};
+
+const CHECKPOINT: Checkpoint = Checkpoint {
+    number: NUMBER,
+    digest: DIGEST,
+};
+
+const NUMBER_HEX: &str = "0000060708090a0b";
+
+const DIGEST_HEX: &str = "000102030405060708090a0b0c0d0e0f101112131415161718191a1b1c1d1e1f";
+
 // The body in a message of replica 0x01020304 with the signature aa.
 fn body_of(alloc: Global, pieces: &[&str]) -> Result<Body, Fail> {
     let body = bytes_of(alloc, pieces)?;
@@ -40,16 +55,35 @@ fn body_of(alloc: Global, pieces: &[&str]) -> Result<Body, Fail> {
     Ok(body)
 }
 
-#[test]
-fn requests_and_replies(rt: HostRuntime) -> Result<(), Fail> {
-    let request = ["01", "0102030405060708", "00000002", "6162"];
-    match body_of(rt.alloc(), &request)? {
-        Body::Request(r) => {
-            assert_eq!(rt; r.time, 0x0102030405060708);
-            assert_eq!(rt; r.op.as_slice(), b"ab".as_slice());
-        }
-        _ => assert!(rt; false, "another kind"),
+fn is_request(body: &Body, time: u64, op: &[u8]) -> bool {
+    match body {
+        Body::Request(r) => r.time == time && r.op.as_slice() == op,
+        _ => false,
     }
+}
+
+#[test]
+fn requests(rt: HostRuntime) -> Result<(), Fail> {
+    let body = body_of(rt.alloc(), &["01", "0102030405060708", "00000002", "6162"])?;
+    assert!(rt; is_request(&body, 0x0102030405060708, b"ab"));
+    Ok(())
+}
+
+fn is_reply(body: &Body, client: ClientId, time: u64, number: SeqNo, outcome: &[u8]) -> bool {
+    match body {
+        Body::Reply(r) => {
+            r.view == VIEW
+                && r.client == client
+                && r.time == time
+                && r.number == number
+                && r.result.as_slice() == outcome
+        }
+        _ => false,
+    }
+}
+
+#[test]
+fn replies(rt: HostRuntime) -> Result<(), Fail> {
     let reply = [
         "05",
         "01020304",
@@ -59,67 +93,80 @@ fn requests_and_replies(rt: HostRuntime) -> Result<(), Fail> {
         "00000001",
         "ff",
     ];
-    match body_of(rt.alloc(), &reply)? {
-        Body::Reply(r) => {
-            assert_eq!(rt; r.view, VIEW);
-            assert_eq!(rt; r.client, ClientId(0x11121314));
-            assert_eq!(rt; r.time, 0x2122232425262728);
-            assert_eq!(rt; r.number, SeqNo(0x313233343536));
-            assert_eq!(rt; r.result.as_slice(), [0xff].as_slice());
-        }
-        _ => assert!(rt; false, "another kind"),
-    }
+    let body = body_of(rt.alloc(), &reply)?;
+    let (client, time) = (ClientId(0x11121314), 0x2122232425262728);
+    assert!(rt; is_reply(&body, client, time, SeqNo(0x313233343536), &[0xff]));
     Ok(())
 }
 
-#[test]
-fn votes_and_checkpoints(rt: HostRuntime) -> Result<(), Fail> {
-    let digest = "000102030405060708090a0b0c0d0e0f101112131415161718191a1b1c1d1e1f";
-    let fields = ["01020304", "0000060708090a0b", digest];
-    match body_of(rt.alloc(), &["02", fields[0], fields[1], fields[2]])? {
-        Body::PrePrepare(p) => assert_eq!(rt; p, PRE_PREPARE),
-        _ => assert!(rt; false, "another kind"),
+fn is_pre_prepare(body: &Body) -> bool {
+    match body {
+        Body::PrePrepare(p) => *p == PRE_PREPARE,
+        _ => false,
     }
-    match body_of(rt.alloc(), &["03", fields[0], fields[1], fields[2]])? {
-        Body::Prepare(p) => assert_eq!(rt; p, PREPARE),
-        _ => assert!(rt; false, "another kind"),
+}
+
+fn is_prepare(body: &Body) -> bool {
+    match body {
+        Body::Prepare(p) => *p == PREPARE,
+        _ => false,
     }
-    match body_of(rt.alloc(), &["04", fields[0], fields[1], fields[2]])? {
-        Body::Commit(c) => {
-            assert_eq!(rt; c.view, VIEW);
-            assert_eq!(rt; c.number, NUMBER);
-            assert_eq!(rt; c.digest, DIGEST);
-        }
-        _ => assert!(rt; false, "another kind"),
+}
+
+fn is_commit(body: &Body) -> bool {
+    match body {
+        Body::Commit(c) => *c == COMMIT,
+        _ => false,
     }
-    match body_of(rt.alloc(), &["06", fields[1], fields[2]])? {
-        Body::Checkpoint(c) => {
-            assert_eq!(rt; c.number, NUMBER);
-            assert_eq!(rt; c.digest, DIGEST);
-        }
-        _ => assert!(rt; false, "another kind"),
-    }
-    Ok(())
 }
 
 #[test]
-fn fetches_and_snapshots(rt: HostRuntime) -> Result<(), Fail> {
-    let digest = "000102030405060708090a0b0c0d0e0f101112131415161718191a1b1c1d1e1f";
-    match body_of(rt.alloc(), &["09", "01", digest])? {
-        Body::Fetch(f) => assert_eq!(rt; f, Fetch::Request(DIGEST)),
-        _ => assert!(rt; false, "another kind"),
+fn votes(rt: HostRuntime) -> Result<(), Fail> {
+    let body = body_of(rt.alloc(), &["02", "01020304", NUMBER_HEX, DIGEST_HEX])?;
+    assert!(rt; is_pre_prepare(&body));
+    let body = body_of(rt.alloc(), &["03", "01020304", NUMBER_HEX, DIGEST_HEX])?;
+    assert!(rt; is_prepare(&body));
+    let body = body_of(rt.alloc(), &["04", "01020304", NUMBER_HEX, DIGEST_HEX])?;
+    assert!(rt; is_commit(&body));
+    Ok(())
+}
+
+fn is_checkpoint(body: &Body) -> bool {
+    match body {
+        Body::Checkpoint(c) => *c == CHECKPOINT,
+        _ => false,
     }
-    match body_of(rt.alloc(), &["09", "02", "0000060708090a0b"])? {
-        Body::Fetch(f) => assert_eq!(rt; f, Fetch::State(NUMBER)),
-        _ => assert!(rt; false, "another kind"),
+}
+
+fn is_snapshot(body: &Body, state: &[u8]) -> bool {
+    match body {
+        Body::Snapshot(s) => s.number == NUMBER && s.state.as_slice() == state,
+        _ => false,
     }
-    match body_of(rt.alloc(), &["0a", "0000060708090a0b", "00000002", "abcd"])? {
-        Body::Snapshot(s) => {
-            assert_eq!(rt; s.number, NUMBER);
-            assert_eq!(rt; s.state.as_slice(), [0xab, 0xcd].as_slice());
-        }
-        _ => assert!(rt; false, "another kind"),
+}
+
+#[test]
+fn checkpoints_and_snapshots(rt: HostRuntime) -> Result<(), Fail> {
+    let body = body_of(rt.alloc(), &["06", NUMBER_HEX, DIGEST_HEX])?;
+    assert!(rt; is_checkpoint(&body));
+    let body = body_of(rt.alloc(), &["0a", NUMBER_HEX, "00000002", "abcd"])?;
+    assert!(rt; is_snapshot(&body, &[0xab, 0xcd]));
+    Ok(())
+}
+
+fn is_fetch(body: &Body, fetch: Fetch) -> bool {
+    match body {
+        Body::Fetch(f) => *f == fetch,
+        _ => false,
     }
+}
+
+#[test]
+fn fetches(rt: HostRuntime) -> Result<(), Fail> {
+    let body = body_of(rt.alloc(), &["09", "01", DIGEST_HEX])?;
+    assert!(rt; is_fetch(&body, Fetch::Request(DIGEST)));
+    let body = body_of(rt.alloc(), &["09", "02", NUMBER_HEX])?;
+    assert!(rt; is_fetch(&body, Fetch::State(NUMBER)));
     Ok(())
 }
 
@@ -136,46 +183,58 @@ const NEW_VIEW: &[&str] = &[
     "0b0c0d0e0f101112131415161718191a1b1c1d1e1f00000001ee",
 ];
 
+fn is_proposal(message: &Signed<PrePrepare>, id: u32) -> bool {
+    message.id == id && message.body == PRE_PREPARE
+}
+
+fn is_certificate(certificate: &Certificate) -> bool {
+    match certificate.prepares.as_slice() {
+        [prepare] => {
+            is_proposal(&certificate.pre_prepare, 6) && prepare.id == 7 && prepare.body == PREPARE
+        }
+        _ => false,
+    }
+}
+
+fn is_signed_checkpoint(message: &Signed<Checkpoint>) -> bool {
+    message.id == 5 && message.body == CHECKPOINT && message.sig.as_slice() == [0xcc].as_slice()
+}
+
+fn is_view_change(change: &ViewChange) -> bool {
+    match (
+        change.checkpoints.as_slice(),
+        change.certificates.as_slice(),
+    ) {
+        ([checkpoint], [certificate]) => {
+            change.view == VIEW
+                && change.low == NUMBER
+                && is_signed_checkpoint(checkpoint)
+                && is_certificate(certificate)
+        }
+        _ => false,
+    }
+}
+
+fn is_new_view(entry: &NewView) -> bool {
+    match (entry.changes.as_slice(), entry.pre_prepares.as_slice()) {
+        ([change], [proposal]) => {
+            entry.view == VIEW
+                && change.id == 8
+                && is_view_change(&change.body)
+                && is_proposal(proposal, 9)
+                && proposal.sig.as_slice() == [0xee].as_slice()
+        }
+        _ => false,
+    }
+}
+
 #[test]
 fn new_views_and_what_they_hold(rt: HostRuntime) -> Result<(), Fail> {
-    let Body::NewView(entry) = body_of(rt.alloc(), NEW_VIEW)? else {
-        return Err("another kind")?;
+    let body = body_of(rt.alloc(), NEW_VIEW)?;
+    let as_wanted = match &body {
+        Body::NewView(entry) => is_new_view(entry),
+        _ => false,
     };
-    assert_eq!(rt; entry.view, VIEW);
-    let [change] = entry.changes.as_slice() else {
-        return Err("not one view change")?;
-    };
-    let [proposal] = entry.pre_prepares.as_slice() else {
-        return Err("not one proposal")?;
-    };
-    assert_eq!(rt; (proposal.id, proposal.body), (9, PRE_PREPARE));
-    assert_eq!(rt; proposal.sig.as_slice(), [0xee].as_slice());
-    assert_eq!(rt;
-        (change.id, change.body.view, change.body.low),
-        (8, VIEW, NUMBER)
-    );
-    let [checkpoint] = change.body.checkpoints.as_slice() else {
-        return Err("not one checkpoint")?;
-    };
-    assert_eq!(rt;
-        (
-            checkpoint.id,
-            checkpoint.body.number,
-            checkpoint.body.digest
-        ),
-        (5, NUMBER, DIGEST)
-    );
-    assert_eq!(rt; checkpoint.sig.as_slice(), [0xcc].as_slice());
-    let [certificate] = change.body.certificates.as_slice() else {
-        return Err("not one certificate")?;
-    };
-    assert_eq!(rt;
-        (certificate.pre_prepare.id, certificate.pre_prepare.body),
-        (6, PRE_PREPARE)
-    );
-    let [prepare] = certificate.prepares.as_slice() else {
-        return Err("not one Prepare")?;
-    };
-    assert_eq!(rt; (prepare.id, prepare.body), (7, PREPARE));
+    assert!(rt; as_wanted);
     Ok(())
 }
