@@ -192,6 +192,7 @@ fn a_small_state_as_bytes(rt: HostRuntime) -> Result<(), Fail> {
         state.digest().0,
         <Sha256 as Digest>::digest(bytes.as_slice())
     );
+    assert_eq!(rt; state.number().0, 2);
     let outcome = state.apply(None)?;
     assert_eq!(rt; outcome.number.0, 3);
     assert!(rt; outcome.reply.is_none());
@@ -255,12 +256,13 @@ fn a_full_state_as_bytes(rt: HostRuntime) -> Result<(), Fail> {
 fn each_tenant_has_its_own_procedures(rt: HostRuntime) -> Result<(), Fail> {
     let alloc = rt.alloc();
     let mut state = State::genesis(alloc, config(alloc, &[(300, 2), (100, 1), (200, 1)])?)?;
-    let mut ids = Vec::new(alloc);
+    let mut results = String::new(alloc);
     for client in [100, 300, 200] {
         let outcome = apply(&mut state, &request(client, 1, install(alloc, SEVEN)?))?;
-        ids.push(outcome.reply.ok_or("no reply")?.result.as_slice()[4..].to_vec(alloc)?)?;
+        let reply = outcome.reply.ok_or("no reply")?;
+        results.push_str(encode(alloc, reply.result.as_slice())?.as_str())?;
     }
-    assert_eq!(rt; encode(alloc, &ids.concat(alloc)?)?.as_str(), "000001");
+    assert_eq!(rt; results.as_str(), "000000000000000000000000000001");
     assert_eq!(rt;
         state.last_reply(ClientId(300)).ok_or("no reply")?.number.0,
         2
