@@ -59,7 +59,7 @@ pub from_chosen : (c : Setup) (me : ℕ) (s : Core) (m : Signed ViewChange) → 
 from_chosen c me s m h = let w = from_gathered (is_chosen c me s) (change_of s) (replicas c) m h in (w.0, w.2)
 
 module _ (c : Setup) (family : Family) (u : IsUnforged c family) where
-  signed_real : {B : Type 0} (kind : B → Body) (i : ℕ) (test : B → Bool) (m : Signed B) → is_by i test m ≡ true → RealAs c family kind m → IsCorrect c family.faulty i
+  pub signed_real : {B : Type 0} (kind : B → Body) (i : ℕ) (test : B → Bool) (m : Signed B) → is_by i test m ≡ true → RealAs c family kind m → IsCorrect c family.faulty i
       → HasSigned (record { role = Replica; id = i; body = kind m.body }) (family.acts i)
   signed_real kind i test m e real correct =
       let by = by_is i test m e in

@@ -17,3 +17,16 @@ pub mod Fine
 pub mod Rowed
 pub mod Unique
 pub mod Executing
+pub mod Origins
+pub mod Holdings
+pub mod Texts
+pub mod Fitting
+pub mod ByNumber
+pub mod Reactions
+pub mod Telling
+pub mod OverJournals
+pub mod Leaves
+pub mod Steady
+pub mod Example
+pub mod Later
+pub mod Following

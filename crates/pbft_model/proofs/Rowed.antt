@@ -23,7 +23,7 @@ module _ (c : Setup) (me : ℕ) (signer : SigningState) where
   followed [] acts t is same = (acts, is, sym same)
   followed (a ∷ done) acts t is (does, leaves, rest) = followed done (a ∷ acts) t (is, due_allowed acts is a does) rest
 
-  begun : (s : Core) (input : Input) (a : Act) → Begins c input a → Allowed c me s a
+  pub begun : (s : Core) (input : Input) (a : Act) → Begins c input a → Allowed c me s a
   begun s (Received m) a (reading, may, same) = subst (λ (x : Act). Allowed c me s x) (sym same) may
   begun s TimedOut a same = subst (λ (x : Act). Allowed c me s x) (sym same) tt
 

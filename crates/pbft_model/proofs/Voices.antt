@@ -3,7 +3,7 @@ use Rattle.std.proofs.Common.{◌≡◌, ℕ, ◌<◌, true, ◌&&◌, List, ◌
 use Rattle.std.specs.Prelude.{◌==◌}
 use Rattle.std.specs.List.{list_all}
 use Rattle.std.proofs.lemmas.Bool.{true≢false, and_parts, eqb-true, eq-eqb, or_left}
-use Rattle.pbft_model.specs.Words.{Signed, Body, PrePrepare, Prepare, Commit, ViewChange, NewView, Replica, Part, part_of, as_message}
+use Rattle.pbft_model.specs.Words.{Signed, Body, PrePrepare, Prepare, Commit, Checkpoint, ViewChange, NewView, Replica, Part, part_of, as_message}
 use Rattle.pbft_codec.specs.declared.body.Body.TheVariants as bodies
 use Rattle.pbft_model.specs.Setup.{Setup, primary}
 use Rattle.pbft_model.specs.Certificates.{Fields, of_pre_prepare, of_prepare, of_commit}
@@ -86,6 +86,9 @@ module _ (c : Setup) (family : Family) where
 
     pub change_said : (i : ℕ) (b : ViewChange) → IsCorrect c family.faulty i → HasSigned (part_by i (bodies.ViewChange b)) (family.acts i) → Said i (bodies.ViewChange b)
     change_said i b correct h = alone i (bodies.ViewChange b) (λ q e. cc) correct h
+
+    pub checkpoint_said : (i : ℕ) (b : Checkpoint) → IsCorrect c family.faulty i → HasSigned (part_by i (bodies.Checkpoint b)) (family.acts i) → Said i (bodies.Checkpoint b)
+    checkpoint_said i b correct h = alone i (bodies.Checkpoint b) (λ q e. cc) correct h
 
     pub new_view_said : (i : ℕ) (b : NewView) → IsCorrect c family.faulty i → HasSigned (part_by i (bodies.NewView b)) (family.acts i) → Said i (bodies.NewView b)
     new_view_said i b correct h = alone i (bodies.NewView b) (λ q e. cc) correct h

@@ -1,14 +1,37 @@
 -- The worked histories.
-use Rattle.std.proofs.Common.{ℕ, List, Some, refl, arith}
+use Rattle.std.proofs.Common.{◌≡◌, ℕ, true, List, [], ◌∷◌, Option, Some, None, refl, sym, subst, arith}
+use Rattle.std.specs.Prelude.{MatchBool, MatchOption, nat_lt, false, ◌==◌}
+use Rattle.std.specs.Ordering.{nat_cmp}
+use Rattle.std.specs.Cmp.{nat_cmp_total}
+use Rattle.std.specs.FinMap as finite
+use Rattle.std.specs.FinMap.{get-empty, get-insert}
+use Rattle.host_types.specs.declared.request.Reply.{Reply}
+use Rattle.service_core.specs.TenantStates.{TenantState, empty_tenant}
+use Rattle.service_core.specs.Steps.{Executes, IsTenantStep}
 use Rattle.pbft_model.specs.Sequential.{Service, IsStep, genesis_of}
 use Rattle.pbft_model.specs.Setup.{request_in}
 use Rattle.pbft_model.specs.Core.{start_of}
-use Rattle.pbft_model.specs.Worked.{Works, toy, through_backup, the_request, the_outcome, fresh, changing_view, reaching_a_checkpoint, installing, after_null, no_reply, through_all, IsDiscarded, joining_view}
+use Rattle.pbft_model.specs.Worked.{Works, toy, serving, the_client, through_backup, through_primary, after_request, the_request, the_reply, the_outcome, fresh, changing_view, reaching_a_checkpoint, installing, after_null, no_reply, through_all, IsDiscarded, joining_view}
 
-pub backup_works : (id secret : List ℕ) (service : Service) → IsStep (genesis_of toy.config) (Some (request_in the_request)) service the_outcome
-    → Works toy 1 (start_of toy (fresh id secret)) (through_backup id secret service)
-backup_works id secret service step = (
-  record { follows = refl; rests = refl },
+-- the request is served: it is its client's first
+pub request_serves : (f k : ℕ) (keys : List (List ℕ)) (key : List ℕ)
+    → IsStep (genesis_of (record { f = f; k = k; keys = keys; clients = the_client key ∷ [] })) (Some (request_in the_request))
+    (after_request (record { f = f; k = k; keys = keys; clients = the_client key ∷ [] })) the_outcome
+request_serves f k keys key = record { part = empty_tenant 0; is_part = refl; changed = changed; step = first_time; state_is = refl; number_is = refl } where
+  changed : TenantState
+  changed = record { tenant = 0; procedures = []; entries = finite.empty; last_replies = finite.insert finite.empty 100 the_reply }
+
+  Doing : Type 0
+  Doing = Executes 1 (empty_tenant 0) (request_in the_request) changed (Some the_reply) false
+
+  first_time : IsTenantStep 1 (empty_tenant 0) (request_in the_request) changed (Some the_reply) false
+  first_time = subst (λ (o : Option Reply). MatchOption o Doing (λ last. MatchBool (nat_lt 1 last.time) ((changed ≡ empty_tenant 0) × (Some the_reply ≡ None) × (false ≡ false))
+      (MatchBool (1 == last.time) ((changed ≡ empty_tenant 0) × (Some the_reply ≡ Some last) × (false ≡ true)) Doing))) (sym (get-empty nat_cmp 100))
+      (record { procedures = []; entries = finite.empty; result = 1 ∷ []; does = (refl, refl, refl); part_is = refl; reply_is = refl; is_new = refl })
+
+pub backup_works : (id secret : List ℕ) → Works serving 1 (start_of serving (fresh id secret)) (through_backup id secret)
+backup_works id secret = (
+  record { follows = refl; rests = rw get-empty },
   (
     record { follows = (refl, omega arith, refl); rests = refl },
     (
@@ -16,7 +39,28 @@ backup_works id secret service step = (
       (
         record { follows = refl; rests = refl },
         (
-          record { follows = ((service, the_outcome, step, refl), omega arith, (refl, omega arith, refl)); rests = refl },
+          record { follows = ((after_request serving.config, the_outcome, request_serves 1 2 [] [], refl), omega arith, (refl, omega arith, refl)); rests = refl },
+          tt,
+        ),
+      ),
+    ),
+  ),
+)
+
+pub primary_works : (id secret : List ℕ) → Works serving 0 (start_of serving (fresh id secret)) (through_primary id secret)
+primary_works id secret = (
+  record { follows = (rw get-empty, omega arith, refl); rests = rw get-empty },
+  (
+    record { follows = refl; rests = rw get-empty },
+    (
+      record { follows = (rw get-empty, omega arith, refl); rests = rw get-empty },
+      (
+        record { follows = refl; rests = rw get-empty },
+        (
+          record {
+            follows = (rw get-empty (after_request serving.config, the_outcome, request_serves 1 2 [] [], refl), omega arith, (refl, omega arith, refl));
+            rests = rw (get-insert nat_cmp_total);
+          },
           tt,
         ),
       ),

@@ -200,10 +200,7 @@ said c s m (bodies.Commit b) = record s {
   committed_numbers = b.number.0 ∷ s.committed_numbers;
 }
 said c s m (bodies.Reply b) = record s { reply_due = None }
-said c s m (bodies.Checkpoint b) = record s {
-  checkpoints = add_checkpoint s.low (with_body m b) s.checkpoints;
-  checkpoint_due = false;
-}
+said c s m (bodies.Checkpoint b) = record s { checkpoints = add_checkpoint s.low (with_body m b) s.checkpoints; checkpoint_due = false }
 said c s m (bodies.ViewChange b) =
     let t = left_for c s b.view.0 in
     record t { changes = add_change t true (with_body m b) t.changes }

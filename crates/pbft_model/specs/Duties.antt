@@ -1,5 +1,5 @@
 -- Statement: what a replica must do next. The first item that is due is done, and the list begins anew.
-use Rattle.std.specs.Prelude.{ℕ, ◌+◌, ◌==◌, Bool, true, ◌&&◌, not, nat_lt, nat_le, List, [], ◌∷◌, filter, find, min, Option, Some, None, bytes_eq, if◌then◌else◌}
+use Rattle.std.specs.Prelude.{◌≡◌, ℕ, ◌+◌, ◌==◌, Bool, true, ◌&&◌, not, nat_lt, nat_le, List, [], ◌∷◌, filter, find, min, Option, Some, None, bytes_eq, if◌then◌else◌}
 use Rattle.std.specs.List.{list_any}
 use Rattle.pbft_model.specs.Words.{Signed, Body, RequestBody, PrePrepare, Checkpoint, Snapshot, ViewChange, Reply, Fetch, as_message}
 use Rattle.pbft_codec.specs.declared.body.Body.TheVariants as bodies
@@ -310,3 +310,17 @@ due c me s =
     (or_else (due_open c me s)
     (or_else (due_fetch_state c me s)
     (due_fetch_request c me s)))))))))))))))
+
+-- None of the duties that come before to execute is due.
+pub record NothingBefore (c : Setup) (me : ℕ) (s : Core) : Type 0 where
+  pub timeout : due_on_timeout c me s ≡ None
+  pub reply : due_reply me s s.reply_due ≡ None
+  pub checkpoint : due_checkpoint c me s ≡ None
+  pub answer : due_answer me s ≡ None
+  pub supply : due_supply c me s ≡ None
+  pub enter : due_enter c s ≡ None
+  pub install : due_install c s ≡ None
+  pub rise : due_rise c s ≡ None
+  pub propose : due_propose c me s ≡ None
+  pub prepare : due_prepare c me s ≡ None
+  pub commit : due_commit c me s ≡ None

@@ -99,6 +99,30 @@ AgreesByView c family =
     (i j view view' number : ℕ) (digest digest' : List ℕ) → HasCommitted c family i view number digest
     → HasCommitted c family j view' number digest' → digest ≡ digest'
 
+-- What is neither a ViewChange nor a NewView.
+abbrev pub IsSteadyBody : Body → Type 0
+IsSteadyBody (bodies.Request b) = Unit {0}
+IsSteadyBody (bodies.PrePrepare b) = Unit {0}
+IsSteadyBody (bodies.Prepare b) = Unit {0}
+IsSteadyBody (bodies.Commit b) = Unit {0}
+IsSteadyBody (bodies.Reply b) = Unit {0}
+IsSteadyBody (bodies.Checkpoint b) = Unit {0}
+IsSteadyBody (bodies.ViewChange b) = ⊥
+IsSteadyBody (bodies.NewView b) = ⊥
+IsSteadyBody (bodies.Fetch b) = Unit {0}
+IsSteadyBody (bodies.Snapshot b) = Unit {0}
+
+-- An act that changes no view and installs nothing.
+abbrev pub IsSteady : Act → Type 0
+IsSteady (Take m reading) = Unit {0}
+IsSteady Timeout = Unit {0}
+IsSteady (Send to m) = IsSteadyBody m.body
+IsSteady (Relay to m) = Unit {0}
+IsSteady (Enter m) = ⊥
+IsSteady (Rise number digest) = Unit {0}
+IsSteady (Execute number digest service outcome) = Unit {0}
+IsSteady (Install number bytes service) = ⊥
+
 -- A replica executed the number with the digest.
 pub record HasExecuted (c : Setup) (family : Family) (i number : ℕ) (digest : List ℕ) : Type 0 where
   pub correct : IsCorrect c family.faulty i

@@ -1,14 +1,14 @@
 -- Statement: a row is what one message or one timeout makes a replica do, up to where nothing is due; a journal
 -- is a list of rows.
-use Rattle.std.specs.Prelude.{◌≡◌, ℕ, ◌+◌, ◌<◌, ◌≤◌, Bool, true, false, List, [], ◌∷◌, ◌++◌, Option, Some, None}
+use Rattle.std.specs.Prelude.{◌≡◌, ℕ, ◌+◌, ◌%◌, ◌==◌, ◌<◌, ◌≤◌, Bool, true, false, List, [], ◌∷◌, ◌++◌, Option, Some, None}
 use Rattle.pbft_model.specs.Words.{SigningState, leaf_count, IsKeyOf, Signed, Body, Replica, Reply}
 use Rattle.seal.specs.Signers.{key_of}
 use Rattle.pbft_model.specs.Sequential.{Service, Outcome, IsStep}
 use Rattle.pbft_model.specs.Setup.{Setup}
 use Rattle.pbft_model.specs.Core.{Core, start_of, request_of}
-use Rattle.pbft_model.specs.Acts.{Act, Take, Timeout, Send, Relay, Enter, Rise, Execute, Install, Destination, after, leaves_of}
-use Rattle.pbft_model.specs.Rules.{MayTake}
-use Rattle.pbft_model.specs.Duties.{Duty, Do, Executing, WornOut, due}
+use Rattle.pbft_model.specs.Acts.{Act, Take, Timeout, Send, Relay, Enter, Rise, Execute, Install, Destination, ToClient, after, leaves_of}
+use Rattle.pbft_model.specs.Rules.{MayTake, own_message}
+use Rattle.pbft_model.specs.Duties.{Duty, Do, Executing, WornOut, say, reply_body, due, NothingBefore}
 
 -- ---- rows
 
@@ -119,6 +119,19 @@ pub record IsNext (c : Setup) (me : ℕ) (s : Core) (row : Row) (t : Core) : Typ
   pub done : row.done ≡ all_done c acts
   pub leaves : row.leaves ≡ all_leaves acts
 
+-- ---- executions one after another
+
+-- A number is due to be executed that is no multiple of the checkpoint interval, and this is the service's step.
+pub record FollowsWithout (c : Setup) (me : ℕ) (s : Core) (number : ℕ) (digest : List ℕ) (service : Service) (outcome : Outcome) : Type 0 where
+  pub is_due : due c me s ≡ Some (Executing number digest)
+  pub step : IsStep s.service (request_of c s digest) service outcome
+  pub between : (number % c.config.k == 0) ≡ false
+
+-- The reply alone is due, and then nothing that comes before to execute.
+pub record RepliesAlone (c : Setup) (me : ℕ) (s : Core) (reply : Reply) : Type 0 where
+  pub first : due c me s ≡ Some (say me s (ToClient reply.client.0) (reply_body s.view reply))
+  pub then : NothingBefore c me (after c s (Send (ToClient reply.client.0) (own_message s me (reply_body s.view reply))))
+
 -- ---- halts
 
 pub data Halt : Type 0 where
@@ -148,6 +161,11 @@ pub record HaltsBy (c : Setup) (me : ℕ) (s : Core) (input : Input) (halt : Hal
 abbrev pub IsLawfulFrom : Setup → ℕ → Core → List Row → Core → Type 0
 IsLawfulFrom c me s [] t = t ≡ s
 IsLawfulFrom c me s (row ∷ rows) t = (u : Core) × IsNext c me s row u × IsLawfulFrom c me u rows t
+
+-- how many leaves rows take
+abbrev pub leaves_in : List Row → ℕ
+leaves_in [] = 0
+leaves_in (row ∷ rows) = row.leaves + leaves_in rows
 
 -- The signer's key is the replica's listed one, at whatever leaf.
 abbrev pub IsListed : Setup → ℕ → SigningState → Type 0

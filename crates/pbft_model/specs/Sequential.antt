@@ -4,7 +4,7 @@ use Rattle.service_core.specs.Sound as sound
 use Rattle.service_core.specs.TenantStates.{Service}
 pub use Rattle.service_core.specs.declared.outcome.Outcome.{Outcome}
 pub use Rattle.service_core.specs.TenantStates.{Service, genesis_of, last_reply_of}
-pub use Rattle.service_core.specs.Steps.{IsStep}
+pub use Rattle.service_core.specs.Steps.{IsStep, Serves}
 pub use Rattle.service_core.specs.Encoding.{encoded}
 
 -- What holds of every state that the service reaches: it is within its bounds, and its procedures are accepted code.

@@ -5,7 +5,7 @@ pub use Rattle.host_types.specs.declared.SeqNo.{SeqNo}
 pub use Rattle.host_types.specs.declared.View.{View}
 pub use Rattle.host_types.specs.declared.request.Request.{Request}
 pub use Rattle.host_types.specs.declared.request.Reply.{Reply}
-pub use Rattle.host_types.specs.Configuration.{Configuration, replicas_for}
+pub use Rattle.host_types.specs.Configuration.{Configuration, IsConfiguration, replicas_for}
 pub use Rattle.lms_tree.specs.SigningState.{SigningState}
 pub use Rattle.lms_tree.specs.Keys.{IsKeyOf, leaf_count}
 pub use Rattle.pbft_codec.specs.declared.body.Body.{Body}
@@ -27,3 +27,4 @@ pub use Rattle.pbft_codec.specs.Encoding.{signed_text}
 pub use Rattle.seal.specs.declared.part.Part.{Part}
 pub use Rattle.seal.specs.Parts.{as_message, messages_in, part_of, parts_of}
 pub use Rattle.seal.specs.Opening.{CheckedMessage, IsChecked, sealed_message}
+pub use Rattle.seal.specs.Signers.{IsAuthentic}

@@ -1,6 +1,9 @@
 -- Statement: worked histories: what some messages make a replica do, act by act. They pin the duties.
 use Rattle.std.specs.Prelude.{ℕ, List, [], ◌∷◌, Some, None, false, ◌≡◌, map, length}
-use Rattle.pbft_model.specs.Words.{SigningState, Signed, Body, RequestBody, Certificate, ViewChange, NewView, Replica, Client, Reply, as_message}
+use Rattle.std.specs.FinMap as finite
+use Rattle.host_types.specs.declared.config.ClientEntry.{ClientEntry}
+use Rattle.pbft_model.specs.Duties.{reply_body}
+use Rattle.pbft_model.specs.Words.{Configuration, SigningState, Signed, Body, RequestBody, Certificate, ViewChange, NewView, Replica, Client, Reply, as_message}
 use Rattle.lms_tree.specs.declared.height.Height.TheVariants.{H5}
 use Rattle.pbft_codec.specs.declared.body.Body.TheVariants as bodies
 use Rattle.pbft_codec.specs.declared.body.fetch.Fetch.TheVariants as fetches
@@ -20,6 +23,13 @@ toy_hash (x ∷ xs) = 1 ∷ []
 abbrev pub toy : Setup
 toy = record { config = record { f = 1; k = 2; keys = []; clients = [] }; hash = toy_hash }
 
+-- The same with a client, whatever its key is and whatever the replicas' keys are.
+abbrev pub the_client : List ℕ → ClientEntry
+the_client key = record { id = record { 0 = 100 }; tenant = record { 0 = 0 }; key = key }
+
+abbrev pub serving : Setup
+serving = record { config = record { f = 1; k = 2; keys = []; clients = the_client [] ∷ [] }; hash = toy_hash }
+
 -- the core after acts, the first first
 abbrev pub through : Setup → Core → List Act → Core
 through c s [] = s
@@ -36,7 +46,7 @@ Works c me s [] = Unit {0}
 Works c me s ([] ∷ rest) = ⊥
 Works c me s ((first ∷ acts) ∷ rest) = Reacts c me (after c s first) acts (through c s (first ∷ acts)) × Works c me (through c s (first ∷ acts)) rest
 
--- ---- a request through a backup
+-- ---- a request through a backup and through the primary: its operation is none, and that is what is answered
 
 abbrev pub the_request : Signed RequestBody
 the_request = record { role = Client; id = 100; body = record { time = 1; op = 7 ∷ [] }; sig = [] }
@@ -65,21 +75,45 @@ abbrev pub own : SigningState → ℕ → ℕ → Body → Signed Body
 own signer me leaf body = signed_by (λ b. b) (signer_after signer leaf) me body
 
 abbrev pub the_reply : Reply
-the_reply = record { client = record { 0 = 100 }; time = 1; number = record { 0 = 1 }; result = 9 ∷ [] }
+the_reply = record { client = record { 0 = 100 }; time = 1; number = record { 0 = 1 }; result = 1 ∷ [] }
 
 abbrev pub the_outcome : Outcome
 the_outcome = record { number = record { 0 = 1 }; reply = Some the_reply; kept = false }
 
-abbrev pub through_backup : List ℕ → List ℕ → Service → List (List Act)
-through_backup id secret service =
+-- the state after it
+abbrev pub after_request : Configuration → Service
+after_request config = record {
+  config = config;
+  number = 1;
+  tenants = record { tenant = 0; procedures = []; entries = finite.empty; last_replies = finite.insert finite.empty 100 the_reply } ∷ [];
+}
+
+abbrev pub reply_in_view_0 : Body
+reply_in_view_0 = reply_body 0 the_reply
+
+abbrev pub through_backup : List ℕ → List ℕ → List (List Act)
+through_backup id secret =
     let signer = fresh id secret in
     (Take (as_message bodies.Request the_request) None ∷ [])
     ∷ (Take (from_replica 0 (a_pre_prepare 0 1 (1 ∷ []))) None ∷ Send All (own signer 1 0 (a_prepare 0 1 (1 ∷ []))) ∷ [])
     ∷ (Take (from_replica 2 (a_prepare 0 1 (1 ∷ []))) None ∷ Send All (own signer 1 1 (a_commit 0 1 (1 ∷ []))) ∷ [])
     ∷ (Take (from_replica 0 (a_commit 0 1 (1 ∷ []))) None ∷ [])
     ∷ (Take (from_replica 3 (a_commit 0 1 (1 ∷ []))) None
-    ∷ Execute 1 (1 ∷ []) service the_outcome
-    ∷ Send (ToClient 100) (own signer 1 2 (bodies.Reply (record { view = record { 0 = 0 }; client = record { 0 = 100 }; time = 1; number = record { 0 = 1 }; result = 9 ∷ [] })))
+    ∷ Execute 1 (1 ∷ []) (after_request serving.config) the_outcome
+    ∷ Send (ToClient 100) (own signer 1 2 reply_in_view_0)
+    ∷ [])
+    ∷ []
+
+abbrev pub through_primary : List ℕ → List ℕ → List (List Act)
+through_primary id secret =
+    let signer = fresh id secret in
+    (Take (as_message bodies.Request the_request) None ∷ Send All (own signer 0 0 (a_pre_prepare 0 1 (1 ∷ []))) ∷ [])
+    ∷ (Take (from_replica 1 (a_prepare 0 1 (1 ∷ []))) None ∷ [])
+    ∷ (Take (from_replica 2 (a_prepare 0 1 (1 ∷ []))) None ∷ Send All (own signer 0 1 (a_commit 0 1 (1 ∷ []))) ∷ [])
+    ∷ (Take (from_replica 1 (a_commit 0 1 (1 ∷ []))) None ∷ [])
+    ∷ (Take (from_replica 2 (a_commit 0 1 (1 ∷ []))) None
+    ∷ Execute 1 (1 ∷ []) (after_request serving.config) the_outcome
+    ∷ Send (ToClient 100) (own signer 0 2 reply_in_view_0)
     ∷ [])
     ∷ []
 

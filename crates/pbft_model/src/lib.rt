@@ -4,17 +4,22 @@
 #![tactic(auto)]
 
 ghost use Rattle.pbft_model.specs.Setup.{Setup};
-ghost use Rattle.std.specs.Prelude.{◌≡◌, ℕ, List, Some};
+ghost use Rattle.std.specs.Prelude.{◌≡◌, ℕ, List, [], ◌∷◌, ◌++◌, Some, None, true};
+ghost use Rattle.std.specs.List.{AllByRecursion};
 ghost use Rattle.lms_tree.specs.SigningState.{SigningState};
-ghost use Rattle.pbft_model.specs.Acts.{Act};
+ghost use Rattle.pbft_model.specs.Acts.{Act, Execute, after};
+ghost use Rattle.pbft_model.specs.Agreement.{IsHonest, AgreesByNumber};
+ghost use Rattle.pbft_model.specs.Example.{the_setup, the_family, the_digest};
+ghost use Rattle.pbft_model.specs.Journals.{Journals, IsHonestFamily, Agrees};
 ghost use Rattle.pbft_model.specs.Core.{Core, start_of};
-ghost use Rattle.pbft_model.specs.Duties.{due};
-ghost use Rattle.pbft_model.specs.Rows.{Row, Fulfils, IsLawfulFrom, IsNext};
+ghost use Rattle.pbft_model.specs.Duties.{due, NothingBefore};
+ghost use Rattle.pbft_model.specs.Rows.{Row, Fulfils, IsLawfulFrom, IsNext, FollowsWithout, RepliesAlone, leaves_in};
 ghost use Rattle.pbft_model.specs.Rules.{Allowed};
-ghost use Rattle.pbft_model.specs.Sequential.{Service, IsStep, genesis_of};
-ghost use Rattle.pbft_model.specs.Setup.{request_in};
-ghost use Rattle.pbft_model.specs.Worked.{Works, toy, fresh, the_request, the_outcome, through_backup, changing_view, joining_view, reaching_a_checkpoint, installing, through_all, IsDiscarded};
-ghost use Rattle.pbft_model.specs.Histories.{Family, IsUnforged, AgreesByView, ExecutesAlike, IsHistory, core_after};
+ghost use Rattle.pbft_model.specs.Sequential.{Service, Outcome};
+ghost use Rattle.pbft_model.specs.Setup.{signer_after};
+ghost use Rattle.host_types.specs.declared.request.Reply.{Reply};
+ghost use Rattle.pbft_model.specs.Worked.{Works, toy, serving, fresh, through_backup, through_primary, changing_view, joining_view, reaching_a_checkpoint, installing, through_all, IsDiscarded};
+ghost use Rattle.pbft_model.specs.Histories.{Family, IsCorrect, IsUnforged, IsSteady, HasCommitted, HasExecuted, AgreesByView, ExecutesAlike, IsHistory, core_after};
 
 /// Agreement by view: where nobody forges, no two digests are committed at one number, whatever
 /// their views.
@@ -25,6 +30,25 @@ pub fn agreement_by_view()
 /// Where nobody forges, no two correct replicas execute different digests at one number.
 pub fn executions_agree()
     ensures { (c : Setup) (family : Family) → IsUnforged c family → ExecutesAlike c family }
+{}
+
+/// Agreement by number: where nobody forges and no two of the strings that were hashed have one
+/// digest, one list of requests accounts for every state, execution and reply of a correct replica.
+pub fn agreement_by_number()
+    ensures { (c : Setup) (family : Family) → IsHonest c family → AgreesByNumber c family }
+{}
+
+/// Agreement over journals: one list of requests accounts for all that the rows of an honest family
+/// tell, with no other premise.
+pub fn agreement()
+    ensures { (c : Setup) (journals : Journals) → IsHonestFamily c journals → Agrees c journals }
+{}
+
+/// An honest family of histories exists in which a correct replica executes a client's request,
+/// whatever the signers' secrets are.
+pub fn an_honest_family_executes()
+    ensures honest { (secrets : ℕ → List ℕ) → IsHonest (the_setup secrets) (the_family secrets) }
+    ensures executes { (secrets : ℕ → List ℕ) → HasExecuted (the_setup secrets) (the_family secrets) 1 1 the_digest }
 {}
 
 /// What is due is allowed: whatever act does the duty, at each point of a history.
@@ -39,6 +63,37 @@ pub fn a_journal_is_a_history()
         → (acts : List Act) × IsHistory c me signer acts × (core_after c signer acts ≡ last) }
 {}
 
+/// A lawful journal with the next row of its core is lawful. The core that it comes to is one, and its
+/// signer has used as many leaves as the rows tell.
+pub fn a_journal_grows()
+    ensures row { (c : Setup) (me : ℕ) (s t u : Core) (rows : List Row) (row : Row) → IsLawfulFrom c me s rows t → IsNext c me t row u
+        → IsLawfulFrom c me s (rows ++ row ∷ []) u }
+    ensures core { (c : Setup) (me : ℕ) (s t u : Core) (rows : List Row) → IsLawfulFrom c me s rows t → IsLawfulFrom c me s rows u → t ≡ u }
+    ensures leaves { (c : Setup) (me : ℕ) (s t : Core) (rows : List Row) → IsLawfulFrom c me s rows t → t.signer ≡ signer_after s.signer (leaves_in rows) }
+{}
+
+/// A run without a view change, a new view or an installed snapshot needs view 0 alone: each replica
+/// stays active in it, and nothing is committed in another.
+pub fn a_steady_run_stays_in_view_0()
+    ensures stays { (c : Setup) (me : ℕ) (signer : SigningState) (acts : List Act) → IsHistory c me signer acts → AllByRecursion IsSteady acts
+        → ((core_after c signer acts).view ≡ 0) × ((core_after c signer acts).active ≡ true) }
+    ensures commits { (c : Setup) (family : Family) → IsUnforged c family → ((i : ℕ) → IsCorrect c family.faulty i → AllByRecursion IsSteady (family.acts i))
+        → (i view number : ℕ) (digest : List ℕ) → HasCommitted c family i view number digest → view ≡ 0 }
+{}
+
+/// To execute a number that is no multiple of the checkpoint interval makes nothing due before the
+/// next execution but its own reply: so the numbers up to the next multiple can be executed together.
+pub fn executions_follow_each_other()
+    ensures alone { (c : Setup) (me : ℕ) (signer : SigningState) (acts : List Act) → IsHistory c me signer acts
+        → (number : ℕ) (digest : List ℕ) (service : Service) (outcome : Outcome)
+        → FollowsWithout c me (core_after c signer acts) number digest service outcome
+        → outcome.reply ≡ None → NothingBefore c me (after c (core_after c signer acts) (Execute number digest service outcome)) }
+    ensures replied { (c : Setup) (me : ℕ) (signer : SigningState) (acts : List Act) → IsHistory c me signer acts
+        → (number : ℕ) (digest : List ℕ) (service : Service) (outcome : Outcome)
+        → FollowsWithout c me (core_after c signer acts) number digest service outcome → (reply : Reply) → outcome.reply ≡ Some reply
+        → RepliesAlone c me (after c (core_after c signer acts) (Execute number digest service outcome)) reply }
+{}
+
 /// A row is determined by the core before it and its input, and so is the core after it.
 pub fn a_row_is_unique()
     ensures { (c : Setup) (me : ℕ) (s t t' : Core) (row row' : Row) → row.input ≡ row'.input → IsNext c me s row t → IsNext c me s row' t'
@@ -47,8 +102,12 @@ pub fn a_row_is_unique()
 
 /// A worked history: a request through a backup up to its reply.
 pub fn a_request_through_a_backup()
-    ensures { (id secret : List ℕ) (service : Service) → IsStep (genesis_of toy.config) (Some (request_in the_request)) service the_outcome
-        → Works toy 1 (start_of toy (fresh id secret)) (through_backup id secret service) }
+    ensures { (id secret : List ℕ) → Works serving 1 (start_of serving (fresh id secret)) (through_backup id secret) }
+{}
+
+/// A worked history: the same request through the primary, which proposes it.
+pub fn a_request_through_the_primary()
+    ensures { (id secret : List ℕ) → Works serving 0 (start_of serving (fresh id secret)) (through_primary id secret) }
 {}
 
 /// A worked history: a timeout, a view change whose certificate is carried into the new view, and a

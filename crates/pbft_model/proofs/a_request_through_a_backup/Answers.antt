@@ -3,4 +3,4 @@ use Rattle.pbft_model.proofs.Working.{backup_works}
 use Rattle.pbft_model.proofs.a_request_through_a_backup.Goals as goal
 
 pub returns : goal.returns
-returns c id secret service step = backup_works id secret service step
+returns c id secret = backup_works id secret
