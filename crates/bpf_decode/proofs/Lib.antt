@@ -1,2 +1,5 @@
 pub mod Slots
+pub mod Reading
+pub mod Instructions
 pub mod Encodings
+pub mod Deciding

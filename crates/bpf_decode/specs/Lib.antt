@@ -1,3 +1,4 @@
 pub mod Faults
 pub mod Opcodes
 pub mod Encoding
+pub mod Parts

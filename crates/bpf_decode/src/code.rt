@@ -1,10 +1,11 @@
 //! Code as a whole: reads and writes lists of instructions.
 
-ghost use Rattle.std.specs.Prelude.{◌≡◌, ◌+◌, ◌*◌, ◌≤◌, ◌<◌, ◌⊎◌, List, length, IfOk, IfErr, MatchResult};
+ghost use Rattle.std.specs.Prelude.{◌≡◌, ◌+◌, ◌*◌, ◌%◌, ◌≤◌, ◌<◌, ◌⊎◌, ◌++◌, List, length, IfOk, IfErr, IfSome, OnOk, MatchResult};
+ghost use Rattle.std.specs.List.{flat_map};
 ghost use Rattle.bpf_decode.specs.declared.insn.Insn.{Insn};
 ghost use Rattle.bpf_decode.specs.declared.refusal.DecodeFault.TheVariants.{Memory};
 ghost use Rattle.bpf_decode.specs.Faults.{IsCode, IsRefused, FaultyAt, length_fault};
-ghost use Rattle.bpf_decode.specs.Encoding.{encoding, EncodesAt};
+ghost use Rattle.bpf_decode.specs.Encoding.{encoding, insn_slots, slot_bytes, EncodesAt, IsAt, IsBehind, IsSlot};
 
 use crate::insn::Insn;
 use crate::refusal::{DecodeFault, Refusal};
@@ -42,28 +43,56 @@ fn read_code(alloc: Global, bytes: &[u8]) -> Result<Vec<Insn>, Refusal>
     }
     let slots = bytes.len() / SLOT;
     let mut code = Vec::new(alloc);
-    for slot in 0..slots {
-        let insn = read_slot(bytes, slot)?;
+    let mut slot = 0;
+    while slot < slots {
+        let insn = read_insn(bytes, slot)?;
         code.push(insn)?;
+        slot += insn.slots();
     }
     Ok(code)
 }
 
-/// The instruction that one slot encodes, or the slot's first fault.
-fn read_slot(bytes: &[u8], slot: usize) -> Result<Insn, Refusal>
+/// The instruction that the slots from this one on encode, or the slot's first fault.
+fn read_insn(bytes: &[u8], slot: usize) -> Result<Insn, Refusal>
     requires within { 8 * slot + 8 ≤ length bytes.now }
+    requires whole { length bytes.now % 8 ≡ 0 }
     requires few { slot < 1024 }
     ensures found { IfOk result (λ insn. EncodesAt bytes.now slot insn) }
+    ensures fits { IfOk result (λ insn.
+        8 * slot + 8 * length (insn_slots insn) ≤ length bytes.now) }
     ensures refused { IfErr result (λ refusal.
         (refusal.slot ≡ slot) × FaultyAt bytes.now refusal.fault slot) }
 {
-    let at = slot * SLOT;
-    match Slot::from_bytes(&bytes[at..at + SLOT]).to_insn() {
+    let first = slot_at(bytes, slot);
+    let behind = slot_behind(bytes, slot);
+    match first.to_insn(behind) {
         Ok(insn) => Ok(insn),
         Err(fault) => Err(Refusal {
             fault,
             slot: slot as u32,
         }),
+    }
+}
+
+fn slot_at(bytes: &[u8], slot: usize) -> Slot
+    requires within { 8 * slot + 8 ≤ length bytes.now }
+    ensures { IsAt bytes.now slot result }
+{
+    let at = slot * SLOT;
+    Slot::from_bytes(&bytes[at..at + SLOT])
+}
+
+fn slot_behind(bytes: &[u8], slot: usize) -> Option<Slot>
+    requires within { 8 * slot + 8 ≤ length bytes.now }
+    requires whole { length bytes.now % 8 ≡ 0 }
+    ensures behind { IsBehind bytes.now slot result }
+    ensures fits { IfSome result (λ behind. IsSlot behind) }
+    ensures within { IfSome result (λ behind. 8 * slot + 16 ≤ length bytes.now) }
+{
+    if bytes.len() - slot * SLOT > SLOT {
+        Some(slot_at(bytes, slot + 1))
+    } else {
+        None
     }
 }
 
@@ -87,7 +116,18 @@ pub fn encode_all(alloc: Global, code: &[Insn]) -> Result<Vec<u8>, AllocError>
 {
     let mut bytes = Vec::new(alloc);
     for insn in code {
-        bytes.extend_from_slice(&insn.to_slot().to_bytes())?;
+        push_insn(&mut bytes, *insn)?;
     }
     Ok(bytes)
+}
+
+fn push_insn(bytes: &mut Vec<u8>, insn: Insn) -> Result<(), AllocError>
+    ensures { OnOk result (bytes.new.items ≡
+        bytes.old.items ++ flat_map slot_bytes (insn_slots insn)) }
+{
+    bytes.extend_from_slice(&insn.first_slot().to_bytes())?;
+    if let Some(second) = insn.second_slot() {
+        bytes.extend_from_slice(&second.to_bytes())?;
+    }
+    Ok(())
 }

@@ -4,6 +4,7 @@
 
 mod code;
 mod insn;
+mod law;
 mod opcode;
 mod refusal;
 mod slot;
@@ -11,7 +12,8 @@ mod slot;
 mod tests;
 
 pub use code::{decode_all, encode_all};
-pub use insn::{Insn, Reg, Source};
-pub use opcode::{Opcode, SourceKind};
+pub use insn::{Insn, Reg, Size, Source};
+pub use law::{bytes_are_decided, code_is_one};
+pub use opcode::{Opcode, Operation, SourceKind};
 pub use refusal::{DecodeFault, Refusal};
 pub use slot::Slot;

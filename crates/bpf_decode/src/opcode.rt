@@ -1,15 +1,16 @@
 //! Opcode bytes, and what they stand for.
 
-ghost use Rattle.std.specs.Prelude.{◌≡◌, ◌<◌, ◌==◌, find};
-ghost use Rattle.bpf_decode.specs.Opcodes.{opcode_byte, opcode_of, alu_opcode_of, class_bits, source_bit, operation_bits, widths, operations};
+ghost use Rattle.std.specs.Prelude.{◌≡◌, ◌<◌, ◌==◌, true, false, find, pos, Some, IfSome};
+ghost use Rattle.std.specs.Option.{option_map};
+ghost use Rattle.bpf_decode.specs.Opcodes.{opcode_byte, opcode_of, alu_opcode, test_opcode, load_opcode, stored_size, memory_opcode, single_opcodes, class_bits, jump_class, source_bit, operation_bits, test_bits, size_bits, widths, sources, narrows, operations, tests, sizes, short_sizes, variant_of, has_form, uses_offset, has_operand, operation_of, offset_of, swap_width};
+ghost use Rattle.bpf_num.specs.ByteSwap.{swap_bits};
+ghost use Rattle.bpf_decode.specs.declared.opcode.Opcode.TheVariants.{Alu};
+ghost use Rattle.bpf_decode.specs.declared.opcode.Operation.TheVariants.{Neg, Mov};
+ghost use Rattle.bpf_decode.specs.declared.opcode.SourceKind.TheVariants.{K};
+ghost use Rattle.bpf_decode.specs.Parts.{IsOpcode};
 
-use bpf_num::{AluOp, AluWidth};
-
-/// CALL of class JMP (RFC 9669, section 4.3).
-const CALL: u8 = 0x85;
-
-/// EXIT of class JMP (RFC 9669, section 4.3).
-const EXIT: u8 = 0x95;
+use crate::insn::Size;
+use bpf_num::{AluOp, AluWidth, SwapKind, Test, Width};
 
 /// Where an instruction's second operand comes from: the opcode's source bit (RFC 9669, section 4).
 #[derive(Clone, Copy, Debug, PartialEq, Eq)]
@@ -20,12 +21,55 @@ pub enum SourceKind {
     X,
 }
 
-/// What an opcode byte stands for (RFC 9669, sections 3.1 and 4).
+/// The operation that an arithmetic opcode names (RFC 9669, section 4.1); offsets tell its variants
+/// apart.
+#[derive(Clone, Copy, Debug, PartialEq, Eq)]
+pub enum Operation {
+    Add,
+    Sub,
+    Mul,
+    /// DIV and SDIV.
+    Div,
+    Or,
+    And,
+    Lsh,
+    Rsh,
+    Neg,
+    /// MOD and SMOD.
+    Mod,
+    Xor,
+    /// MOV and MOVSX.
+    Mov,
+    Arsh,
+}
+
+/// What an opcode byte stands for (RFC 9669, sections 3.1, 4 and 5).
 #[derive(Clone, Copy, Debug, PartialEq, Eq)]
 pub enum Opcode {
     Alu {
         width: AluWidth,
-        op: AluOp,
+        operation: Operation,
+        source: SourceKind,
+    },
+    Swap {
+        kind: SwapKind,
+    },
+    LoadImm,
+    Load {
+        size: Size,
+        signed: bool,
+    },
+    StoreImm {
+        size: Size,
+    },
+    Store {
+        size: Size,
+    },
+    Jump,
+    JumpLong,
+    Test {
+        narrow: bool,
+        test: Test,
         source: SourceKind,
     },
     Call,
@@ -33,14 +77,27 @@ pub enum Opcode {
 }
 
 impl Opcode {
-    /// What this byte stands for, or none where it is no opcode of this host.
+    /// What this byte stands for, or none where it is no opcode.
     pub fn of(byte: u8) -> Option<Opcode>
-        ensures { result ≡ opcode_of byte }
+        ensures found { result ≡ opcode_of byte }
+        ensures encoded { IfSome result (λ opcode. (opcode_byte opcode ≡ byte) × IsOpcode opcode) }
     {
-        match byte {
-            CALL => Some(Opcode::Call),
-            EXIT => Some(Opcode::Exit),
-            _ => alu_opcode(byte % 8, byte / 8 % 2, byte / 16),
+        if let Some(opcode) = single_opcode(byte) {
+            return Some(opcode);
+        }
+        match byte % 8 {
+            0x1 => load_opcode(byte / 32, byte / 8 % 4),
+            0x2 => Some(Opcode::StoreImm {
+                size: stored_size(byte / 32, byte / 8 % 4)?,
+            }),
+            0x3 => Some(Opcode::Store {
+                size: stored_size(byte / 32, byte / 8 % 4)?,
+            }),
+            0x4 => alu_opcode(AluWidth::W32, byte / 8 % 2, byte / 16),
+            0x5 => test_opcode(false, byte / 8 % 2, byte / 16),
+            0x6 => test_opcode(true, byte / 8 % 2, byte / 16),
+            0x7 => alu_opcode(AluWidth::W64, byte / 8 % 2, byte / 16),
+            _ => None,
         }
     }
 
@@ -49,67 +106,378 @@ impl Opcode {
         ensures { result ≡ opcode_byte self }
     {
         match self {
-            Opcode::Alu { width, op, source } => {
-                let source = match source {
-                    SourceKind::K => 0,
-                    SourceKind::X => 1,
+            Opcode::Alu {
+                width,
+                operation,
+                source,
+            } => {
+                let class = match width {
+                    AluWidth::W32 => 0x4,
+                    AluWidth::W64 => 0x7,
                 };
-                16 * operation_bits(op) + 8 * source + class_bits(width)
+                16 * operation_bits(operation) + 8 * source_bit(source) + class
             }
-            Opcode::Call => CALL,
-            Opcode::Exit => EXIT,
+            Opcode::Swap { kind } => match kind {
+                SwapKind::Le => 0xd4,
+                SwapKind::Be => 0xdc,
+                SwapKind::Swap => 0xd7,
+            },
+            Opcode::LoadImm => 0x18,
+            Opcode::Load { size, signed } => {
+                let mode = if signed { 0x80 } else { 0x60 };
+                mode + 8 * size_bits(size) + 0x1
+            }
+            Opcode::StoreImm { size } => 0x60 + 8 * size_bits(size) + 0x2,
+            Opcode::Store { size } => 0x60 + 8 * size_bits(size) + 0x3,
+            Opcode::Jump => 0x05,
+            Opcode::JumpLong => 0x06,
+            Opcode::Test {
+                narrow,
+                test,
+                source,
+            } => {
+                let class = if narrow { 0x6 } else { 0x5 };
+                16 * test_bits(test) + 8 * source_bit(source) + class
+            }
+            Opcode::Call => 0x85,
+            Opcode::Exit => 0x95,
         }
     }
 }
 
-/// The arithmetic opcode of a class, a source and an operation.
-fn alu_opcode(class: u8, source: u8, operation: u8) -> Option<Opcode>
-    requires { source < 2 }
-    ensures { result ≡ alu_opcode_of class source operation }
+/// The variant of an operation that has this offset and form, if one does.
+pub fn variant(
+    width: AluWidth,
+    operation: Operation,
+    source: SourceKind,
+    offset: i16,
+) -> Option<AluOp>
+    ensures found { result ≡ variant_of width operation source offset }
+    ensures form { IfSome result (λ op.
+        (operation_of op ≡ operation) × (has_form width op source ≡ true)) }
+    ensures offset { IfSome result (λ op. uses_offset operation ≡ true → offset_of op ≡ offset) }
+    ensures no_offset { IfSome result (λ op. uses_offset operation ≡ false → offset_of op ≡ pos 0) }
 {
-    let width = width_of(class)?;
-    let op = operation_of(operation)?;
-    let source = match source {
-        0 => SourceKind::K,
-        _ => SourceKind::X,
-    };
-    Some(Opcode::Alu { width, op, source })
-}
-
-fn class_bits(width: AluWidth) -> u8
-    ensures { result ≡ class_bits width }
-{
-    match width {
-        AluWidth::W32 => 0x4,
-        AluWidth::W64 => 0x7,
+    match operation {
+        Operation::Add => Some(AluOp::Add),
+        Operation::Sub => Some(AluOp::Sub),
+        Operation::Mul => Some(AluOp::Mul),
+        Operation::Div => match offset {
+            0 => Some(AluOp::Div),
+            1 => Some(AluOp::Sdiv),
+            _ => None,
+        },
+        Operation::Or => Some(AluOp::Or),
+        Operation::And => Some(AluOp::And),
+        Operation::Lsh => Some(AluOp::Lsh),
+        Operation::Rsh => Some(AluOp::Rsh),
+        Operation::Neg => match source {
+            SourceKind::K => Some(AluOp::Neg),
+            SourceKind::X => None,
+        },
+        Operation::Mod => match offset {
+            0 => Some(AluOp::Mod),
+            1 => Some(AluOp::Smod),
+            _ => None,
+        },
+        Operation::Xor => Some(AluOp::Xor),
+        Operation::Mov => move_variant(width, source, offset),
+        Operation::Arsh => Some(AluOp::Arsh),
     }
 }
 
-fn width_of(class: u8) -> Option<AluWidth>
-    ensures { result ≡ find (λ w. class_bits w == class) widths }
+/// The move that has this offset: moves that extend a sign have a register, those of 32 bits in
+/// class ALU64 alone.
+fn move_variant(width: AluWidth, source: SourceKind, offset: i16) -> Option<AluOp>
+    ensures found { result ≡ variant_of width Mov source offset }
+    ensures form { IfSome result (λ op.
+        (operation_of op ≡ Mov) × (has_form width op source ≡ true)) }
+    ensures offset { IfSome result (λ op. offset_of op ≡ offset) }
 {
-    match class {
-        0x4 => Some(AluWidth::W32),
-        0x7 => Some(AluWidth::W64),
+    match (offset, source) {
+        (0, _) => Some(AluOp::Mov),
+        (8, SourceKind::X) => Some(AluOp::Movsx8),
+        (16, SourceKind::X) => Some(AluOp::Movsx16),
+        (32, SourceKind::X) => match width {
+            AluWidth::W32 => None,
+            AluWidth::W64 => Some(AluOp::Movsx32),
+        },
         _ => None,
     }
 }
 
-fn operation_bits(op: AluOp) -> u8
-    ensures { result ≡ operation_bits op }
+/// The width of a byte swap that the immediate names, if it names one.
+pub fn swap_width(imm: i32) -> Option<Width>
+    ensures { result ≡ swap_width imm }
 {
-    match op {
-        AluOp::Add => 0x0,
-        AluOp::Mov => 0xb,
+    match imm {
+        16 => Some(Width::W16),
+        32 => Some(Width::W32),
+        64 => Some(Width::W64),
+        _ => None,
     }
 }
 
-fn operation_of(bits: u8) -> Option<AluOp>
+/// The immediate of a byte swap of this width.
+pub fn swap_immediate(width: Width) -> i32
+    ensures { result ≡ pos (swap_bits width) }
+{
+    match width {
+        Width::W16 => 16,
+        Width::W32 => 32,
+        Width::W64 => 64,
+    }
+}
+
+/// The offset of an instruction of this operation.
+pub fn offset_of(op: AluOp) -> i16
+    ensures { result ≡ offset_of op }
+{
+    match op {
+        AluOp::Sdiv | AluOp::Smod => 1,
+        AluOp::Movsx8 => 8,
+        AluOp::Movsx16 => 16,
+        AluOp::Movsx32 => 32,
+        _ => 0,
+    }
+}
+
+impl Operation {
+    /// The operation that the opcode of an instruction names.
+    pub fn of(op: AluOp) -> Operation
+        ensures { result ≡ operation_of op }
+    {
+        match op {
+            AluOp::Add => Operation::Add,
+            AluOp::Sub => Operation::Sub,
+            AluOp::Mul => Operation::Mul,
+            AluOp::Div | AluOp::Sdiv => Operation::Div,
+            AluOp::Or => Operation::Or,
+            AluOp::And => Operation::And,
+            AluOp::Lsh => Operation::Lsh,
+            AluOp::Rsh => Operation::Rsh,
+            AluOp::Neg => Operation::Neg,
+            AluOp::Mod | AluOp::Smod => Operation::Mod,
+            AluOp::Xor => Operation::Xor,
+            AluOp::Mov | AluOp::Movsx8 | AluOp::Movsx16 | AluOp::Movsx32 => Operation::Mov,
+            AluOp::Arsh => Operation::Arsh,
+        }
+    }
+
+    /// Whether offsets tell variants of the operation apart.
+    pub fn uses_offset(self) -> bool
+        ensures { result ≡ uses_offset self }
+    {
+        matches!(self, Operation::Div | Operation::Mod | Operation::Mov)
+    }
+
+    /// Whether the operation has a second operand.
+    pub fn has_operand(self) -> bool
+        ensures { result ≡ has_operand self }
+    {
+        self != Operation::Neg
+    }
+}
+
+/// The opcodes that are one byte each.
+fn single_opcode(byte: u8) -> Option<Opcode>
+    ensures { result ≡ find (λ o. opcode_byte o == byte) single_opcodes }
+{
+    match byte {
+        0x18 => Some(Opcode::LoadImm),
+        0x05 => Some(Opcode::Jump),
+        0x06 => Some(Opcode::JumpLong),
+        0x85 => Some(Opcode::Call),
+        0x95 => Some(Opcode::Exit),
+        0x84 => Some(negation(AluWidth::W32)),
+        0x87 => Some(negation(AluWidth::W64)),
+        0xd4 => Some(Opcode::Swap { kind: SwapKind::Le }),
+        0xdc => Some(Opcode::Swap { kind: SwapKind::Be }),
+        0xd7 => Some(Opcode::Swap {
+            kind: SwapKind::Swap,
+        }),
+        _ => None,
+    }
+}
+
+fn negation(width: AluWidth) -> Opcode
+    ensures { result ≡ Alu width Neg K }
+{
+    Opcode::Alu {
+        width,
+        operation: Operation::Neg,
+        source: SourceKind::K,
+    }
+}
+
+/// The arithmetic opcode of a width, a source and an operation.
+fn alu_opcode(width: AluWidth, source: u8, operation: u8) -> Option<Opcode>
+    requires { source < 2 }
+    ensures { result ≡ alu_opcode (class_bits width) source operation }
+{
+    let operation = operation_of(operation)?;
+    Some(Opcode::Alu {
+        width,
+        operation,
+        source: source_of(source),
+    })
+}
+
+/// The opcode of a test, of a class, a source and an operation.
+fn test_opcode(narrow: bool, source: u8, operation: u8) -> Option<Opcode>
+    requires { source < 2 }
+    ensures { result ≡ test_opcode (jump_class narrow) source operation }
+{
+    let test = test_of(operation)?;
+    Some(Opcode::Test {
+        narrow,
+        test,
+        source: source_of(source),
+    })
+}
+
+/// The opcode of a load, of a mode and a size.
+fn load_opcode(mode: u8, size: u8) -> Option<Opcode>
+    requires { size < 4 }
+    ensures { result ≡ load_opcode mode size }
+{
+    let size = size_of(size);
+    match mode {
+        3 => Some(Opcode::Load {
+            size,
+            signed: false,
+        }),
+        4 => match size {
+            Size::Dw => None,
+            Size::B | Size::H | Size::W => Some(Opcode::Load { size, signed: true }),
+        },
+        _ => None,
+    }
+}
+
+/// The size of a store, of a mode and a size.
+fn stored_size(mode: u8, size: u8) -> Option<Size>
+    requires { size < 4 }
+    ensures { result ≡ stored_size mode size }
+{
+    if mode == 3 { Some(size_of(size)) } else { None }
+}
+
+fn size_of(bits: u8) -> Size
+    requires { bits < 4 }
+    ensures { Some result ≡ find (λ s. size_bits s == bits) sizes }
+{
+    match bits {
+        0 => Size::W,
+        1 => Size::H,
+        2 => Size::B,
+        _ => Size::Dw,
+    }
+}
+
+fn size_bits(size: Size) -> u8
+    ensures { result ≡ size_bits size }
+{
+    match size {
+        Size::W => 0,
+        Size::H => 1,
+        Size::B => 2,
+        Size::Dw => 3,
+    }
+}
+
+fn source_of(bit: u8) -> SourceKind
+    requires { bit < 2 }
+    ensures { Some result ≡ find (λ s. source_bit s == bit) sources }
+{
+    match bit {
+        0 => SourceKind::K,
+        _ => SourceKind::X,
+    }
+}
+
+fn source_bit(source: SourceKind) -> u8
+    ensures { result ≡ source_bit source }
+{
+    match source {
+        SourceKind::K => 0,
+        SourceKind::X => 1,
+    }
+}
+
+fn operation_of(bits: u8) -> Option<Operation>
     ensures { result ≡ find (λ o. operation_bits o == bits) operations }
 {
     match bits {
-        0x0 => Some(AluOp::Add),
-        0xb => Some(AluOp::Mov),
+        0x0 => Some(Operation::Add),
+        0x1 => Some(Operation::Sub),
+        0x2 => Some(Operation::Mul),
+        0x3 => Some(Operation::Div),
+        0x4 => Some(Operation::Or),
+        0x5 => Some(Operation::And),
+        0x6 => Some(Operation::Lsh),
+        0x7 => Some(Operation::Rsh),
+        0x9 => Some(Operation::Mod),
+        0xa => Some(Operation::Xor),
+        0xb => Some(Operation::Mov),
+        0xc => Some(Operation::Arsh),
         _ => None,
+    }
+}
+
+fn operation_bits(operation: Operation) -> u8
+    ensures { result ≡ operation_bits operation }
+{
+    match operation {
+        Operation::Add => 0x0,
+        Operation::Sub => 0x1,
+        Operation::Mul => 0x2,
+        Operation::Div => 0x3,
+        Operation::Or => 0x4,
+        Operation::And => 0x5,
+        Operation::Lsh => 0x6,
+        Operation::Rsh => 0x7,
+        Operation::Neg => 0x8,
+        Operation::Mod => 0x9,
+        Operation::Xor => 0xa,
+        Operation::Mov => 0xb,
+        Operation::Arsh => 0xc,
+    }
+}
+
+fn test_of(bits: u8) -> Option<Test>
+    ensures { result ≡ find (λ t. test_bits t == bits) tests }
+{
+    match bits {
+        0x1 => Some(Test::Jeq),
+        0x2 => Some(Test::Jgt),
+        0x3 => Some(Test::Jge),
+        0x4 => Some(Test::Jset),
+        0x5 => Some(Test::Jne),
+        0x6 => Some(Test::Jsgt),
+        0x7 => Some(Test::Jsge),
+        0xa => Some(Test::Jlt),
+        0xb => Some(Test::Jle),
+        0xc => Some(Test::Jslt),
+        0xd => Some(Test::Jsle),
+        _ => None,
+    }
+}
+
+fn test_bits(test: Test) -> u8
+    ensures { result ≡ test_bits test }
+{
+    match test {
+        Test::Jeq => 0x1,
+        Test::Jgt => 0x2,
+        Test::Jge => 0x3,
+        Test::Jset => 0x4,
+        Test::Jne => 0x5,
+        Test::Jsgt => 0x6,
+        Test::Jsge => 0x7,
+        Test::Jlt => 0xa,
+        Test::Jle => 0xb,
+        Test::Jslt => 0xc,
+        Test::Jsle => 0xd,
     }
 }

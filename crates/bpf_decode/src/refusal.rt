@@ -7,8 +7,8 @@ use std::alloc::AllocFailed;
 use thiserror::Error;
 
 /// Why bytes are no code. Of several faults the first one is reported: first those of the
-/// whole, then slot by slot, at a slot in the order `BadOpcode`, `BadRegister`, `BadOffset`,
-/// `FieldNotZero`.
+/// whole, then slot by slot, at a slot in the order `BadOpcode`, `BadRegister`, `TruncatedWide`,
+/// `BadWidth`, `BadOffset`, `FieldNotZero`.
 #[derive(Clone, Copy, Debug, PartialEq, Eq, Error)]
 pub enum DecodeFault {
     /// There are no bytes.
@@ -26,9 +26,16 @@ pub enum DecodeFault {
     /// A register number is above 10.
     #[error("BadRegister")]
     BadRegister = 5,
-    /// A field without a use is not zero.
+    /// A field without a use is not zero. For the second slot of a wide instruction it is reported
+    /// at the first.
     #[error("FieldNotZero")]
     FieldNotZero = 6,
+    /// A wide instruction begins in the last slot.
+    #[error("TruncatedWide")]
+    TruncatedWide = 7,
+    /// The immediate of a byte swap is no width of it.
+    #[error("BadWidth")]
+    BadWidth = 8,
     /// The offset is none that the operation has.
     #[error("BadOffset")]
     BadOffset = 9,

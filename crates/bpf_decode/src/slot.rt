@@ -1,13 +1,21 @@
 //! Slots as fields: between their bytes and the instructions that they encode.
 
-ghost use Rattle.std.specs.Prelude.{◌≡◌, [], ◌∷◌, length, IfOk, IfErr, Some};
-ghost use Rattle.bpf_decode.specs.Encoding.{slot_bytes, insn_slots, IsSlot, IsInsn};
-ghost use Rattle.bpf_decode.specs.Faults.{slot_fault, opcode_has_bad_offset, has_stray_field};
+ghost use Rattle.std.specs.Prelude.{◌≡◌, length, ◌≤◌, ◌/◌, ◌%◌, ◌^◌, IfOk, IfErr, IfSome, Some, Option};
+ghost use Rattle.bpf_num.specs.declared.AluWidth.{AluWidth};
+ghost use Rattle.bpf_decode.specs.declared.slot.Slot.{Slot};
+ghost use Rattle.bpf_decode.specs.declared.opcode.Opcode.TheVariants as opcode;
+ghost use Rattle.bpf_decode.specs.declared.insn.Insn.TheVariants as insn;
+ghost use Rattle.bpf_decode.specs.Opcodes.{opcode_byte};
+ghost use Rattle.bpf_decode.specs.Encoding.{slot_bytes, first_slot, half_slot, slot_with, signed_32, IsSlot, IsLoad};
+ghost use Rattle.bpf_decode.specs.Faults.{slot_fault, form_fault, has_stray_field, is_stray_half};
+ghost use Rattle.bpf_decode.specs.Parts.{Reads, IsOpcode};
 
-use crate::insn::{Insn, Reg, Source};
-use crate::opcode::{Opcode, SourceKind};
+use crate::insn::{Insn, Reg, Size, Source};
+use crate::opcode::{
+    Opcode, Operation, SourceKind, offset_of, swap_immediate, swap_width, variant,
+};
 use crate::refusal::DecodeFault;
-use bpf_num::AluOp;
+use bpf_num::{AluOp, AluWidth, SwapKind, Test};
 
 /// A slot of code: 8 bytes as fields, none of them checked (RFC 9669, section 3.1).
 #[derive(Clone, Copy, Debug, PartialEq, Eq)]
@@ -60,10 +68,13 @@ impl Slot {
         ]
     }
 
-    /// The instruction that the slot encodes, or the slot's first fault.
-    pub fn to_insn(self) -> Result<Insn, DecodeFault>
-        ensures found { IfOk result (λ insn. (insn_slots insn ≡ self ∷ []) × IsInsn insn) }
-        ensures refused { IfErr result (λ fault. slot_fault self ≡ Some fault) }
+    /// The instruction whose first slot this is, before the slot behind it; or the slot's first
+    /// fault.
+    pub fn to_insn(self, behind: Option<Slot>) -> Result<Insn, DecodeFault>
+        requires fits { IsSlot self }
+        requires behind_fits { IfSome behind (λ slot. IsSlot slot) }
+        ensures found { IfOk result (λ insn. Reads self behind insn) }
+        ensures refused { IfErr result (λ fault. slot_fault self behind ≡ Some fault) }
     {
         let Some(opcode) = Opcode::of(self.opcode) else {
             return Err(DecodeFault::BadOpcode);
@@ -71,63 +82,357 @@ impl Slot {
         let (Some(dst), Some(src)) = (Reg::new(self.dst), Reg::new(self.src)) else {
             return Err(DecodeFault::BadRegister);
         };
-        if self.has_bad_offset(opcode) {
-            return Err(DecodeFault::BadOffset);
+        match opcode {
+            Opcode::Alu {
+                width,
+                operation,
+                source,
+            } => self.alu(behind, width, operation, source, dst, src),
+            Opcode::Swap { kind } => self.swap(behind, kind, dst),
+            Opcode::LoadImm => self.load_imm(behind, dst),
+            Opcode::Load { size, signed } => self.load(behind, size, signed, dst, src),
+            Opcode::StoreImm { size } => self.store_imm(behind, size, dst),
+            Opcode::Store { size } => self.store(behind, size, dst, src),
+            Opcode::Jump => self.jump(behind),
+            Opcode::JumpLong => self.jump_long(behind),
+            Opcode::Test {
+                narrow,
+                test,
+                source,
+            } => self.test(behind, narrow, test, source, dst, src),
+            Opcode::Call => self.call(behind),
+            Opcode::Exit => self.exit(behind),
         }
-        if self.has_stray_field(opcode) {
+    }
+
+    fn alu(
+        self,
+        behind: Option<Slot>,
+        width: AluWidth,
+        operation: Operation,
+        source: SourceKind,
+        dst: Reg,
+        src: Reg,
+    ) -> Result<Insn, DecodeFault>
+        requires fits { IsSlot self }
+        requires opcode { self.opcode ≡ opcode_byte (opcode.Alu width operation source) }
+        requires dst { dst.number ≡ self.dst }
+        requires src { src.number ≡ self.src }
+        requires form { IsOpcode (opcode.Alu width operation source) }
+        ensures found { IfOk result (λ insn. Reads self behind insn) }
+        ensures refused { IfErr result (λ fault.
+            form_fault (opcode.Alu width operation source) self behind ≡ Some fault) }
+    {
+        let Some(op) = variant(width, operation, source, self.offset) else {
+            return Err(DecodeFault::BadOffset);
+        };
+        if self.has_stray_operand(operation, source) {
             return Err(DecodeFault::FieldNotZero);
         }
-        Ok(match opcode {
-            Opcode::Alu { width, op, source } => {
-                let src = match source {
-                    SourceKind::K => Source::Imm(self.imm),
-                    SourceKind::X => Source::Reg(src),
-                };
-                Insn::Alu {
-                    width,
-                    op,
-                    dst,
-                    src,
-                }
-            }
-            Opcode::Call => Insn::CallHelper { helper: self.imm },
-            Opcode::Exit => Insn::Exit,
+        let src = match source {
+            SourceKind::K => Source::Imm(self.imm),
+            SourceKind::X => Source::Reg(src),
+        };
+        Ok(Insn::Alu {
+            width,
+            op,
+            dst,
+            src,
         })
     }
 
-    fn has_bad_offset(self, opcode: Opcode) -> bool
-        ensures { result ≡ opcode_has_bad_offset opcode self }
+    /// Whether an arithmetic instruction has a field without a use that is not zero.
+    fn has_stray_operand(self, operation: Operation, source: SourceKind) -> bool
+        ensures { (width : AluWidth) (behind : Option Slot) →
+            result ≡ has_stray_field (opcode.Alu width operation source) self behind }
     {
-        match opcode {
-            Opcode::Alu { op, .. } => match op {
-                AluOp::Add => false,
-                AluOp::Mov => self.offset != 0,
-            },
-            Opcode::Call | Opcode::Exit => false,
+        let stray_offset = self.offset != 0 && !operation.uses_offset();
+        match source {
+            SourceKind::K => {
+                self.src != 0 || stray_offset || self.imm != 0 && !operation.has_operand()
+            }
+            SourceKind::X => stray_offset || self.imm != 0,
         }
     }
 
-    fn has_stray_field(self, opcode: Opcode) -> bool
-        ensures { result ≡ has_stray_field opcode self }
+    fn swap(self, behind: Option<Slot>, kind: SwapKind, dst: Reg) -> Result<Insn, DecodeFault>
+        requires fits { IsSlot self }
+        requires opcode { self.opcode ≡ opcode_byte (opcode.Swap kind) }
+        requires dst { dst.number ≡ self.dst }
+        ensures found { IfOk result (λ insn. Reads self behind insn) }
+        ensures refused { IfErr result (λ fault.
+            form_fault (opcode.Swap kind) self behind ≡ Some fault) }
     {
-        match opcode {
-            Opcode::Alu { source, .. } => match source {
-                SourceKind::K => self.offset != 0 || self.src != 0,
-                SourceKind::X => self.offset != 0 || self.imm != 0,
-            },
-            Opcode::Call => self.dst != 0 || self.src != 0 || self.offset != 0,
-            Opcode::Exit => self.dst != 0 || self.src != 0 || self.offset != 0 || self.imm != 0,
+        let Some(width) = swap_width(self.imm) else {
+            return Err(DecodeFault::BadWidth);
+        };
+        if self.src != 0 || self.offset != 0 {
+            return Err(DecodeFault::FieldNotZero);
+        }
+        Ok(Insn::Swap { kind, width, dst })
+    }
+
+    fn load_imm(self, behind: Option<Slot>, dst: Reg) -> Result<Insn, DecodeFault>
+        requires fits { IsSlot self }
+        requires opcode { self.opcode ≡ opcode_byte (opcode.LoadImm) }
+        requires dst { dst.number ≡ self.dst }
+        requires behind_fits { IfSome behind (λ slot. IsSlot slot) }
+        ensures found { IfOk result (λ insn. Reads self behind insn) }
+        ensures refused { IfErr result (λ fault.
+            form_fault (opcode.LoadImm) self behind ≡ Some fault) }
+    {
+        let Some(half) = behind else {
+            return Err(DecodeFault::TruncatedWide);
+        };
+        if self.src != 0 || self.offset != 0 || half.is_stray_half() {
+            return Err(DecodeFault::FieldNotZero);
+        }
+        let value = wide_value(self.imm, half.imm);
+        Ok(Insn::LoadImm { dst, value })
+    }
+
+    fn load(
+        self,
+        behind: Option<Slot>,
+        size: Size,
+        signed: bool,
+        dst: Reg,
+        base: Reg,
+    ) -> Result<Insn, DecodeFault>
+        requires fits { IsSlot self }
+        requires opcode { self.opcode ≡ opcode_byte (opcode.Load size signed) }
+        requires dst { dst.number ≡ self.dst }
+        requires base { base.number ≡ self.src }
+        requires form { IsLoad size signed }
+        ensures found { IfOk result (λ insn. Reads self behind insn) }
+        ensures refused { IfErr result (λ fault.
+            form_fault (opcode.Load size signed) self behind ≡ Some fault) }
+    {
+        if self.imm != 0 {
+            return Err(DecodeFault::FieldNotZero);
+        }
+        Ok(Insn::Load {
+            size,
+            signed,
+            dst,
+            base,
+            offset: self.offset,
+        })
+    }
+
+    fn store_imm(self, behind: Option<Slot>, size: Size, base: Reg) -> Result<Insn, DecodeFault>
+        requires fits { IsSlot self }
+        requires opcode { self.opcode ≡ opcode_byte (opcode.StoreImm size) }
+        requires base { base.number ≡ self.dst }
+        ensures found { IfOk result (λ insn. Reads self behind insn) }
+        ensures refused { IfErr result (λ fault.
+            form_fault (opcode.StoreImm size) self behind ≡ Some fault) }
+    {
+        if self.src != 0 {
+            return Err(DecodeFault::FieldNotZero);
+        }
+        Ok(Insn::StoreImm {
+            size,
+            base,
+            offset: self.offset,
+            imm: self.imm,
+        })
+    }
+
+    fn store(
+        self,
+        behind: Option<Slot>,
+        size: Size,
+        base: Reg,
+        src: Reg,
+    ) -> Result<Insn, DecodeFault>
+        requires fits { IsSlot self }
+        requires opcode { self.opcode ≡ opcode_byte (opcode.Store size) }
+        requires base { base.number ≡ self.dst }
+        requires src { src.number ≡ self.src }
+        ensures found { IfOk result (λ insn. Reads self behind insn) }
+        ensures refused { IfErr result (λ fault.
+            form_fault (opcode.Store size) self behind ≡ Some fault) }
+    {
+        if self.imm != 0 {
+            return Err(DecodeFault::FieldNotZero);
+        }
+        Ok(Insn::Store {
+            size,
+            base,
+            offset: self.offset,
+            src,
+        })
+    }
+
+    fn jump(self, behind: Option<Slot>) -> Result<Insn, DecodeFault>
+        requires fits { IsSlot self }
+        requires opcode { self.opcode ≡ opcode_byte (opcode.Jump) }
+        ensures found { IfOk result (λ insn. Reads self behind insn) }
+        ensures refused { IfErr result (λ fault.
+            form_fault (opcode.Jump) self behind ≡ Some fault) }
+    {
+        if self.dst != 0 || self.src != 0 || self.imm != 0 {
+            return Err(DecodeFault::FieldNotZero);
+        }
+        Ok(Insn::Jump {
+            offset: self.offset,
+        })
+    }
+
+    fn jump_long(self, behind: Option<Slot>) -> Result<Insn, DecodeFault>
+        requires fits { IsSlot self }
+        requires opcode { self.opcode ≡ opcode_byte (opcode.JumpLong) }
+        ensures found { IfOk result (λ insn. Reads self behind insn) }
+        ensures refused { IfErr result (λ fault.
+            form_fault (opcode.JumpLong) self behind ≡ Some fault) }
+    {
+        if self.dst != 0 || self.src != 0 || self.offset != 0 {
+            return Err(DecodeFault::FieldNotZero);
+        }
+        Ok(Insn::JumpLong { offset: self.imm })
+    }
+
+    fn test(
+        self,
+        behind: Option<Slot>,
+        narrow: bool,
+        test: Test,
+        source: SourceKind,
+        dst: Reg,
+        src: Reg,
+    ) -> Result<Insn, DecodeFault>
+        requires fits { IsSlot self }
+        requires opcode { self.opcode ≡ opcode_byte (opcode.Test narrow test source) }
+        requires dst { dst.number ≡ self.dst }
+        requires src { src.number ≡ self.src }
+        ensures found { IfOk result (λ insn. Reads self behind insn) }
+        ensures refused { IfErr result (λ fault.
+            form_fault (opcode.Test narrow test source) self behind ≡ Some fault) }
+    {
+        let (operand, stray) = match source {
+            SourceKind::K => (Source::Imm(self.imm), self.src != 0),
+            SourceKind::X => (Source::Reg(src), self.imm != 0),
+        };
+        if stray {
+            return Err(DecodeFault::FieldNotZero);
+        }
+        Ok(Insn::Test {
+            narrow,
+            test,
+            dst,
+            src: operand,
+            offset: self.offset,
+        })
+    }
+
+    fn call(self, behind: Option<Slot>) -> Result<Insn, DecodeFault>
+        requires fits { IsSlot self }
+        requires opcode { self.opcode ≡ opcode_byte (opcode.Call) }
+        ensures found { IfOk result (λ insn. Reads self behind insn) }
+        ensures refused { IfErr result (λ fault.
+            form_fault (opcode.Call) self behind ≡ Some fault) }
+    {
+        if self.dst != 0 || self.offset != 0 {
+            return Err(DecodeFault::FieldNotZero);
+        }
+        match self.src {
+            0 => Ok(Insn::CallHelper { helper: self.imm }),
+            1 => Ok(Insn::CallLocal { offset: self.imm }),
+            _ => Err(DecodeFault::FieldNotZero),
+        }
+    }
+
+    fn exit(self, behind: Option<Slot>) -> Result<Insn, DecodeFault>
+        requires fits { IsSlot self }
+        requires opcode { self.opcode ≡ opcode_byte (opcode.Exit) }
+        ensures found { IfOk result (λ insn. Reads self behind insn) }
+        ensures refused { IfErr result (λ fault.
+            form_fault (opcode.Exit) self behind ≡ Some fault) }
+    {
+        if self.dst != 0 || self.src != 0 || self.offset != 0 || self.imm != 0 {
+            return Err(DecodeFault::FieldNotZero);
+        }
+        Ok(Insn::Exit)
+    }
+
+    /// Whether the second slot of a wide instruction holds more than its immediate.
+    fn is_stray_half(self) -> bool
+        ensures { result ≡ is_stray_half (Some self) }
+    {
+        self.opcode != 0 || self.dst != 0 || self.src != 0 || self.offset != 0
+    }
+
+    /// The slot of these fields.
+    fn of(opcode: Opcode, dst: u8, src: u8, offset: i16, imm: i32) -> Slot
+        requires dst { dst ≤ 10 }
+        requires src { src ≤ 10 }
+        ensures encoded { result ≡ slot_with opcode dst src offset imm }
+        ensures fits { IsSlot result }
+    {
+        Slot {
+            opcode: opcode.byte(),
+            dst,
+            src,
+            offset,
+            imm,
+        }
+    }
+
+    /// The second slot of a wide instruction.
+    fn half(imm: i32) -> Slot
+        ensures { result ≡ half_slot imm }
+    {
+        Slot {
+            opcode: 0,
+            dst: 0,
+            src: 0,
+            offset: 0,
+            imm,
         }
     }
 }
 
-impl Insn {
-    ghost use Rattle.std.specs.Prelude.{◌≡◌, [], ◌∷◌};
-    ghost use Rattle.bpf_decode.specs.Encoding.{insn_slots, IsSlot};
+/// The constant of 64 bits of two immediates, the lower half first.
+fn wide_value(low: i32, high: i32) -> u64
+    ensures low { signed_32 (result % 2 ^ 32) ≡ low }
+    ensures high { signed_32 (result / 2 ^ 32) ≡ high }
+{
+    u64::from(low.cast_unsigned()) + (u64::from(high.cast_unsigned()) << 32)
+}
 
-    /// The slot that encodes the instruction.
-    pub fn to_slot(self) -> Slot
-        ensures encoded { insn_slots self ≡ result ∷ [] }
+impl Insn {
+    ghost use Rattle.std.specs.Prelude.{◌≡◌, length, IfSome, IsSome};
+    ghost use Rattle.bpf_decode.specs.Encoding.{insn_slots, other_slots, first_slot, IsSlot};
+    ghost use Rattle.bpf_decode.specs.Parts.{slot_list};
+
+    /// How many slots encode the instruction, 1 or 2.
+    pub fn slots(self) -> usize
+        ensures { result ≡ length (insn_slots self) }
+    {
+        match self {
+            Insn::LoadImm { .. } => 2,
+            _ => 1,
+        }
+    }
+
+    /// The second slot that encodes the instruction, if it has one.
+    pub fn second_slot(self) -> Option<Slot>
+        ensures encoded { slot_list result ≡ other_slots self }
+        ensures fits { IfSome result (λ slot. IsSlot slot) }
+    {
+        match self {
+            Insn::LoadImm { value, .. } => {
+                let high = (value >> 32) as u32;
+                Some(Slot::half(high.cast_signed()))
+            }
+            _ => None,
+        }
+    }
+
+    /// The first slot that encodes the instruction.
+    pub fn first_slot(self) -> Slot
+        ensures encoded { result ≡ first_slot self }
         ensures fits { IsSlot result }
     {
         match self {
@@ -136,33 +441,106 @@ impl Insn {
                 op,
                 dst,
                 src,
-            } => {
-                let (source, src, imm) = match src {
-                    Source::Imm(value) => (SourceKind::K, 0, value),
-                    Source::Reg(reg) => (SourceKind::X, reg.number, 0),
-                };
-                Slot {
-                    opcode: Opcode::Alu { width, op, source }.byte(),
-                    dst: dst.number,
-                    src,
-                    offset: 0,
-                    imm,
-                }
+            } => alu_slot(width, op, dst, src),
+            Insn::Swap { kind, width, dst } => {
+                let imm = swap_immediate(width);
+                Slot::of(Opcode::Swap { kind }, dst.number, 0, 0, imm)
             }
-            Insn::CallHelper { helper } => Slot {
-                opcode: Opcode::Call.byte(),
-                dst: 0,
-                src: 0,
-                offset: 0,
-                imm: helper,
-            },
-            Insn::Exit => Slot {
-                opcode: Opcode::Exit.byte(),
-                dst: 0,
-                src: 0,
-                offset: 0,
-                imm: 0,
-            },
+            Insn::LoadImm { dst, value } => {
+                let low = (value & 0xffff_ffff) as u32;
+                Slot::of(Opcode::LoadImm, dst.number, 0, 0, low.cast_signed())
+            }
+            Insn::Load {
+                size,
+                signed,
+                dst,
+                base,
+                offset,
+            } => Slot::of(
+                Opcode::Load { size, signed },
+                dst.number,
+                base.number,
+                offset,
+                0,
+            ),
+            Insn::StoreImm {
+                size,
+                base,
+                offset,
+                imm,
+            } => Slot::of(Opcode::StoreImm { size }, base.number, 0, offset, imm),
+            Insn::Store {
+                size,
+                base,
+                offset,
+                src,
+            } => Slot::of(Opcode::Store { size }, base.number, src.number, offset, 0),
+            Insn::Jump { offset } => Slot::of(Opcode::Jump, 0, 0, offset, 0),
+            Insn::JumpLong { offset } => Slot::of(Opcode::JumpLong, 0, 0, 0, offset),
+            Insn::Test {
+                narrow,
+                test,
+                dst,
+                src,
+                offset,
+            } => test_slot(narrow, test, dst, src, offset),
+            Insn::CallHelper { helper } => Slot::of(Opcode::Call, 0, 0, 0, helper),
+            Insn::CallLocal { offset } => Slot::of(Opcode::Call, 0, 1, 0, offset),
+            Insn::Exit => Slot::of(Opcode::Exit, 0, 0, 0, 0),
+        }
+    }
+}
+
+fn alu_slot(width: AluWidth, op: AluOp, dst: Reg, src: Source) -> Slot
+    ensures encoded { result ≡ first_slot (insn.Alu width op dst src) }
+    ensures fits { IsSlot result }
+{
+    let operation = Operation::of(op);
+    let offset = offset_of(op);
+    match src {
+        Source::Imm(value) => {
+            let source = SourceKind::K;
+            let opcode = Opcode::Alu {
+                width,
+                operation,
+                source,
+            };
+            Slot::of(opcode, dst.number, 0, offset, value)
+        }
+        Source::Reg(src) => {
+            let source = SourceKind::X;
+            let opcode = Opcode::Alu {
+                width,
+                operation,
+                source,
+            };
+            Slot::of(opcode, dst.number, src.number, offset, 0)
+        }
+    }
+}
+
+fn test_slot(narrow: bool, test: Test, dst: Reg, src: Source, offset: i16) -> Slot
+    ensures encoded { result ≡ first_slot (insn.Test narrow test dst src offset) }
+    ensures fits { IsSlot result }
+{
+    match src {
+        Source::Imm(value) => {
+            let source = SourceKind::K;
+            let opcode = Opcode::Test {
+                narrow,
+                test,
+                source,
+            };
+            Slot::of(opcode, dst.number, 0, offset, value)
+        }
+        Source::Reg(src) => {
+            let source = SourceKind::X;
+            let opcode = Opcode::Test {
+                narrow,
+                test,
+                source,
+            };
+            Slot::of(opcode, dst.number, src.number, offset, 0)
         }
     }
 }

@@ -4,6 +4,7 @@ use std::io::{self, Read, Write};
 use std::process::Abort;
 use std::test::Fail;
 
+mod instructions;
 mod rows;
 
 /// Words, input, status and output of a run.
@@ -39,6 +40,16 @@ fn run_rows<R: Abort + AllocGlobal>(rt: &R, rows: &str) -> Result<(), Fail> {
 #[test]
 fn results_of_accepted_code(rt: HostRuntime) -> Result<(), Fail> {
     run_rows(&rt, rows::RESULTS)
+}
+
+#[test]
+fn results_of_every_instruction(rt: HostRuntime) -> Result<(), Fail> {
+    run_rows(&rt, instructions::RESULTS)
+}
+
+#[test]
+fn refusals_of_every_kind(rt: HostRuntime) -> Result<(), Fail> {
+    run_rows(&rt, instructions::REFUSALS)
 }
 
 #[test]
@@ -136,7 +147,7 @@ fn runs_of_the_program(rt: HostRuntime) -> Result<(), Fail> {
         ),
         (
             &["bpf_host", "verify"],
-            "8510000001000000 9500000000000000",
+            "8520000001000000 9500000000000000",
             1,
             "refused 6 FieldNotZero at 0\n",
         ),

@@ -1,8 +1,10 @@
 //! The bytes that a procedure can reach.
 
 ghost use Rattle.std.specs.Prelude.{◌≡◌};
-ghost use Rattle.bpf_machine.specs.Represents.{InBounds, index_of};
+ghost use Rattle.bpf_decode.specs.declared.insn.Size.TheVariants.{B, H, W};
+ghost use Rattle.bpf_machine.specs.Represents.{InBounds, index_of, extended};
 
+use bpf_decode::Size;
 use bpf_model::layout::{ARGUMENTS_SIZE, ARGUMENTS_START, FRAME_SIZE, FRAME_START};
 
 /// The bytes that code can reach: the frame's, and behind them those of the arguments. A byte of the
@@ -13,9 +15,10 @@ pub struct Memory {
 }
 
 impl Memory {
-    ghost use Rattle.std.specs.Prelude.{◌≡◌, ℕ, List, ◌≤◌, Some, length};
+    ghost use Rattle.std.specs.Prelude.{◌≡◌, ℕ, List, ◌<◌, ◌≤◌, Some, length};
     ghost use Rattle.tenant_maps.specs.Entries.{Entries};
     ghost use Rattle.bpf_model.specs.Machine.{Memory as Bytes, bytes_at, start, stored};
+    ghost use Rattle.bpf_model.specs.Access.{bytes_of, loaded, stored_bytes};
     ghost use Rattle.bpf_machine.specs.Represents.{InBounds, RepresentsMemory, call_of};
 
     /// As a call begins: the arguments, with zeros behind them.
@@ -29,49 +32,97 @@ impl Memory {
         Memory { bytes }
     }
 
-    /// The 16 bytes of a key.
-    pub fn key_at(&self, address: u64) -> [u8; 16]
-        requires { InBounds address 16 }
-        ensures { (memory : Bytes) (key : List ℕ) → RepresentsMemory self.now.bytes memory →
-            bytes_at memory address 16 ≡ Some key → result ≡ key }
+    /// The number that the bytes at an address are, zero-extended or sign-extended (RFC 9669, 5.1 and 5.2).
+    pub fn load(&self, size: Size, signed: bool, address: u64) -> u64
+        requires { InBounds address (bytes_of size) }
+        ensures { (memory : Bytes) (bytes : List ℕ) → RepresentsMemory self.now.bytes memory →
+            bytes_at memory address (bytes_of size) ≡ Some bytes → result ≡ loaded size signed bytes }
     {
-        let at = index_of(address);
-        let mut key = [0; 16];
-        key.copy_from_slice(&self.bytes[at..at + 16]);
-        key
+        match size {
+            Size::B => extend_8(u8::from_le_bytes(self.bytes_at::<1>(address)), signed),
+            Size::H => extend_16(u16::from_le_bytes(self.bytes_at::<2>(address)), signed),
+            Size::W => extend_32(u32::from_le_bytes(self.bytes_at::<4>(address)), signed),
+            Size::Dw => u64::from_le_bytes(self.bytes_at::<8>(address)),
+        }
     }
 
-    /// The 32 bytes of a value.
-    pub fn value_at(&self, address: u64) -> [u8; 32]
-        requires { InBounds address 32 }
-        ensures { (memory : Bytes) (value : List ℕ) → RepresentsMemory self.now.bytes memory →
-            bytes_at memory address 32 ≡ Some value → result ≡ value }
-    {
-        let at = index_of(address);
-        let mut value = [0; 32];
-        value.copy_from_slice(&self.bytes[at..at + 32]);
-        value
-    }
-
-    /// Writes a value.
-    pub fn put_value(&mut self, address: u64, value: &[u8; 32])
-        requires { InBounds address 32 }
+    /// Stores the low bytes of a number (RFC 9669, 5.1).
+    pub fn store(&mut self, size: Size, address: u64, value: u64)
+        requires { InBounds address (bytes_of size) }
         ensures { (memory : Bytes) → RepresentsMemory self.old.bytes memory →
-            RepresentsMemory self.new.bytes (stored memory address value.now) }
+            RepresentsMemory self.new.bytes (stored memory address (stored_bytes size value)) }
+    {
+        match size {
+            Size::B => self.put_bytes(address, ((value & 0xff) as u8).to_le_bytes()),
+            Size::H => self.put_bytes(address, ((value & 0xffff) as u16).to_le_bytes()),
+            Size::W => self.put_bytes(address, ((value & 0xffff_ffff) as u32).to_le_bytes()),
+            Size::Dw => self.put_bytes(address, value.to_le_bytes()),
+        }
+    }
+
+    /// So many bytes from an address on.
+    pub fn bytes_at<const N: usize>(&self, address: u64) -> [u8; N]
+        requires some { 0 < N }
+        requires inside { InBounds address N }
+        ensures { (memory : Bytes) (bytes : List ℕ) → RepresentsMemory self.now.bytes memory →
+            bytes_at memory address N ≡ Some bytes → result ≡ bytes }
     {
         let at = index_of(address);
-        self.bytes[at..at + 32].copy_from_slice(value);
+        let mut bytes = [0; N];
+        bytes.copy_from_slice(&self.bytes[at..at + N]);
+        bytes
+    }
+
+    /// Writes bytes from an address on.
+    pub fn put_bytes<const N: usize>(&mut self, address: u64, bytes: [u8; N])
+        requires some { 0 < N }
+        requires inside { InBounds address N }
+        ensures { (memory : Bytes) → RepresentsMemory self.old.bytes memory →
+            RepresentsMemory self.new.bytes (stored memory address bytes.entry) }
+    {
+        let at = index_of(address);
+        self.bytes[at..at + N].copy_from_slice(&bytes);
     }
 }
 
 /// The index of the byte at an address.
 fn index_of(address: u64) -> usize
-    requires { InBounds address 16 }
+    requires { InBounds address 1 }
     ensures { result ≡ index_of address }
 {
     if address < ARGUMENTS_START {
         (address - FRAME_START) as usize
     } else {
         FRAME_SIZE + (address - ARGUMENTS_START) as usize
+    }
+}
+
+fn extend_8(value: u8, signed: bool) -> u64
+    ensures { result ≡ extended B signed value }
+{
+    if signed {
+        i64::from(value.cast_signed()).cast_unsigned()
+    } else {
+        u64::from(value)
+    }
+}
+
+fn extend_16(value: u16, signed: bool) -> u64
+    ensures { result ≡ extended H signed value }
+{
+    if signed {
+        i64::from(value.cast_signed()).cast_unsigned()
+    } else {
+        u64::from(value)
+    }
+}
+
+fn extend_32(value: u32, signed: bool) -> u64
+    ensures { result ≡ extended W signed value }
+{
+    if signed {
+        i64::from(value.cast_signed()).cast_unsigned()
+    } else {
+        u64::from(value)
     }
 }

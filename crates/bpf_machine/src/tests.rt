@@ -150,3 +150,143 @@ fn zeros_behind_the_arguments_and_for_an_absent_key(rt: HostRuntime) -> Result<(
     assert_eq!(rt; map.get(&key_of(5)), Some([0; 32]));
     Ok(())
 }
+
+// What code of four slots returns on the arguments of number 7.
+fn result_of(rt: &HostRuntime, slots: &[u64; 4]) -> Result<(u64, u32), Fail> {
+    let bytes = code(rt.alloc(), slots)?;
+    let procedure = verify(rt.alloc(), &bytes)?;
+    let mut map = TenantMap::new(rt.alloc());
+    let finished = run(&procedure, &arguments(7), ClientId(16), &mut map)?;
+    Ok((finished.result, finished.steps))
+}
+
+const EXIT: u64 = 0x9500_0000_0000_0000;
+
+#[test]
+fn arithmetic_of_every_kind(rt: HostRuntime) -> Result<(), Fail> {
+    let rows = [
+        (
+            "a wide constant takes one step",
+            [0x1800_0000_8877_6655u64, 0x0000_0000_4433_2211, EXIT, EXIT],
+            0x1122_3344_5566_7788u64,
+            2u32,
+        ),
+        (
+            "be of 16 cuts",
+            [0xb700_0000_7856_3412, 0xdc00_0000_1000_0000, EXIT, EXIT],
+            0x7856,
+            3,
+        ),
+        (
+            "13 sdiv -3 of 32 bits",
+            [0xb700_0000_0d00_0000, 0x3400_0100_fdff_ffff, EXIT, EXIT],
+            0xffff_fffc,
+            3,
+        ),
+        (
+            "a register added to itself",
+            [0xb700_0000_0500_0000, 0x0f00_0000_0000_0000, EXIT, EXIT],
+            10,
+            3,
+        ),
+    ];
+    for (name, slots, result, steps) in rows {
+        assert_eq!(rt; result_of(&rt, &slots)?, (result, steps), "{name}");
+    }
+    Ok(())
+}
+
+#[test]
+fn memory_of_both_regions(rt: HostRuntime) -> Result<(), Fail> {
+    let rows = [
+        (
+            "an argument byte",
+            [0x7110_0300_0000_0000u64, EXIT, EXIT, EXIT],
+            7u64,
+        ),
+        (
+            "a half word in the order of its bytes",
+            [0x7a0a_f8ff_fe80_0000, 0x69a0_f8ff_0000_0000, EXIT, EXIT],
+            0x80fe,
+        ),
+        (
+            "its sign extended",
+            [0x7a0a_f8ff_fe80_0000, 0x89a0_f8ff_0000_0000, EXIT, EXIT],
+            0xffff_ffff_ffff_80fe,
+        ),
+        (
+            "a stored immediate is sign-extended",
+            [0x7a0a_f8ff_feff_ffff, 0x79a0_f8ff_0000_0000, EXIT, EXIT],
+            0xffff_ffff_ffff_fffe,
+        ),
+    ];
+    for (name, slots, result) in rows {
+        assert_eq!(rt; result_of(&rt, &slots)?.0, result, "{name}");
+    }
+    Ok(())
+}
+
+#[test]
+fn jumps_and_tests(rt: HostRuntime) -> Result<(), Fail> {
+    let rows = [
+        (
+            "a jump over a move",
+            [
+                0xb700_0000_0100_0000u64,
+                0x0500_0100_0000_0000,
+                0xb700_0000_0200_0000,
+                EXIT,
+            ],
+            1u64,
+            3u32,
+        ),
+        (
+            "a jump by an immediate",
+            [
+                0xb700_0000_0100_0000,
+                0x0600_0000_0100_0000,
+                0xb700_0000_0200_0000,
+                EXIT,
+            ],
+            1,
+            3,
+        ),
+        (
+            "-1 is greater, unsigned",
+            [
+                0xb700_0000_ffff_ffff,
+                0x2500_0100_0500_0000,
+                0xb700_0000_0000_0000,
+                EXIT,
+            ],
+            0xffff_ffff_ffff_ffff,
+            3,
+        ),
+        (
+            "-1 is not greater, signed",
+            [
+                0xb700_0000_ffff_ffff,
+                0x6500_0100_0500_0000,
+                0xb700_0000_0000_0000,
+                EXIT,
+            ],
+            0,
+            4,
+        ),
+        (
+            "low halves are equal",
+            [
+                0xb400_0000_ffff_ffff,
+                0x1600_0100_ffff_ffff,
+                0xb700_0000_0000_0000,
+                EXIT,
+            ],
+            0xffff_ffff,
+            3,
+        ),
+    ];
+    for (name, slots, result, steps) in rows {
+        assert_eq!(rt; result_of(&rt, &slots)?, (result, steps), "{name}");
+    }
+    Ok(())
+}

@@ -1,8 +1,8 @@
 -- The abstract state at a slot is below that of each edge to it.
-use Rattle.std.proofs.Common.{◌≡◌, ℕ, zero, suc, ◌<◌, ◌≤◌, Bool, true, false, cond, eqb, leb, List, [], ◌∷◌, Option, Some, None, refl, sym, ap, subst, ◌∙◌, arith, inl, inr, map, filter, fold}
-use Rattle.std.proofs.lemmas.Bool.{cases_lt, eq-eqb, leb-true, leb-false}
+use Rattle.std.proofs.Common.{◌≡◌, ℕ, zero, suc, ◌<◌, ◌≤◌, Bool, true, false, cond, eqb, List, [], ◌∷◌, Option, Some, None, refl, sym, ap, subst, ◌∙◌, arith, inl, inr, map, filter, fold}
+use Rattle.std.proofs.lemmas.Bool.{cases_lt, eq-eqb}
 use Rattle.bpf_decode.specs.declared.insn.Insn.{Insn}
-use Rattle.bpf_model.specs.Ranges.{Range}
+use Rattle.reg_ranges.specs.Ranges.{Range}
 use Rattle.bpf_model.specs.AbstractState.{AbstractState, Edge, join_option, join, join_all, IsOneOf}
 use Rattle.bpf_model.specs.Dataflow.{flows_to, incoming, state_at, edges_at}
 use Rattle.bpf_model.proofs.Options.{and_true, some_is, IsOneOf-left, IsOneOf-right}
@@ -12,30 +12,6 @@ pub record IsBelow (a b : AbstractState) : Type 0 where
   pub ranges : (r : ℕ) (x : Range) → a.ranges r ≡ Some x → (y : Range) × (b.ranges r ≡ Some y) × (x.lo ≤ y.lo) × (y.hi ≤ x.hi)
   pub initialized : (address : ℕ) → a.initialized address ≡ true → b.initialized address ≡ true
 
-lower_left : (m n : ℕ) → cond (leb m n) m n ≤ m
-lower_left m n = cases (leb m n) refl where
-  cases : (b : Bool) → leb m n ≡ b → cond b m n ≤ m
-  cases true e = omega arith
-  cases false e = let more = leb-false m n e in omega arith
-
-lower_right : (m n : ℕ) → cond (leb m n) m n ≤ n
-lower_right m n = cases (leb m n) refl where
-  cases : (b : Bool) → leb m n ≡ b → cond b m n ≤ n
-  cases true e = leb-true m n e
-  cases false e = omega arith
-
-upper_left : (m n : ℕ) → m ≤ cond (leb m n) n m
-upper_left m n = cases (leb m n) refl where
-  cases : (b : Bool) → leb m n ≡ b → m ≤ cond b n m
-  cases true e = leb-true m n e
-  cases false e = omega arith
-
-upper_right : (m n : ℕ) → n ≤ cond (leb m n) n m
-upper_right m n = cases (leb m n) refl where
-  cases : (b : Bool) → leb m n ≡ b → n ≤ cond b n m
-  cases true e = omega arith
-  cases false e = let more = leb-false m n e in omega arith
-
 -- a range that lies in another
 abbrev Within : Range → Option Range → Type 0
 Within x o = (y : Range) × (o ≡ Some y) × (x.lo ≤ y.lo) × (y.hi ≤ x.hi)
@@ -44,13 +20,13 @@ join_option_left : (p q : Option Range) (x : Range) → join_option p q ≡ Some
 join_option_left None q x e = absurd cc
 join_option_left (Some a) None x e = absurd cc
 join_option_left (Some a) (Some b) x e =
-    subst (λ (y : Range). Within y (Some a)) (some_is _ _ e) (a, refl, lower_left a.lo b.lo, upper_left a.hi b.hi)
+    subst (λ (y : Range). Within y (Some a)) (some_is _ _ e) (a, refl, omega arith, omega arith)
 
 join_option_right : (p q : Option Range) (x : Range) → join_option p q ≡ Some x → Within x q
 join_option_right None q x e = absurd cc
 join_option_right (Some a) None x e = absurd cc
 join_option_right (Some a) (Some b) x e =
-    subst (λ (y : Range). Within y (Some b)) (some_is _ _ e) (b, refl, lower_right a.lo b.lo, upper_right a.hi b.hi)
+    subst (λ (y : Range). Within y (Some b)) (some_is _ _ e) (b, refl, omega arith, omega arith)
 
 IsBelow-join_left : (a b : AbstractState) → IsBelow (join a b) a
 IsBelow-join_left a b = record {

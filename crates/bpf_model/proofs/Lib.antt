@@ -1,10 +1,13 @@
 pub mod Options
 pub mod Pasted
 pub mod Slots
+pub mod Edges
 pub mod Joins
 pub mod Memories
 pub mod RangeLaws
 pub mod Soundness
 pub mod WellFormedness
 pub mod Safety
+pub mod Totality
 pub mod Runs
+pub mod Effects

@@ -1,6 +1,7 @@
 -- Options, tests and elements of lists.
 use Rattle.std.proofs.Common.{◌≡◌, Bool, true, false, ◌&&◌, not, cond, Option, Some, None, List, [], ◌∷◌, ◌++◌, refl, inl, inr}
 use Rattle.std.specs.Prelude.{IsSome}
+use Rattle.std.specs.Option.{option_map}
 use Rattle.bpf_num.specs.Bind.{◌>>=◌}
 use Rattle.bpf_model.specs.AbstractState.{IsOneOf}
 
@@ -29,6 +30,21 @@ all_three true false c m n k e = absurd cc
 all_three true true false m n k e = absurd cc
 all_three true true true m n k e = (refl, refl, refl)
 
+pub no_fault_of_five : {X : Type 0} (a b c d e : Bool) (m n k l o : X) → cond a (Some m) (cond b (Some n) (cond c (Some k) (cond d (Some l) (cond e (Some o) None)))) ≡ None → (a ≡ false) × (b ≡ false) × (c ≡ false) × (d ≡ false) × (e ≡ false)
+no_fault_of_five true b c d e m n k l o h = absurd cc
+no_fault_of_five false true c d e m n k l o h = absurd cc
+no_fault_of_five false false true d e m n k l o h = absurd cc
+no_fault_of_five false false false true e m n k l o h = absurd cc
+no_fault_of_five false false false false true m n k l o h = absurd cc
+no_fault_of_five false false false false false m n k l o h = (refl, refl, refl, refl, refl)
+
+pub no_fault_of_four : {X : Type 0} (a b c d : Bool) (m n k l : X) → cond (not a) (Some m) (cond (not b) (Some n) (cond (not c) (Some k) (cond d (Some l) None))) ≡ None → (a ≡ true) × (b ≡ true) × (c ≡ true) × (d ≡ false)
+no_fault_of_four false b c d m n k l h = absurd cc
+no_fault_of_four true false c d m n k l h = absurd cc
+no_fault_of_four true true false d m n k l h = absurd cc
+no_fault_of_four true true true true m n k l h = absurd cc
+no_fault_of_four true true true false m n k l h = (refl, refl, refl, refl)
+
 pub IsOneOf-left : {X : Type 0} (x : X) (xs ys : List X) → IsOneOf x xs → IsOneOf x (xs ++ ys)
 IsOneOf-left x [] ys h = absurd h
 IsOneOf-left x (y ∷ xs) ys (inl e) = inl e
@@ -40,6 +56,10 @@ IsOneOf-right x (y ∷ xs) ys h = inr (IsOneOf-right x xs ys h)
 
 pub some_is : {A : Type 0} (x y : A) → Some x ≡ Some y → x ≡ y
 some_is x y e = cc
+
+pub map_some : {A B : Type 0} (f : A → B) (o : Option A) (y : B) → option_map f o ≡ Some y → (x : A) × (o ≡ Some x) × (f x ≡ y)
+map_some f None y e = absurd cc
+map_some f (Some x) y e = (x, refl, some_is (f x) y e)
 
 -- what a chain of partial functions gives came from each of them
 pub bind_some : {A B : Type 0} (o : Option A) (f : A → Option B) (y : B) → (o >>= f) ≡ Some y → (x : A) × (o ≡ Some x) × (f x ≡ Some y)

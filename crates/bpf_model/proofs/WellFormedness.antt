@@ -1,56 +1,46 @@
--- The ranges at each slot have their ends in order, and hold numbers of 64 bits alone.
-use Rattle.std.proofs.Common.{◌≡◌, ℕ, zero, suc, Bool, true, false, cond, eqb, leb, List, [], ◌∷◌, ◌++◌, Option, Some, None, refl, sym, ap, subst, ◌∙◌, arith, inl, inr, map, filter, fold}
-use Rattle.std.specs.Prelude.{slice_get, nat_le}
+-- The ranges at each slot hold numbers of 64 bits alone.
+use Rattle.std.proofs.Common.{◌≡◌, ℕ, zero, suc, ◌+◌, ◌^◌, ◌<◌, Bool, true, false, cond, eqb, List, [], ◌∷◌, ◌++◌, Option, Some, None, refl, sym, ap, subst, ◌∙◌, arith, inl, inr, map, filter, fold}
+use Rattle.std.specs.Prelude.{nat_le}
+use Rattle.std.specs.Int.{w64, cast_unsigned}
 use Rattle.std.specs.List.{AllByRecursion}
-use Rattle.std.proofs.lemmas.Bool.{leb-true, leb-false}
+use Rattle.std.specs.Option.{option_map}
 use Rattle.std.proofs.lemmas.Bool.Decides.{eqb_tells, leb_tells}
 use Rattle.bpf_num.specs.declared.AluOp.{AluOp}
-use Rattle.bpf_num.specs.declared.AluOp.TheVariants.{Add, Mov}
+use Rattle.bpf_num.specs.declared.AluWidth.{AluWidth}
+use Rattle.bpf_num.specs.declared.jump.Test as tests
+use Rattle.bpf_num.specs.Arithmetic.{reads_destination}
+use Rattle.bpf_num.specs.Bind.{◌>>=◌}
 use Rattle.bpf_decode.specs.declared.insn.Insn.{Insn}
-use Rattle.bpf_decode.specs.declared.insn.Insn.TheVariants.{Alu, CallHelper, Exit}
+use Rattle.bpf_decode.specs.declared.insn.Insn.TheVariants.{Alu, Swap, LoadImm, Load, StoreImm, Store, Jump, JumpLong, Test, CallHelper, CallLocal, Exit}
 use Rattle.bpf_decode.specs.declared.insn.Source.{Source}
 use Rattle.bpf_decode.specs.declared.insn.Source.TheVariants as source
 use Rattle.bpf_decode.specs.Encoding.{IsInsn}
-use Rattle.bpf_num.specs.Bind.{◌>>=◌}
-use Rattle.bpf_model.specs.Code.{insn_at}
+use Rattle.reg_ranges.specs.Ranges.{Range, single, join_of, swap_range_of}
+use Rattle.reg_ranges.specs.Refine.{Ranges, refine_of}
+use Rattle.bpf_model.specs.Access.{bytes_of}
+use Rattle.bpf_model.specs.Code.{insn_at, target_of}
 use Rattle.bpf_model.specs.declared.helper.Access.{Access}
-use Rattle.bpf_model.specs.Ranges.{Range, hull, transfer}
-use Rattle.bpf_model.specs.AbstractState.{AbstractState, Edge, start_state, join_option, join, join_all, source_range, destination_range, with_range, alu_range, after_helper, edges}
+use Rattle.bpf_model.specs.Step.{tested_immediate}
+use Rattle.bpf_model.specs.AbstractState.{AbstractState, Edge, start_state, join_option, join, join_all, source_range, destination_range, transfer, with_range, alu_range, address_range, loaded_range, after_store, after_helper, tested_range, with_ranges, after_test, edge_if, edges}
 use Rattle.bpf_model.specs.Dataflow.{edges_of, flows_to, incoming, state_at}
-use Rattle.bpf_model.proofs.Options.{some_is, bind_some}
-use Rattle.bpf_model.proofs.Slots.{insn_at-is}
-use Rattle.bpf_model.proofs.RangeLaws.{WellFormed, transfer_well_formed}
-use Rattle.bpf_model.proofs.Soundness.{IsWellFormed, IsWellFormed-start, ImmInRange, imm_in_range}
-
--- an instruction of the code holds what an instruction can hold
-element_fits : (code : List Insn) (k : ℕ) (x : Insn) → AllByRecursion IsInsn code → slice_get code k ≡ Some x → IsInsn x
-element_fits [] k x fit e = absurd cc
-element_fits (y ∷ ys) zero x fit e = subst IsInsn (some_is _ _ e) fit.0
-element_fits (y ∷ ys) (suc k) x fit e = element_fits ys k x fit.1 e
-
-pub insn_fits : (code : List Insn) (k : ℕ) (x : Insn) → AllByRecursion IsInsn code → insn_at code k ≡ Some x → IsInsn x
-insn_fits code k x fit e = element_fits code k x fit (sym (insn_at-is code k) ∙ e)
+use Rattle.bpf_model.proofs.Options.{some_is, bind_some, map_some}
+use Rattle.bpf_model.proofs.Slots.{insn_fits}
+use Rattle.bpf_model.proofs.RangeLaws.{IsRange, IsRange-transfer, IsRange-swap, IsRange-loaded, IsRange-refine}
+use Rattle.bpf_model.proofs.Soundness.{IsWellFormed, IsWellFormed-start, ImmInRange, alu_imm, test_imm, small_64, immediate_small}
 
 -- ---- where ways join
 
-abbrev OptionWellFormed : Option Range → Type 0
-OptionWellFormed o = (x : Range) → o ≡ Some x → WellFormed 64 x
+abbrev IsRangeIfSome : Option Range → Type 0
+IsRangeIfSome o = (x : Range) → o ≡ Some x → IsRange x
 
-hull_well_formed : (a b : Range) → WellFormed 64 a → WellFormed 64 b → WellFormed 64 (hull a b)
-hull_well_formed a b fa fb =
-    let ao = fa.ordered in let al = fa.below in let bo = fb.ordered in let bl = fb.below in
-    cases (leb a.lo b.lo) (leb a.hi b.hi) refl refl where
-      cases : (p q : Bool) → leb a.lo b.lo ≡ p → leb a.hi b.hi ≡ q → WellFormed 64 (record { lo = cond p a.lo b.lo; hi = cond q b.hi a.hi })
-      cases true true e f = let low = leb-true _ _ e in record { ordered = omega arith; below = omega arith }
-      cases true false e f = record { ordered = omega arith; below = omega arith }
-      cases false true e f = record { ordered = omega arith; below = omega arith }
-      cases false false e f = let low = leb-false _ _ e in record { ordered = omega arith; below = omega arith }
+IsRange-join : (a b : Range) → IsRange a → IsRange b → IsRange (join_of a b)
+IsRange-join a b fa fb = let ha = fa.below in let hb = fb.below in record { below = omega arith }
 
-join_option_well_formed : (p q : Option Range) → OptionWellFormed p → OptionWellFormed q → OptionWellFormed (join_option p q)
+join_option_well_formed : (p q : Option Range) → IsRangeIfSome p → IsRangeIfSome q → IsRangeIfSome (join_option p q)
 join_option_well_formed None q fp fq x e = absurd cc
 join_option_well_formed (Some a) None fp fq x e = absurd cc
 join_option_well_formed (Some a) (Some b) fp fq x e =
-    subst (λ (y : Range). WellFormed 64 y) (some_is _ _ e) (hull_well_formed a b (fp a refl) (fq b refl))
+    subst (λ (y : Range). IsRange y) (some_is _ _ e) (IsRange-join a b (fp a refl) (fq b refl))
 
 join_well_formed : (a b : AbstractState) → IsWellFormed a → IsWellFormed b → IsWellFormed (join a b)
 unfolding IsWellFormed
@@ -64,31 +54,39 @@ join_all_well_formed : (xs : List AbstractState) (s : AbstractState) → AllByRe
 join_all_well_formed [] s all e = absurd cc
 join_all_well_formed (x ∷ xs) s all e = subst IsWellFormed (some_is _ _ e) (fold_well_formed x xs all.0 all.1)
 
--- ---- edges
+-- ---- instructions
 
-source_range_well_formed : (state : AbstractState) (src : Source) → IsWellFormed state → ImmInRange src → OptionWellFormed (source_range state src)
+IsRange-single : (n : ℕ) → n < 2 ^ 64 → IsRangeIfSome (Some (single n))
+IsRange-single n h x e =
+    let one : IsRange (single n) = record { below = h } in subst (λ (y : Range). IsRange y) (some_is (single n) x e) one
+
+source_range_well_formed : (state : AbstractState) (src : Source) → IsWellFormed state → ImmInRange src → IsRangeIfSome (source_range state src)
 unfolding IsWellFormed ImmInRange
-source_range_well_formed state (source.Imm value) fit small x e =
-    subst (λ (y : Range). WellFormed 64 y) (some_is _ _ e) (record { ordered = omega arith; below = small })
-source_range_well_formed state (source.Reg reg) fit small x e = fit reg.number x e
+source_range_well_formed state (source.Imm value) fit small = IsRange-single (cast_unsigned w64 value) (small_64 value small)
+source_range_well_formed state (source.Reg reg) fit small = fit reg.number
 
-destination_range_well_formed : (state : AbstractState) (op : AluOp) (d : ℕ) → IsWellFormed state → OptionWellFormed (destination_range state op d)
+tested_range_well_formed : (state : AbstractState) (narrow : Bool) (src : Source) → IsWellFormed state → ImmInRange src → IsRangeIfSome (tested_range state narrow src)
+unfolding IsWellFormed ImmInRange
+tested_range_well_formed state narrow (source.Imm value) fit small =
+    IsRange-single (tested_immediate narrow value) (immediate_small narrow value small)
+tested_range_well_formed state narrow (source.Reg reg) fit small = fit reg.number
+
+destination_range_well_formed : (state : AbstractState) (op : AluOp) (d : ℕ) → IsWellFormed state → IsRangeIfSome (destination_range state op d)
 unfolding IsWellFormed
-destination_range_well_formed state Add d fit x e = fit d x e
-destination_range_well_formed state Mov d fit x e =
-    subst (λ (y : Range). WellFormed 64 y) (some_is _ _ e) (record { ordered = omega arith; below = omega arith })
+destination_range_well_formed state op d fit = cases (reads_destination op) where
+  cases : (b : Bool) → IsRangeIfSome (cond b (state.ranges d) (Some (single 0)))
+  cases true = fit d
+  cases false = IsRange-single 0 (omega arith)
 
-alu_range_well_formed : (state : AbstractState) (x : Insn) → IsWellFormed state → IsInsn x → OptionWellFormed (alu_range state x)
-alu_range_well_formed state (CallHelper number) fit is r e = absurd cc
-alu_range_well_formed state Exit fit is r e = absurd cc
-alu_range_well_formed state (Alu width op dst src) fit is r e =
-    let first = bind_some (source_range state src) (λ b. destination_range state op dst.number >>= λ a. Some (transfer width op a b)) r e in
-    let second = bind_some (destination_range state op dst.number) (λ a. Some (transfer width op a first.0)) r first.2 in
-    let b = source_range_well_formed state src fit (imm_in_range width op dst src is) first.0 first.1 in
-    let a = destination_range_well_formed state op dst.number fit second.0 second.1 in
-    subst (λ (y : Range). WellFormed 64 y) (some_is _ _ second.2) (transfer_well_formed width op second.0 first.0 a b)
+alu_range_well_formed : (state : AbstractState) (width : AluWidth) (op : AluOp) (d : ℕ) (src : Source) → IsWellFormed state → ImmInRange src → IsRangeIfSome (alu_range state width op d src)
+alu_range_well_formed state width op d src fit small r e =
+    let first = bind_some (source_range state src) (λ b. destination_range state op d >>= λ a. Some (transfer width op a b)) r e in
+    let second = bind_some (destination_range state op d) (λ a. Some (transfer width op a first.0)) r first.2 in
+    let b = source_range_well_formed state src fit small first.0 first.1 in
+    let a = destination_range_well_formed state op d fit second.0 second.1 in
+    subst (λ (y : Range). IsRange y) (some_is _ _ second.2) (IsRange-transfer width op second.0 first.0 a b)
 
-with_range_well_formed : (state : AbstractState) (d : ℕ) (o : Option Range) → IsWellFormed state → OptionWellFormed o → IsWellFormed (with_range state d o)
+with_range_well_formed : (state : AbstractState) (d : ℕ) (o : Option Range) → IsWellFormed state → IsRangeIfSome o → IsWellFormed (with_range state d o)
 unfolding IsWellFormed
 with_range_well_formed state d o fit fo r x e =
     elim (eqb_tells r d) [
@@ -96,13 +94,21 @@ with_range_well_formed state d o fit fo r x e =
       | inr (f, other) ↦ fit r x (sym (ap (λ (b : Bool). cond b o (state.ranges r)) f) ∙ e)
     ]
 
+with_one : (state : AbstractState) (d : ℕ) (y : Range) → IsWellFormed state → IsRange y → IsWellFormed (with_range state d (Some y))
+with_one state d y fit fy =
+    with_range_well_formed state d (Some y) fit (λ x e. subst (λ (z : Range). IsRange z) (some_is y x e) fy)
+
+after_store_well_formed : (state : AbstractState) (o : Option Range) (size : ℕ) → IsWellFormed state → IsWellFormed (after_store state o size)
+unfolding IsWellFormed
+after_store_well_formed state o size fit = fit
+
 after_helper_well_formed : (state : AbstractState) (written : List Access) → IsWellFormed state → IsWellFormed (after_helper state written)
 unfolding IsWellFormed
 after_helper_well_formed state written fit r x e =
     elim (eqb_tells r 0) [
       | inl (t, same) ↦
           let is : record { lo = 0; hi = 1 } ≡ x = some_is _ _ (sym (ap (λ (b : Bool). cond b (Some (record { lo = 0; hi = 1 })) (cond (nat_le 6 r) (state.ranges r) None)) t) ∙ e) in
-          subst (λ (y : Range). WellFormed 64 y) is (record { ordered = omega arith; below = omega arith })
+          subst (λ (y : Range). IsRange y) is (record { below = omega arith })
       | inr (f, other) ↦
           let rest : cond (nat_le 6 r) (state.ranges r) None ≡ Some x = sym (ap (λ (b : Bool). cond b (Some (record { lo = 0; hi = 1 })) (cond (nat_le 6 r) (state.ranges r) None)) f) ∙ e in
           elim (leb_tells 6 r) [
@@ -111,13 +117,65 @@ after_helper_well_formed state written fit r x e =
           ]
     ]
 
+swap_well_formed : (state : AbstractState) (d : ℕ) (f : Range → Range) → IsWellFormed state → ((a : Range) → IsRange a → IsRange (f a)) → IsRangeIfSome (option_map f (state.ranges d))
+unfolding IsWellFormed
+swap_well_formed state d f fit keeps x e =
+    let a = map_some f (state.ranges d) x e in
+    subst (λ (y : Range). IsRange y) a.2 (keeps a.0 (fit d a.0 a.1))
+
+-- ---- edges
+
 abbrev EdgesWellFormed : List Edge → Type 0
 EdgesWellFormed es = AllByRecursion (λ (e : Edge). IsWellFormed e.state) es
 
+edge_if_well_formed : (target : Option ℕ) (o : Option AbstractState) → ((s : AbstractState) → o ≡ Some s → IsWellFormed s) → EdgesWellFormed (edge_if target o)
+edge_if_well_formed None o fit = tt
+edge_if_well_formed (Some t) None fit = tt
+edge_if_well_formed (Some t) (Some s) fit = (fit s refl, tt)
+
+with_ranges_well_formed : (state : AbstractState) (d : ℕ) (src : Source) (r : Ranges) → IsWellFormed state → IsRange r.a → IsRange r.b → IsWellFormed (with_ranges state d src r)
+with_ranges_well_formed state d (source.Imm value) r fit fa fb = with_one state d r.a fit fa
+with_ranges_well_formed state d (source.Reg reg) r fit fa fb = cases (eqb d reg.number) where
+  cases : (p : Bool) → IsWellFormed (cond p state (with_range (with_range state d (Some r.a)) reg.number (Some r.b)))
+  cases true = fit
+  cases false = with_one (with_range state d (Some r.a)) reg.number r.b (with_one state d r.a fit fa) fb
+
+range_at : (state : AbstractState) (d : ℕ) (x : Range) → IsWellFormed state → state.ranges d ≡ Some x → IsRange x
+unfolding IsWellFormed
+range_at state d x fit e = fit d x e
+
+after_test_well_formed : (state : AbstractState) (narrow : Bool) (test : tests.Test) (d : ℕ) (src : Source) (taken : Bool) → IsWellFormed state → ImmInRange src → (s : AbstractState) → after_test state narrow test d src taken ≡ Some s → IsWellFormed s
+after_test_well_formed state narrow test d src taken fit small s e =
+    let first = bind_some (tested_range state narrow src) (λ b. state.ranges d >>= λ a. refine_of test narrow a b taken >>= λ r. Some (with_ranges state d src r)) s e in
+    let second = bind_some (state.ranges d) (λ a. refine_of test narrow a first.0 taken >>= λ r. Some (with_ranges state d src r)) s first.2 in
+    let third = bind_some (refine_of test narrow second.0 first.0 taken) (λ r. Some (with_ranges state d src r)) s second.2 in
+    let both = IsRange-refine test narrow second.0 first.0 taken third.0 (range_at state d second.0 fit second.1) (tested_range_well_formed state narrow src fit small first.0 first.1) third.1 in
+    subst IsWellFormed (some_is (with_ranges state d src third.0) s third.2) (with_ranges_well_formed state d src third.0 fit both.0 both.1)
+
+same_state : (state : AbstractState) → IsWellFormed state → (s : AbstractState) → Some state ≡ Some s → IsWellFormed s
+same_state state fit s e = subst IsWellFormed (some_is state s e) fit
+
+edges_append : (xs ys : List Edge) → EdgesWellFormed xs → EdgesWellFormed ys → EdgesWellFormed (xs ++ ys)
+edges_append [] ys fx fy = fy
+edges_append (x ∷ xs) ys fx fy = (fx.0, edges_append xs ys fx.1 fy)
+
 edges_well_formed : (slot : ℕ) (state : AbstractState) (x : Insn) → IsWellFormed state → IsInsn x → EdgesWellFormed (edges slot state x)
 edges_well_formed slot state (Alu width op dst src) fit is =
-    (with_range_well_formed state dst.number (alu_range state (Alu width op dst src)) fit (alu_range_well_formed state (Alu width op dst src) fit is), tt)
+    (with_range_well_formed state dst.number (alu_range state width op dst.number src) fit (alu_range_well_formed state width op dst.number src fit (alu_imm width op dst src is)), tt)
+edges_well_formed slot state (Swap kind width dst) fit is =
+    (with_range_well_formed state dst.number (option_map (swap_range_of kind width) (state.ranges dst.number)) fit (swap_well_formed state dst.number (swap_range_of kind width) fit (IsRange-swap kind width)), tt)
+edges_well_formed slot state (LoadImm dst value) fit is = (with_one state dst.number (single value) fit (record { below = is }), tt)
+edges_well_formed slot state (Load size signed dst base offset) fit is =
+    (with_one state dst.number (loaded_range size signed) fit (IsRange-loaded size signed), tt)
+edges_well_formed slot state (StoreImm size base offset imm) fit is = (after_store_well_formed state (address_range state base.number offset) (bytes_of size) fit, tt)
+edges_well_formed slot state (Store size base offset src) fit is = (after_store_well_formed state (address_range state base.number offset) (bytes_of size) fit, tt)
+edges_well_formed slot state (Jump offset) fit is = edge_if_well_formed (target_of slot offset) (Some state) (same_state state fit)
+edges_well_formed slot state (JumpLong offset) fit is = edge_if_well_formed (target_of slot offset) (Some state) (same_state state fit)
+edges_well_formed slot state (Test narrow test dst src offset) fit is =
+    let small = test_imm narrow test dst src offset is in
+    edges_append (edge_if (Some (slot + 1)) (after_test state narrow test dst.number src false)) (edge_if (target_of slot offset) (after_test state narrow test dst.number src true)) (edge_if_well_formed (Some (slot + 1)) (after_test state narrow test dst.number src false) (after_test_well_formed state narrow test dst.number src false fit small)) (edge_if_well_formed (target_of slot offset) (after_test state narrow test dst.number src true) (after_test_well_formed state narrow test dst.number src true fit small))
 edges_well_formed slot state (CallHelper number) fit is = (after_helper_well_formed state _ fit, tt)
+edges_well_formed slot state (CallLocal offset) fit is = tt
 edges_well_formed slot state Exit fit is = tt
 
 edges_of_well_formed : (slot : ℕ) (o : Option AbstractState) (i : Option Insn) → ((s : AbstractState) → o ≡ Some s → IsWellFormed s) → ((x : Insn) → i ≡ Some x → IsInsn x) → EdgesWellFormed (edges_of slot o i)

@@ -1,21 +1,29 @@
 -- Statement: the abstract state at a slot, and what an instruction makes of it.
-use Rattle.std.specs.Prelude.{◌≡◌, ◌⊎◌, ℕ, zero, suc, ◌+◌, ◌-◌, Bool, true, false, ◌&&◌, ◌||◌, ◌==◌, nat_le, nat_lt, if◌then◌else◌, List, [], ◌∷◌, ◌++◌, fold, Option, Some, None}
+use Rattle.std.specs.Prelude.{◌≡◌, ◌⊎◌, ℕ, zero, suc, ◌+◌, ◌-◌, ◌*◌, ◌^◌, Bool, true, false, ◌&&◌, ◌||◌, ◌==◌, nat_le, nat_lt, if◌then◌else◌, List, [], ◌∷◌, ◌++◌, fold, Option, Some, None, ℤ}
 use Rattle.std.specs.Int.{w64, cast_unsigned}
 use Rattle.std.specs.List.{list_all, list_any}
-use Rattle.std.specs.Option.{is_some}
+use Rattle.std.specs.Option.{is_some, option_map}
 use Rattle.bpf_num.specs.declared.AluOp.{AluOp}
+use Rattle.bpf_num.specs.declared.AluOp.TheVariants.{Add}
+use Rattle.bpf_num.specs.declared.AluWidth.{AluWidth}
+use Rattle.bpf_num.specs.declared.AluWidth.TheVariants.{W32, W64}
+use Rattle.bpf_num.specs.declared.jump.Test as tests
 use Rattle.bpf_decode.specs.declared.insn.Insn.{Insn}
-use Rattle.bpf_decode.specs.declared.insn.Insn.TheVariants.{Alu, CallHelper, Exit}
+use Rattle.bpf_decode.specs.declared.insn.Insn.TheVariants.{Alu, Swap, LoadImm, Load, StoreImm, Store, Jump, JumpLong, Test, CallHelper, CallLocal, Exit}
+use Rattle.bpf_decode.specs.declared.insn.Size.{Size}
 use Rattle.bpf_decode.specs.declared.insn.Source.{Source}
 use Rattle.bpf_decode.specs.declared.insn.Source.TheVariants as source
 use Rattle.bpf_num.specs.Bind.{◌>>=◌}
-use Rattle.bpf_model.specs.Code.{slots_of}
-use Rattle.bpf_model.specs.Machine.{arguments_start, frame_end, is_in_bounds}
 use Rattle.bpf_num.specs.Arithmetic.{reads_destination}
+use Rattle.reg_ranges.specs.Ranges.{Range, range, single, is_single, full, join_of, transfer64_of, transfer32_of, swap_range_of}
+use Rattle.reg_ranges.specs.Refine.{Ranges, refine_of}
+use Rattle.bpf_model.specs.Access.{bytes_of}
+use Rattle.bpf_model.specs.Code.{slots_of, target_of}
+use Rattle.bpf_model.specs.Machine.{arguments_start, frame_end, is_in_bounds}
+use Rattle.bpf_model.specs.Step.{tested_immediate}
 use Rattle.bpf_model.specs.declared.helper.Access.{Access}
 use Rattle.bpf_model.specs.declared.helper.Helper.{Helper}
 use Rattle.bpf_model.specs.Helpers.{helper_of, arguments_of, reads, writes}
-use Rattle.bpf_model.specs.Ranges.{Range, single, is_single, hull, transfer}
 
 -- The range of each register that holds a number for certain, and the bytes of the stack that are initialized for
 -- certain, whatever the code is called with.
@@ -29,7 +37,7 @@ abbrev pub start_state : AbstractState
 start_state = record {
   ranges = λ r.
       if r == 1 then Some (single arguments_start)
-      else if r == 2 then Some (record { lo = 0; hi = 256 })
+      else if r == 2 then Some (range 0 256)
       else if r == 10 then Some (single (frame_end 0))
       else None;
   initialized = λ a. false;
@@ -37,7 +45,7 @@ start_state = record {
 
 -- The join of what two states say of a register.
 abbrev pub join_option : Option Range → Option Range → Option Range
-join_option (Some a) (Some b) = Some (hull a b)
+join_option (Some a) (Some b) = Some (join_of a b)
 join_option (Some a) None = None
 join_option None b = None
 
@@ -70,7 +78,16 @@ alu_operands op dst src = (if reads_destination op then dst ∷ [] else []) ++ s
 -- The registers that an instruction reads, in the order in which they are checked.
 abbrev pub operands : Insn → List ℕ
 operands (Alu width op dst src) = alu_operands op dst.number src
+operands (Swap kind width dst) = dst.number ∷ []
+operands (LoadImm dst value) = []
+operands (Load size signed dst base offset) = base.number ∷ []
+operands (StoreImm size base offset imm) = base.number ∷ []
+operands (Store size base offset src) = base.number ∷ src.number ∷ []
+operands (Jump offset) = []
+operands (JumpLong offset) = []
+operands (Test narrow test dst src offset) = dst.number ∷ source_operands src
 operands (CallHelper number) = helper_operands (helper_of number)
+operands (CallLocal offset) = []
 operands Exit = 0 ∷ []
 
 -- Whether all these registers hold a number for certain.
@@ -102,6 +119,17 @@ is_initialized initialized None size = false
 is_initialized initialized (Some range) size =
     nat_le arguments_start range.lo || all_initialized initialized range.lo (extent range size)
 
+-- A write initialized its bytes where its address is a single number.
+abbrev pub is_written : Option Range → ℕ → ℕ → Bool
+is_written None size address = false
+is_written (Some range) size address =
+    is_single range && nat_le range.lo address && nat_lt address (range.lo + size)
+
+-- The range of the address that a load or a store accesses: its base's, and the offset added. (RFC 9669, 5.1)
+abbrev pub address_range : AbstractState → ℕ → ℤ → Option Range
+address_range state base offset =
+    option_map (λ r. transfer64_of Add r (single (cast_unsigned w64 offset))) (state.ranges base)
+
 abbrev pub helper_reads : Option Helper → List Access
 helper_reads None = []
 helper_reads (Some helper) = reads helper
@@ -110,22 +138,49 @@ abbrev pub helper_writes : Option Helper → List Access
 helper_writes None = []
 helper_writes (Some helper) = writes helper
 
-abbrev pub reads_of : Insn → List Access
-reads_of (Alu width op dst src) = []
-reads_of (CallHelper number) = helper_reads (helper_of number)
-reads_of Exit = []
-
-abbrev pub writes_of : Insn → List Access
-writes_of (Alu width op dst src) = []
-writes_of (CallHelper number) = helper_writes (helper_of number)
-writes_of Exit = []
-
 abbrev pub all_in_bounds : (ℕ → Option Range) → List Access → Bool
 all_in_bounds ranges accesses = list_all (λ access. in_bounds (ranges access.register) access.size) accesses
 
 abbrev pub are_initialized : (ℕ → Bool) → (ℕ → Option Range) → List Access → Bool
 are_initialized initialized ranges accesses =
     list_all (λ access. is_initialized initialized (ranges access.register) access.size) accesses
+
+-- Whether all bytes that an instruction may touch are in bounds: of a helper those that it reads, then those that it
+-- writes.
+abbrev pub has_accesses : AbstractState → Insn → Bool
+has_accesses state (Alu width op dst src) = true
+has_accesses state (Swap kind width dst) = true
+has_accesses state (LoadImm dst value) = true
+has_accesses state (Load size signed dst base offset) =
+    in_bounds (address_range state base.number offset) (bytes_of size)
+has_accesses state (StoreImm size base offset imm) =
+    in_bounds (address_range state base.number offset) (bytes_of size)
+has_accesses state (Store size base offset src) =
+    in_bounds (address_range state base.number offset) (bytes_of size)
+has_accesses state (Jump offset) = true
+has_accesses state (JumpLong offset) = true
+has_accesses state (Test narrow test dst src offset) = true
+has_accesses state (CallHelper number) =
+    all_in_bounds state.ranges (helper_reads (helper_of number) ++ helper_writes (helper_of number))
+has_accesses state (CallLocal offset) = true
+has_accesses state Exit = true
+
+-- Whether all bytes that an instruction may read are initialized.
+abbrev pub has_bytes : AbstractState → Insn → Bool
+has_bytes state (Alu width op dst src) = true
+has_bytes state (Swap kind width dst) = true
+has_bytes state (LoadImm dst value) = true
+has_bytes state (Load size signed dst base offset) =
+    is_initialized state.initialized (address_range state base.number offset) (bytes_of size)
+has_bytes state (StoreImm size base offset imm) = true
+has_bytes state (Store size base offset src) = true
+has_bytes state (Jump offset) = true
+has_bytes state (JumpLong offset) = true
+has_bytes state (Test narrow test dst src offset) = true
+has_bytes state (CallHelper number) =
+    are_initialized state.initialized state.ranges (helper_reads (helper_of number))
+has_bytes state (CallLocal offset) = true
+has_bytes state Exit = true
 
 -- ---- what an instruction makes of a state
 
@@ -137,20 +192,35 @@ source_range state (source.Reg reg) = state.ranges reg.number
 abbrev pub destination_range : AbstractState → AluOp → ℕ → Option Range
 destination_range state op dst = if reads_destination op then state.ranges dst else Some (single 0)
 
+-- What an instruction of a width makes of its operands' ranges.
+abbrev pub transfer : AluWidth → AluOp → Range → Range → Range
+transfer W32 op a b = transfer32_of op a b
+transfer W64 op a b = transfer64_of op a b
+
+abbrev pub alu_range : AbstractState → AluWidth → AluOp → ℕ → Source → Option Range
+alu_range state width op dst src = do
+  b ← source_range state src
+  a ← destination_range state op dst
+  Some (transfer width op a b)
+
+-- What can be loaded: any number of a size; where its sign is extended, any number at all.
+abbrev pub loaded_range : Size → Bool → Range
+loaded_range size false = range 0 (2 ^ (8 * bytes_of size) - 1)
+loaded_range size true = full W64
+
 abbrev pub with_range : AbstractState → ℕ → Option Range → AbstractState
 with_range state dst range = record state { ranges = λ r. if r == dst then range else state.ranges r }
 
--- A write initialized its bytes where its address is a single number.
-abbrev pub is_written : Option Range → ℕ → ℕ → Bool
-is_written None size address = false
-is_written (Some range) size address =
-    is_single range && nat_le range.lo address && nat_lt address (range.lo + size)
+-- A store initializes its bytes where its address is a single number.
+abbrev pub after_store : AbstractState → Option Range → ℕ → AbstractState
+after_store state range size =
+    record state { initialized = λ address. is_written range size address || state.initialized address }
 
 -- After a helper r0 holds 0 or 1, and r1 to r5 nothing.
 abbrev pub after_helper : AbstractState → List Access → AbstractState
 after_helper state written = record {
   ranges = λ r.
-      if r == 0 then Some (record { lo = 0; hi = 1 })
+      if r == 0 then Some (range 0 1)
       else if nat_le 6 r then state.ranges r
       else None;
   initialized = λ address.
@@ -158,35 +228,81 @@ after_helper state written = record {
       || state.initialized address;
 }
 
+-- The state behind an instruction. Jumps and tests write nothing.
+abbrev pub after_insn : AbstractState → Insn → AbstractState
+after_insn state (Alu width op dst src) = with_range state dst.number (alu_range state width op dst.number src)
+after_insn state (Swap kind width dst) =
+    with_range state dst.number (option_map (swap_range_of kind width) (state.ranges dst.number))
+after_insn state (LoadImm dst value) = with_range state dst.number (Some (single value))
+after_insn state (Load size signed dst base offset) = with_range state dst.number (Some (loaded_range size signed))
+after_insn state (StoreImm size base offset imm) =
+    after_store state (address_range state base.number offset) (bytes_of size)
+after_insn state (Store size base offset src) =
+    after_store state (address_range state base.number offset) (bytes_of size)
+after_insn state (Jump offset) = state
+after_insn state (JumpLong offset) = state
+after_insn state (Test narrow test dst src offset) = state
+after_insn state (CallHelper number) = after_helper state (helper_writes (helper_of number))
+after_insn state (CallLocal offset) = state
+after_insn state Exit = state
+
+-- ---- edges
+
 -- An edge: a slot that may run next, and the abstract state that flows to it.
 pub record Edge : Type 0 where
   pub target : ℕ
   pub state : AbstractState
 
-abbrev pub alu_range : AbstractState → Insn → Option Range
-alu_range state (Alu width op dst src) = do
-  b ← source_range state src
-  a ← destination_range state op dst.number
-  Some (transfer width op a b)
-alu_range state (CallHelper number) = None
-alu_range state Exit = None
+abbrev pub edge : ℕ → AbstractState → Edge
+edge target state = record { target = target; state = state }
 
--- Whether the slot behind an instruction may run next.
-abbrev pub falls_through : Insn → Bool
-falls_through (Alu width op dst src) = true
-falls_through (CallHelper number) = true
-falls_through Exit = false
+-- The edge to a slot, where there is such a slot and such a state.
+abbrev pub edge_if : Option ℕ → Option AbstractState → List Edge
+edge_if (Some target) (Some state) = edge target state ∷ []
+edge_if (Some target) None = []
+edge_if None state = []
 
--- The state behind an instruction that falls through.
-abbrev pub after_insn : AbstractState → Insn → AbstractState
-after_insn state (Alu width op dst src) = with_range state dst.number (alu_range state (Alu width op dst src))
-after_insn state (CallHelper number) = after_helper state (writes_of (CallHelper number))
-after_insn state Exit = state
+-- What a test compares with.
+abbrev pub tested_range : AbstractState → Bool → Source → Option Range
+tested_range state narrow (source.Imm value) = Some (single (tested_immediate narrow value))
+tested_range state narrow (source.Reg reg) = state.ranges reg.number
 
--- The edges out of an instruction at a slot.
+-- The operands of a test have new ranges. Where both are one register, it keeps its range.
+abbrev pub with_ranges : AbstractState → ℕ → Source → Ranges → AbstractState
+with_ranges state dst (source.Imm value) r = with_range state dst (Some r.a)
+with_ranges state dst (source.Reg src) r =
+    if dst == src.number then state
+    else with_range (with_range state dst (Some r.a)) src.number (Some r.b)
+
+-- The state behind a test that is taken, or isn't, unless that can't be. (RFC 9669, 4.3)
+abbrev pub after_test : AbstractState → Bool → tests.Test → ℕ → Source → Bool → Option AbstractState
+after_test state narrow test dst src taken = do
+  b ← tested_range state narrow src
+  a ← state.ranges dst
+  r ← refine_of test narrow a b taken
+  Some (with_ranges state dst src r)
+
+-- The edge to the slot behind an instruction.
+abbrev pub onward : ℕ → AbstractState → Insn → List Edge
+onward slot state insn = edge (slot + slots_of insn) (after_insn state insn) ∷ []
+
+-- The edges out of an instruction at a slot: of a test first the one to the slot behind it. So far none leads into a
+-- function of the code or behind its call.
 abbrev pub edges : ℕ → AbstractState → Insn → List Edge
-edges slot state insn =
-    if falls_through insn then record { target = slot + slots_of insn; state = after_insn state insn } ∷ [] else []
+edges slot state (Alu width op dst src) = onward slot state (Alu width op dst src)
+edges slot state (Swap kind width dst) = onward slot state (Swap kind width dst)
+edges slot state (LoadImm dst value) = onward slot state (LoadImm dst value)
+edges slot state (Load size signed dst base offset) = onward slot state (Load size signed dst base offset)
+edges slot state (StoreImm size base offset imm) = onward slot state (StoreImm size base offset imm)
+edges slot state (Store size base offset src) = onward slot state (Store size base offset src)
+edges slot state (Jump offset) = edge_if (target_of slot offset) (Some state)
+edges slot state (JumpLong offset) = edge_if (target_of slot offset) (Some state)
+edges slot state (Test narrow test dst src offset) =
+    edge_if (Some (slot + 1)) (after_test state narrow test dst.number src false)
+    ++ edge_if (target_of slot offset) (after_test state narrow test dst.number src true)
+edges slot state (CallHelper number) = onward slot state (CallHelper number)
+edges slot state (CallLocal offset) = []
+edges slot state Exit = []
 
 -- x is an element of the list.
 abbrev pub IsOneOf : {X : Type 0} → X → List X → Type 0

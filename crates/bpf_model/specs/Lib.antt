@@ -1,8 +1,8 @@
 pub mod Code
 pub mod Machine
+pub mod Access
 pub mod Faults
 pub mod Helpers
-pub mod Ranges
 pub mod Step
 pub mod Run
 pub mod AbstractState
@@ -10,5 +10,7 @@ pub mod Dataflow
 pub mod Verdict
 pub use Rattle.bpf_num.specs.Arithmetic
 pub use Rattle.bpf_num.specs.Bind
+pub use Rattle.reg_ranges.specs.Ranges
+pub use Rattle.reg_ranges.specs.Refine
 pub use Rattle.bpf_decode.specs.Encoding
 pub use Rattle.tenant_maps.specs.Entries

@@ -1,57 +1,144 @@
 -- Statement: which code is accepted, and with which bound; which is refused, and by which first fault.
-use Rattle.std.specs.Prelude.{◌≡◌, ℕ, ◌+◌, ◌<◌, Bool, false, ◌&&◌, not, ◌==◌, nat_le, if◌then◌else◌, List, length, ◌++◌, Option, Some, None, ◌⊎◌}
+use Rattle.std.specs.Prelude.{◌≡◌, ℕ, ◌+◌, ◌<◌, Bool, true, false, ◌&&◌, not, ◌==◌, nat_le, if◌then◌else◌, List, length, Option, Some, None, ◌⊎◌, option_and_then, ℤ, pos, negsuc}
 use Rattle.std.specs.Option.{is_none}
 use Rattle.bpf_decode.specs.declared.insn.Insn.{Insn}
-use Rattle.bpf_decode.specs.declared.insn.Insn.TheVariants.{Alu, CallHelper, Exit}
+use Rattle.bpf_decode.specs.declared.insn.Insn.TheVariants.{Alu, Swap, LoadImm, Load, StoreImm, Store, Jump, JumpLong, Test, CallHelper, CallLocal, Exit}
 use Rattle.bpf_decode.specs.declared.refusal.DecodeFault.{DecodeFault}
 use Rattle.bpf_decode.specs.Faults.{IsCode, IsRefused}
 use Rattle.bpf_model.specs.declared.fault.VerifyFault.{VerifyFault}
-use Rattle.bpf_model.specs.declared.fault.VerifyFault.TheVariants.{Decode, FallsOffEnd, UnknownHelper, WritesFramePointer, UninitRegister, BadAccess, UninitBytes}
-use Rattle.bpf_model.specs.Code.{slots_of, insns_by_slot, insn_at}
-use Rattle.bpf_model.specs.declared.helper.Access.{Access}
+use Rattle.bpf_model.specs.declared.fault.VerifyFault.TheVariants.{Decode, JumpBackward, JumpOutside, FallsOffEnd, UnknownHelper, WritesFramePointer, UninitRegister, BadAccess, UninitBytes, CallDepth}
+use Rattle.bpf_model.specs.Code.{slots_of, insns_by_slot, insn_at, target_of}
 use Rattle.bpf_model.specs.Helpers.{helper_of}
-use Rattle.bpf_model.specs.AbstractState.{AbstractState, operands, falls_through, has_all, all_in_bounds, are_initialized, reads_of, writes_of}
+use Rattle.bpf_model.specs.AbstractState.{AbstractState, has_operands, has_accesses, has_bytes}
 use Rattle.bpf_model.specs.Dataflow.{state_at, IsBound}
+
+-- Whether a jump leads to its own slot or an earlier one. Code may not loop. (RFC 9669, 4.3)
+abbrev pub is_backward : ℤ → Bool
+is_backward (pos n) = false
+is_backward (negsuc n) = true
+
+-- Whether an instruction is a jump, or a test, that leads back.
+abbrev pub jumps_back : Insn → Bool
+jumps_back (Alu width op dst src) = false
+jumps_back (Swap kind width dst) = false
+jumps_back (LoadImm dst value) = false
+jumps_back (Load size signed dst base offset) = false
+jumps_back (StoreImm size base offset imm) = false
+jumps_back (Store size base offset src) = false
+jumps_back (Jump offset) = is_backward offset
+jumps_back (JumpLong offset) = is_backward offset
+jumps_back (Test narrow test dst src offset) = is_backward offset
+jumps_back (CallHelper number) = false
+jumps_back (CallLocal offset) = false
+jumps_back Exit = false
+
+-- The offset of a jump, a test or a local call, of which the last may lead back.
+abbrev pub offset_of : Insn → Option ℤ
+offset_of (Alu width op dst src) = None
+offset_of (Swap kind width dst) = None
+offset_of (LoadImm dst value) = None
+offset_of (Load size signed dst base offset) = None
+offset_of (StoreImm size base offset imm) = None
+offset_of (Store size base offset src) = None
+offset_of (Jump offset) = Some offset
+offset_of (JumpLong offset) = Some offset
+offset_of (Test narrow test dst src offset) = Some offset
+offset_of (CallHelper number) = None
+offset_of (CallLocal offset) = Some offset
+offset_of Exit = None
+
+-- Whether no instruction begins where an offset leads to: it leads out of the code, or into a second half.
+abbrev pub leads_outside : List Insn → ℕ → Option ℤ → Bool
+leads_outside code slot None = false
+leads_outside code slot (Some offset) = is_none (option_and_then (insn_at code) (target_of slot offset))
+
+-- Whether the slot behind an instruction may run next.
+abbrev pub falls_through : Insn → Bool
+falls_through (Alu width op dst src) = true
+falls_through (Swap kind width dst) = true
+falls_through (LoadImm dst value) = true
+falls_through (Load size signed dst base offset) = true
+falls_through (StoreImm size base offset imm) = true
+falls_through (Store size base offset src) = true
+falls_through (Jump offset) = false
+falls_through (JumpLong offset) = false
+falls_through (Test narrow test dst src offset) = true
+falls_through (CallHelper number) = true
+falls_through (CallLocal offset) = true
+falls_through Exit = false
 
 -- Whether an instruction calls a helper that this host doesn't have.
 abbrev pub calls_unknown : Insn → Bool
 calls_unknown (Alu width op dst src) = false
+calls_unknown (Swap kind width dst) = false
+calls_unknown (LoadImm dst value) = false
+calls_unknown (Load size signed dst base offset) = false
+calls_unknown (StoreImm size base offset imm) = false
+calls_unknown (Store size base offset src) = false
+calls_unknown (Jump offset) = false
+calls_unknown (JumpLong offset) = false
+calls_unknown (Test narrow test dst src offset) = false
 calls_unknown (CallHelper number) = is_none (helper_of number)
+calls_unknown (CallLocal offset) = false
 calls_unknown Exit = false
 
--- Whether an instruction that isn't a store has r10, the frame pointer, as its destination. (RFC 9669, 2.1)
+-- Whether an instruction would write r10, the frame pointer: it is its destination. (RFC 9669, 2.1)
 abbrev pub writes_r10 : Insn → Bool
 writes_r10 (Alu width op dst src) = dst.number == 10
+writes_r10 (Swap kind width dst) = dst.number == 10
+writes_r10 (LoadImm dst value) = dst.number == 10
+writes_r10 (Load size signed dst base offset) = dst.number == 10
+writes_r10 (StoreImm size base offset imm) = false
+writes_r10 (Store size base offset src) = false
+writes_r10 (Jump offset) = false
+writes_r10 (JumpLong offset) = false
+writes_r10 (Test narrow test dst src offset) = false
 writes_r10 (CallHelper number) = false
+writes_r10 (CallLocal offset) = false
 writes_r10 Exit = false
 
--- What is wrong with an instruction at a slot of so many, whether it is reached or not.
-abbrev pub insn_structure_fault : ℕ → ℕ → Insn → Option VerifyFault
-insn_structure_fault slots slot insn =
-    if falls_through insn && nat_le slots (slot + slots_of insn) then Some FallsOffEnd
+-- What is wrong with an instruction at a slot, whether it is reached or not.
+abbrev pub insn_structure_fault : List Insn → ℕ → Insn → Option VerifyFault
+insn_structure_fault code slot insn =
+    if jumps_back insn then Some JumpBackward
+    else if leads_outside code slot (offset_of insn) then Some JumpOutside
+    else if falls_through insn && nat_le (length (insns_by_slot code)) (slot + slots_of insn) then Some FallsOffEnd
     else if calls_unknown insn then Some UnknownHelper
     else if writes_r10 insn then Some WritesFramePointer
     else None
 
-abbrev pub slot_structure_fault : ℕ → ℕ → Option Insn → Option VerifyFault
-slot_structure_fault slots slot None = None
-slot_structure_fault slots slot (Some insn) = insn_structure_fault slots slot insn
+abbrev pub slot_structure_fault : List Insn → ℕ → Option Insn → Option VerifyFault
+slot_structure_fault code slot None = None
+slot_structure_fault code slot (Some insn) = insn_structure_fault code slot insn
 
 abbrev pub structure_fault : List Insn → ℕ → Option VerifyFault
-structure_fault code slot = slot_structure_fault (length (insns_by_slot code)) slot (insn_at code slot)
+structure_fault code slot = slot_structure_fault code slot (insn_at code slot)
+
+-- Whether an instruction calls a function of the code. So far no code may.
+abbrev pub calls_local : Insn → Bool
+calls_local (Alu width op dst src) = false
+calls_local (Swap kind width dst) = false
+calls_local (LoadImm dst value) = false
+calls_local (Load size signed dst base offset) = false
+calls_local (StoreImm size base offset imm) = false
+calls_local (Store size base offset src) = false
+calls_local (Jump offset) = false
+calls_local (JumpLong offset) = false
+calls_local (Test narrow test dst src offset) = false
+calls_local (CallHelper number) = false
+calls_local (CallLocal offset) = true
+calls_local Exit = false
 
 -- What is wrong with an instruction that is reached, given the abstract state there: an operand that may hold nothing,
--- an access that may be out of bounds, a byte that is read and may not be initialized. Each is checked for all accesses
--- before the next.
-abbrev pub access_fault : AbstractState → List ℕ → List Access → List Access → Option VerifyFault
-access_fault state registers reads writes =
-    if not (has_all state.ranges registers) then Some UninitRegister
-    else if not (all_in_bounds state.ranges (reads ++ writes)) then Some BadAccess
-    else if not (are_initialized state.initialized state.ranges reads) then Some UninitBytes
-    else None
-
+-- an access that may be out of bounds, a byte that is read and may not be initialized, a local call. Each is checked for
+-- all accesses before the next.
 abbrev pub insn_dataflow_fault : AbstractState → Insn → Option VerifyFault
-insn_dataflow_fault state insn = access_fault state (operands insn) (reads_of insn) (writes_of insn)
+insn_dataflow_fault state insn =
+    if not (has_operands state insn) then Some UninitRegister
+    else if not (has_accesses state insn) then Some BadAccess
+    else if not (has_bytes state insn) then Some UninitBytes
+    else if calls_local insn then Some CallDepth
+    else None
 
 abbrev pub slot_dataflow_fault : Option AbstractState → Option Insn → Option VerifyFault
 slot_dataflow_fault (Some state) (Some insn) = insn_dataflow_fault state insn

@@ -15,6 +15,12 @@ pub enum VerifyFault {
     /// The bytes are no code.
     #[error("{0}")]
     Decode(DecodeFault),
+    /// A jump or a test leads to its own slot or an earlier one.
+    #[error("JumpBackward")]
+    JumpBackward,
+    /// A jump, a test or a local call leads out of the code, or into the second half of an instruction.
+    #[error("JumpOutside")]
+    JumpOutside,
     /// An instruction that falls through to the next slot ends the code.
     #[error("FallsOffEnd")]
     FallsOffEnd,
@@ -33,6 +39,9 @@ pub enum VerifyFault {
     /// A byte of the stack is read that may never have been written.
     #[error("UninitBytes")]
     UninitBytes,
+    /// A function of the code would be called, for which there is no frame.
+    #[error("CallDepth")]
+    CallDepth,
     /// Memory ran out.
     #[error("Memory")]
     Memory,
@@ -45,12 +54,15 @@ impl VerifyFault {
     {
         match self {
             VerifyFault::Decode(fault) => fault.number(),
+            VerifyFault::JumpBackward => 11,
+            VerifyFault::JumpOutside => 12,
             VerifyFault::FallsOffEnd => 13,
             VerifyFault::UnknownHelper => 14,
             VerifyFault::WritesFramePointer => 15,
             VerifyFault::UninitRegister => 16,
             VerifyFault::BadAccess => 17,
             VerifyFault::UninitBytes => 18,
+            VerifyFault::CallDepth => 19,
             VerifyFault::Memory => 21,
         }
     }

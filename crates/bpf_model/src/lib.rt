@@ -10,12 +10,13 @@ pub mod layout;
 #[cfg(test)]
 mod tests;
 
-ghost use Rattle.std.specs.Prelude.{◌≡◌, ℕ, ◌≤◌, ◌<◌, List};
+ghost use Rattle.std.specs.Prelude.{◌≡◌, ◌⊎◌, ℕ, ◌≤◌, ◌<◌, List};
 ghost use Rattle.bpf_decode.specs.declared.insn.Insn.{Insn};
 ghost use Rattle.bpf_decode.specs.Faults.{IsCode};
 ghost use Rattle.bpf_model.specs.Machine.{Machine, Call, start};
 ghost use Rattle.bpf_model.specs.Run.{Run, Ending, EndsSo, IsSafe};
-ghost use Rattle.bpf_model.specs.Verdict.{IsAccepted};
+ghost use Rattle.bpf_model.specs.Verdict.{IsAccepted, IsRejected};
+ghost use Rattle.bpf_model.specs.declared.fault.VerifyFault.{VerifyFault as Fault};
 
 pub use fault::{Refusal, VerifyFault};
 pub use helper::{Access, Helper};
@@ -31,6 +32,22 @@ pub fn accepted_is_safe()
 pub fn accepted_is_bounded()
     ensures { (bytes : List ℕ) (code : List Insn) (bound : ℕ) →
         IsCode bytes code → IsAccepted code bound → bound ≤ 65536 }
+{}
+
+/// All code is accepted with some bound, or rejected for a first fault at some slot.
+pub fn code_is_decided()
+    ensures { (bytes : List ℕ) (code : List Insn) → IsCode bytes code →
+        ((bound : ℕ) × IsAccepted code bound)
+        ⊎ ((fault : Fault) × (slot : ℕ) × IsRejected code fault slot) }
+{}
+
+/// Code has at most one verdict: one bound, or one fault at one slot, and not both.
+pub fn verdict_is_one()
+    ensures bound { (code : List Insn) (a b : ℕ) → IsAccepted code a → IsAccepted code b → a ≡ b }
+    ensures fault { (code : List Insn) (a b : Fault) (s t : ℕ) →
+        IsRejected code a s → IsRejected code b t → (a ≡ b) × (s ≡ t) }
+    ensures either { (code : List Insn) (bound : ℕ) (fault : Fault) (slot : ℕ) →
+        IsAccepted code bound → IsRejected code fault slot → ⊥ }
 {}
 
 /// A call has at most one ending.

@@ -1,12 +1,24 @@
 //! Definitions at worked values, where no run shows them.
 
-ghost use Rattle.std.specs.Prelude.{◌≡◌, ℕ, List, [], ◌∷◌, replicate, Some, None};
+ghost use Rattle.std.specs.Prelude.{◌≡◌, ℕ, ◌+◌, ◌-◌, ◌^◌, true, false, List, [], ◌∷◌, map as each, replicate, Some, None, ℤ, pos, negsuc};
 ghost use Rattle.std.specs.FinMap as map;
 ghost use Rattle.tenant_maps.specs.Entries.{Entries};
-ghost use Rattle.bpf_model.specs.Machine.{Machine, Frame, Call, start, stored};
-ghost use Rattle.bpf_model.specs.Ranges.{Range, hull};
+ghost use Rattle.bpf_num.specs.declared.AluWidth.TheVariants.{W64};
+ghost use Rattle.bpf_num.specs.declared.jump.Test.TheVariants.{Jgt};
+ghost use Rattle.reg_ranges.specs.Ranges.{range, single, full};
+ghost use Rattle.reg_ranges.specs.Refine.{Ranges};
+ghost use Rattle.bpf_decode.specs.declared.insn.Reg.{Reg};
+ghost use Rattle.bpf_decode.specs.declared.insn.Source.TheVariants as source;
+ghost use Rattle.bpf_decode.specs.declared.insn.Size.TheVariants.{B, H, W, Dw};
+ghost use Rattle.bpf_decode.specs.declared.insn.Insn.TheVariants.{LoadImm, Load, StoreImm, Jump, JumpLong, Test, CallHelper, CallLocal, Exit};
+ghost use Rattle.bpf_model.specs.declared.fault.VerifyFault.TheVariants.{JumpBackward, JumpOutside, FallsOffEnd, UninitRegister, BadAccess, UninitBytes, CallDepth};
+ghost use Rattle.bpf_model.specs.Access.{address_of, loaded, stored_bytes};
+ghost use Rattle.bpf_model.specs.Code.{insn_at, target_of};
+ghost use Rattle.bpf_model.specs.Machine.{Machine, Frame, Call, start, stored, is_in_bounds};
 ghost use Rattle.bpf_model.specs.Helpers.{get_effect};
-ghost use Rattle.bpf_model.specs.Step.{Continues, returned, resumed, without_frame};
+ghost use Rattle.bpf_model.specs.Step.{Continues, tested_immediate, written, stores, jumps, effect, returned, resumed, without_frame};
+ghost use Rattle.bpf_model.specs.AbstractState.{AbstractState, start_state, join_option, in_bounds, is_written, loaded_range, with_range, with_ranges, after_insn, edges};
+ghost use Rattle.bpf_model.specs.Verdict.{structure_fault, insn_dataflow_fault};
 
 use super::*;
 use crate::layout::{ARGUMENTS_END, ARGUMENTS_START, FRAME_END, FRAME_START};
@@ -22,12 +34,12 @@ fn a_call_begins()
     ensures output { (call : Call) → (start call).output ≡ [] }
 {}
 
-/// The hull of [1, 2] and [5, 9] is [1, 9].
-fn hull_of_two()
-    ensures given { let a : Range = record { lo = 1; hi = 2 } in let b : Range = record { lo = 5; hi = 9 } in
-        let c : Range = record { lo = 1; hi = 9 } in hull a b ≡ c }
-    ensures exchanged { let a : Range = record { lo = 1; hi = 2 } in let b : Range = record { lo = 5; hi = 9 } in
-        let c : Range = record { lo = 1; hi = 9 } in hull b a ≡ c }
+/// The join of [1, 2] and [5, 9] is [1, 9]; of a register that one side alone knows there is none.
+fn joins()
+    ensures given { join_option (Some (range 1 2)) (Some (range 5 9)) ≡ Some (range 1 9) }
+    ensures exchanged { join_option (Some (range 5 9)) (Some (range 1 2)) ≡ Some (range 1 9) }
+    ensures one { join_option (Some (range 1 2)) None ≡ None }
+    ensures other { join_option None (Some (range 1 2)) ≡ None }
 {}
 
 /// A function that was called at depth 1 returns: its frame, frame 1, is dropped.
@@ -47,12 +59,175 @@ fn an_absent_key()
     ensures value { (m : Machine) (address : ℕ) → (get_effect m address None).value ≡ 1 }
 {}
 
+/// Offsets count from the slot behind the instruction.
+fn targets()
+    ensures forward { target_of 3 (pos 2) ≡ Some 6 }
+    ensures itself { target_of 3 (negsuc 0) ≡ Some 3 }
+    ensures first { target_of 3 (negsuc 3) ≡ Some 0 }
+    ensures before { target_of 3 (negsuc 4) ≡ None }
+{}
+
+/// A wide instruction begins at its first slot alone.
+fn a_wide_instruction()
+    ensures begins { (r : Reg) →
+        insn_at (Jump (pos 1) ∷ LoadImm r 1 ∷ Exit ∷ []) 1 ≡ Some (LoadImm r 1) }
+    ensures half { (r : Reg) → insn_at (Jump (pos 1) ∷ LoadImm r 1 ∷ Exit ∷ []) 2 ≡ None }
+    ensures behind { (r : Reg) → insn_at (Jump (pos 1) ∷ LoadImm r 1 ∷ Exit ∷ []) 3 ≡ Some Exit }
+    ensures past { (r : Reg) → insn_at (Jump (pos 1) ∷ LoadImm r 1 ∷ Exit ∷ []) 4 ≡ None }
+{}
+
+/// Loads extend zeros or the sign; stores cut; addresses wrap.
+fn loads_and_stores()
+    ensures unsigned { loaded H false (0x34 ∷ 0x92 ∷ []) ≡ 0x9234 }
+    ensures negative { loaded H true (0xfe ∷ 0xff ∷ []) ≡ 2 ^ 64 - 2 }
+    ensures positive { loaded B true (0x7f ∷ []) ≡ 0x7f }
+    ensures cut { stored_bytes W 0x1122334455667788 ≡ 0x88 ∷ 0x77 ∷ 0x66 ∷ 0x55 ∷ [] }
+    ensures below { address_of 16 (negsuc 7) ≡ 8 }
+    ensures under { address_of 0 (negsuc 0) ≡ 2 ^ 64 - 1 }
+    ensures over { address_of (2 ^ 64 - 1) (pos 1) ≡ 0 }
+{}
+
+/// An access lies in the frames in use, or in the arguments; it may span two frames.
+fn bounds()
+    ensures last { is_in_bounds 0 (2 ^ 33 + 255) 1 ≡ true }
+    ensures past { is_in_bounds 0 (2 ^ 33 + 255) 2 ≡ false }
+    ensures frame { is_in_bounds 0 (2 ^ 32 + 504) 8 ≡ true }
+    ensures past_frame { is_in_bounds 0 (2 ^ 32 + 505) 8 ≡ false }
+    ensures before { is_in_bounds 0 (2 ^ 32 - 1) 1 ≡ false }
+    ensures two_frames { is_in_bounds 1 (2 ^ 32 + 505) 8 ≡ true }
+{}
+
+/// What has no step: a write of r10, a store outside, a jump before the code, a local call.
+fn stuck_machines()
+    ensures frame_pointer { (m : Machine) (value : ℕ) → written m 1 10 value ≡ None }
+    ensures outside { (m : Machine) →
+        stores (record m { callers = [] }) 1 (2 ^ 32 + 512) (7 ∷ []) ≡ None }
+    ensures before { (m : Machine) →
+        jumps (record m { frame = record { pc = 0; registers = m.frame.registers } }) (negsuc 1) ≡ None }
+    ensures local { (m : Machine) (offset : ℤ) → effect m (CallLocal offset) ≡ None }
+{}
+
+/// An immediate of a narrow test is its 32 bits.
+fn tested_immediates()
+    ensures narrow { tested_immediate true (negsuc 0) ≡ 2 ^ 32 - 1 }
+    ensures wide { tested_immediate false (negsuc 0) ≡ 2 ^ 64 - 1 }
+{}
+
+/// What a load can give.
+fn loaded_ranges()
+    ensures bytes { loaded_range B false ≡ range 0 255 }
+    ensures halves { loaded_range H false ≡ range 0 65535 }
+    ensures words { loaded_range W false ≡ range 0 (2 ^ 32 - 1) }
+    ensures doubles { loaded_range Dw false ≡ full W64 }
+    ensures signed { loaded_range B true ≡ full W64 }
+{}
+
+/// An access of 8 bytes at one of 16 addresses may touch 23 bytes.
+fn ranges_of_addresses()
+    ensures inside { in_bounds (Some (range (2 ^ 33 + 0xe9) (2 ^ 33 + 0xf8))) 8 ≡ true }
+    ensures outside { in_bounds (Some (range (2 ^ 33 + 0xea) (2 ^ 33 + 0xf9))) 8 ≡ false }
+    ensures across { in_bounds (Some (range (2 ^ 32) (2 ^ 33))) 1 ≡ false }
+{}
+
+/// A write at a single address initializes its bytes, a write at a range none.
+fn writes_of_ranges()
+    ensures first { is_written (Some (single 5)) 2 5 ≡ true }
+    ensures last { is_written (Some (single 5)) 2 6 ≡ true }
+    ensures past { is_written (Some (single 5)) 2 7 ≡ false }
+    ensures before { is_written (Some (single 5)) 2 4 ≡ false }
+    ensures ranges { is_written (Some (range 5 6)) 2 6 ≡ false }
+{}
+
+/// Where both operands of a test are one register, it keeps its range.
+fn operands_of_a_test()
+    ensures same { (state : AbstractState) (reg : Reg) (r : Ranges) → reg.number ≡ 3 →
+        with_ranges state 3 (source.Reg reg) r ≡ state }
+    ensures first { (state : AbstractState) (reg : Reg) (r : Ranges) → reg.number ≡ 4 →
+        (with_ranges state 3 (source.Reg reg) r).ranges 3 ≡ Some r.a }
+    ensures second { (state : AbstractState) (reg : Reg) (r : Ranges) → reg.number ≡ 4 →
+        (with_ranges state 3 (source.Reg reg) r).ranges 4 ≡ Some r.b }
+{}
+
+/// A test of r0 has two edges, or the one that a single number takes.
+fn edges_of_a_test()
+    ensures both { (r : Reg) → r.number ≡ 0 →
+        each (λ e. e.target) (edges 5 (with_range start_state 0 (Some (range 0 9)))
+        (Test false Jgt r (source.Imm (pos 3)) (pos 2))) ≡ 6 ∷ 8 ∷ [] }
+    ensures refined { (r : Reg) → r.number ≡ 0 →
+        each (λ e. e.state.ranges 0) (edges 5 (with_range start_state 0 (Some (range 0 9)))
+        (Test false Jgt r (source.Imm (pos 3)) (pos 2)))
+        ≡ Some (range 0 3) ∷ Some (range 4 9) ∷ [] }
+    ensures taken { (r : Reg) → r.number ≡ 0 →
+        each (λ e. e.target) (edges 5 (with_range start_state 0 (Some (single 7)))
+        (Test false Jgt r (source.Imm (pos 3)) (pos 2))) ≡ 8 ∷ [] }
+    ensures refuted { (r : Reg) → r.number ≡ 0 →
+        each (λ e. e.target) (edges 5 (with_range start_state 0 (Some (single 3)))
+        (Test false Jgt r (source.Imm (pos 3)) (pos 2))) ≡ 6 ∷ [] }
+{}
+
+/// A jump back is told before one out of the code; a local call may lead back.
+fn structures()
+    ensures itself { structure_fault (Jump (negsuc 0) ∷ Exit ∷ []) 0 ≡ Some JumpBackward }
+    ensures back_out { structure_fault (JumpLong (negsuc 4) ∷ Exit ∷ []) 0 ≡ Some JumpBackward }
+    ensures next { structure_fault (Jump (pos 0) ∷ Exit ∷ []) 0 ≡ None }
+    ensures out { structure_fault (JumpLong (pos 1) ∷ Exit ∷ []) 0 ≡ Some JumpOutside }
+    ensures half { (r : Reg) →
+        structure_fault (Jump (pos 1) ∷ LoadImm r 1 ∷ Exit ∷ []) 0 ≡ Some JumpOutside }
+    ensures call { structure_fault (Exit ∷ CallLocal (negsuc 1) ∷ Exit ∷ []) 1 ≡ None }
+    ensures call_out { structure_fault (CallLocal (negsuc 1) ∷ Exit ∷ []) 0 ≡ Some JumpOutside }
+    ensures end { structure_fault (Exit ∷ CallHelper (pos 9) ∷ []) 1 ≡ Some FallsOffEnd }
+    ensures wide_end { (r : Reg) → structure_fault (Exit ∷ LoadImm r 1 ∷ []) 1 ≡ Some FallsOffEnd }
+{}
+
+/// As a call begins: what is wrong with a return, with a local call, and with accesses through r10, the
+/// frame pointer, and r1, the arguments.
+fn dataflow_faults()
+    ensures result { insn_dataflow_fault start_state Exit ≡ Some UninitRegister }
+    ensures local { insn_dataflow_fault start_state (CallLocal (pos 0)) ≡ Some CallDepth }
+    ensures base { (r : Reg) → r.number ≡ 3 →
+        insn_dataflow_fault start_state (Load B false r r (pos 0)) ≡ Some UninitRegister }
+    ensures under { (r : Reg) → r.number ≡ 10 →
+        insn_dataflow_fault start_state (StoreImm Dw r (negsuc 519) (pos 0)) ≡ Some BadAccess }
+    ensures unwritten { (r : Reg) → r.number ≡ 10 →
+        insn_dataflow_fault start_state (Load Dw false r r (negsuc 15)) ≡ Some UninitBytes }
+    ensures write { (r : Reg) → r.number ≡ 10 →
+        insn_dataflow_fault start_state (StoreImm Dw r (negsuc 15) (pos 0)) ≡ None }
+    ensures last { (r : Reg) → r.number ≡ 1 →
+        insn_dataflow_fault start_state (Load B false r r (pos 255)) ≡ None }
+    ensures past { (r : Reg) → r.number ≡ 1 →
+        insn_dataflow_fault start_state (Load H false r r (pos 255)) ≡ Some BadAccess }
+{}
+
+/// A store of two bytes below the frame's end initializes these two.
+fn stored_initializes()
+    ensures first { (r : Reg) → r.number ≡ 10 →
+        (after_insn start_state (StoreImm H r (negsuc 1) (pos 0))).initialized (2 ^ 32 + 510) ≡ true }
+    ensures last { (r : Reg) → r.number ≡ 10 →
+        (after_insn start_state (StoreImm H r (negsuc 1) (pos 0))).initialized (2 ^ 32 + 511) ≡ true }
+    ensures before { (r : Reg) → r.number ≡ 10 →
+        (after_insn start_state (StoreImm H r (negsuc 1) (pos 0))).initialized (2 ^ 32 + 509) ≡ false }
+{}
+
 #[test]
 fn definitions_at_values(rt: HostRuntime) {
     a_call_begins();
-    hull_of_two();
+    joins();
     a_callee_returns();
     an_absent_key();
+    targets();
+    a_wide_instruction();
+    loads_and_stores();
+    bounds();
+    stuck_machines();
+    tested_immediates();
+    loaded_ranges();
+    ranges_of_addresses();
+    writes_of_ranges();
+    operands_of_a_test();
+    edges_of_a_test();
+    structures();
+    dataflow_faults();
+    stored_initializes();
     let addresses = [FRAME_START, FRAME_END, ARGUMENTS_START, ARGUMENTS_END];
     let want = [0x1_0000_0000, 0x1_0000_0200, 0x2_0000_0000, 0x2_0000_0100];
     for index in 0..4 {
@@ -64,12 +239,19 @@ fn definitions_at_values(rt: HostRuntime) {
 fn fault_numbers(rt: HostRuntime) {
     let rows = [
         (VerifyFault::Decode(bpf_decode::DecodeFault::BadOffset), 9),
+        (
+            VerifyFault::Decode(bpf_decode::DecodeFault::TruncatedWide),
+            7,
+        ),
+        (VerifyFault::JumpBackward, 11),
+        (VerifyFault::JumpOutside, 12),
         (VerifyFault::FallsOffEnd, 13),
         (VerifyFault::UnknownHelper, 14),
         (VerifyFault::WritesFramePointer, 15),
         (VerifyFault::UninitRegister, 16),
         (VerifyFault::BadAccess, 17),
         (VerifyFault::UninitBytes, 18),
+        (VerifyFault::CallDepth, 19),
         (VerifyFault::Memory, 21),
     ];
     for (fault, number) in rows {

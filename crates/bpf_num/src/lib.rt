@@ -3,9 +3,11 @@
 #![tactic(auto)]
 
 mod jump;
+mod narrow;
 mod swap;
 #[cfg(test)]
 mod tests;
+mod wide;
 
 ghost use Rattle.std.specs.Prelude.{◌≡◌};
 ghost use Rattle.bpf_num.specs.Arithmetic.{alu64_of, alu32_of, alu_of, reads_destination};
@@ -18,8 +20,40 @@ pub use swap::{SwapKind, Width, byte_swap};
 pub enum AluOp {
     /// `dst += src`, modulo the width.
     Add,
+    /// `dst -= src`, modulo the width.
+    Sub,
+    /// `dst *= src`, modulo the width.
+    Mul,
+    /// `dst /= src`, or 0 where src is 0.
+    Div,
+    /// `dst /= src` of signed numbers, or 0 where src is 0.
+    Sdiv,
+    /// `dst |= src`.
+    Or,
+    /// `dst &= src`.
+    And,
+    /// `dst <<= src`, the count masked.
+    Lsh,
+    /// `dst >>= src`, the count masked.
+    Rsh,
+    /// `dst = -dst`.
+    Neg,
+    /// `dst %= src`, or dst where src is 0.
+    Mod,
+    /// `dst %= src` of signed numbers, or dst where src is 0.
+    Smod,
+    /// `dst ^= src`.
+    Xor,
     /// `dst = src`.
     Mov,
+    /// `dst = src`, its low 8 bits sign-extended.
+    Movsx8,
+    /// `dst = src`, its low 16 bits sign-extended.
+    Movsx16,
+    /// `dst = src`, its low 32 bits sign-extended.
+    Movsx32,
+    /// `dst >>= src` of a signed number, the count masked.
+    Arsh,
 }
 
 impl AluOp {
@@ -28,8 +62,8 @@ impl AluOp {
         ensures { result ≡ reads_destination self }
     {
         match self {
-            AluOp::Add => true,
-            AluOp::Mov => false,
+            AluOp::Mov | AluOp::Movsx8 | AluOp::Movsx16 | AluOp::Movsx32 => false,
+            _ => true,
         }
     }
 }
@@ -47,10 +81,7 @@ pub enum AluWidth {
 pub fn alu64(op: AluOp, dst: u64, src: u64) -> u64
     ensures { result ≡ alu64_of op dst src }
 {
-    match op {
-        AluOp::Add => dst.wrapping_add(src),
-        AluOp::Mov => src,
-    }
+    wide::result(op, dst, src)
 }
 
 /// The register after an instruction of class ALU: it works on low halves, and the upper half of
@@ -60,11 +91,7 @@ pub fn alu32(op: AluOp, dst: u64, src: u64) -> u64
 {
     let a = (dst & 0xffff_ffff) as u32;
     let b = (src & 0xffff_ffff) as u32;
-    let low = match op {
-        AluOp::Add => a.wrapping_add(b),
-        AluOp::Mov => b,
-    };
-    u64::from(low)
+    u64::from(narrow::result(op, a, b))
 }
 
 /// The register after an arithmetic instruction of this width.

@@ -4,6 +4,8 @@ use super::*;
 
 #[test]
 fn worked_results(rt: HostRuntime) {
+    let least = 1 << 63;
+    let minus_1 = u64::MAX;
     let rows = [
         (
             "a sum wraps at 2^64",
@@ -30,11 +32,123 @@ fn worked_results(rt: HostRuntime) {
             3,
         ),
         (
+            "a difference wraps",
+            AluWidth::W64,
+            AluOp::Sub,
+            1,
+            2,
+            minus_1,
+        ),
+        (
+            "a product wraps",
+            AluWidth::W32,
+            AluOp::Mul,
+            0x1_0001,
+            0x1_0001,
+            0x2_0001,
+        ),
+        ("a quotient of 0", AluWidth::W64, AluOp::Div, 9, 0, 0),
+        (
+            "the rest by 0",
+            AluWidth::W64,
+            AluOp::Mod,
+            0x1_0000_0007,
+            0,
+            0x1_0000_0007,
+        ),
+        (
+            "the rest by 0 of 32 bits",
+            AluWidth::W32,
+            AluOp::Mod,
+            0x1_0000_0007,
+            0,
+            7,
+        ),
+        (
+            "the least number by -1",
+            AluWidth::W64,
+            AluOp::Sdiv,
+            least,
+            minus_1,
+            least,
+        ),
+        ("its rest", AluWidth::W64, AluOp::Smod, least, minus_1, 0),
+        (
+            "-13 smod 3",
+            AluWidth::W64,
+            AluOp::Smod,
+            13u64.wrapping_neg(),
+            3,
+            minus_1,
+        ),
+        (
+            "13 sdiv -3 of 32 bits",
+            AluWidth::W32,
+            AluOp::Sdiv,
+            13,
+            0xffff_fffd,
+            0xffff_fffc,
+        ),
+        (
+            "a signed quotient by 0",
+            AluWidth::W32,
+            AluOp::Sdiv,
+            13,
+            0x1_0000_0000,
+            0,
+        ),
+        ("a masked count", AluWidth::W64, AluOp::Lsh, 1, 65, 2),
+        (
+            "a masked count of 32 bits",
+            AluWidth::W32,
+            AluOp::Rsh,
+            0x8000_0000,
+            33,
+            0x4000_0000,
+        ),
+        (
+            "a signed shift",
+            AluWidth::W32,
+            AluOp::Arsh,
+            0x8000_0000,
+            4,
+            0xf800_0000,
+        ),
+        ("neg", AluWidth::W32, AluOp::Neg, 1, 0, 0xffff_ffff),
+        ("neg of 0", AluWidth::W64, AluOp::Neg, 0, 0, 0),
+        ("or", AluWidth::W64, AluOp::Or, 12, 10, 14),
+        ("and", AluWidth::W64, AluOp::And, 12, 10, 8),
+        ("xor", AluWidth::W64, AluOp::Xor, 12, 10, 6),
+        (
+            "movsx of 8 bits",
+            AluWidth::W64,
+            AluOp::Movsx8,
+            0,
+            0x180,
+            0xffff_ffff_ffff_ff80,
+        ),
+        (
+            "movsx of 16 bits, narrow",
+            AluWidth::W32,
+            AluOp::Movsx16,
+            0,
+            0x1_8000,
+            0xffff_8000,
+        ),
+        (
+            "movsx of 32 bits",
+            AluWidth::W64,
+            AluOp::Movsx32,
+            0,
+            0x8000_0000,
+            0xffff_ffff_8000_0000,
+        ),
+        (
             "mov of 32 bits clears the upper half",
             AluWidth::W32,
             AluOp::Mov,
             7,
-            u64::MAX,
+            minus_1,
             0xffff_ffff,
         ),
         (
@@ -42,14 +156,15 @@ fn worked_results(rt: HostRuntime) {
             AluWidth::W64,
             AluOp::Mov,
             7,
-            u64::MAX,
-            u64::MAX,
+            minus_1,
+            minus_1,
         ),
     ];
     for (name, width, op, dst, src, want) in rows {
         assert_eq!(rt; alu(width, op, dst, src), want, "{name}");
     }
     assert!(rt; AluOp::Add.reads_destination() && !AluOp::Mov.reads_destination());
+    assert!(rt; AluOp::Neg.reads_destination() && !AluOp::Movsx8.reads_destination());
 }
 
 #[test]

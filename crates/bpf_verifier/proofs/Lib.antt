@@ -1,2 +1,6 @@
-pub mod StateLemmas
-pub mod Straight
+pub mod Bits
+pub mod Loops
+pub mod States
+pub mod Tables
+pub mod Sweeps
+pub mod Verdicts

@@ -1,17 +1,34 @@
--- Internal: what the data flow's arrays say of an abstract state.
-use Rattle.std.specs.Prelude.{◌≡◌, ℕ, ◌+◌, ◌<◌, Bool, false, List, slice_index_or, Option, None}
+-- Internal: what the verifier's arrays say of an abstract state.
+use Rattle.std.specs.Prelude.{◌≡◌, ℕ, Bool, List, slice_index_or, Option, Some, None}
 use Rattle.std.specs.Option.{option_map}
-use Rattle.bpf_model.specs.Machine.{frame_start}
-use Rattle.bpf_model.specs.Ranges as model
-use Rattle.bpf_model.specs.AbstractState.{AbstractState}
-use Rattle.bpf_verifier.specs.declared.range.Range.{Range}
-use Rattle.bpf_verifier.specs.ModelRange.{model_range}
+use Rattle.reg_ranges.specs.Ranges as reg
+use Rattle.reg_ranges.specs.RangeOf.{range_of}
+use Rattle.reg_ranges.specs.declared.range.Range.{Range}
+use Rattle.bpf_model.specs.AbstractState as model
+use Rattle.bpf_verifier.specs.declared.abstract_state.AbstractState.{AbstractState}
+use Rattle.bpf_verifier.specs.FrameBytes.{Marks}
 
 -- The range of each register that has one.
-abbrev pub ranges_of : List (Option Range) → ℕ → Option model.Range
-ranges_of ranges r = option_map model_range (slice_index_or ranges r None)
+abbrev pub ranges_of : List (Option Range) → ℕ → Option reg.Range
+ranges_of ranges r = option_map range_of (slice_index_or ranges r None)
 
--- The ranges are those of the state, and the flags tell which bytes of the frame are initialized.
-pub record Represents (ranges : List (Option Range)) (initialized : List Bool) (state : AbstractState) : Type 0 where
-  pub ranges_are : (r : ℕ) → ranges_of ranges r ≡ state.ranges r
-  pub initialized_are : (i : ℕ) → i < 512 → slice_index_or initialized i false ≡ state.initialized (frame_start 0 + i)
+-- The state of these registers, with these marks.
+abbrev pub state_of : List (Option Range) → (ℕ → Bool) → model.AbstractState
+state_of ranges marked = record { ranges = ranges_of ranges; initialized = marked }
+
+-- The ranges are those of the state, and the words hold the initialized bytes of the frame.
+pub record Represents (state : AbstractState) (of : model.AbstractState) : Type 0 where
+  pub ranges_are : (r : ℕ) → ranges_of state.ranges r ≡ of.ranges r
+  pub initialized_are : Marks state.initialized.words of.initialized
+
+-- The same, where there may be no state.
+abbrev pub RepresentsOption : Option AbstractState → Option model.AbstractState → Type 0
+RepresentsOption None None = Unit {0}
+RepresentsOption None (Some of) = ⊥
+RepresentsOption (Some state) None = ⊥
+RepresentsOption (Some state) (Some of) = Represents state of
+
+-- A state after one more edge: the edge's, or the join of both.
+abbrev pub join_with : Option model.AbstractState → model.AbstractState → model.AbstractState
+join_with None state = state
+join_with (Some before) state = model.join before state

@@ -3,13 +3,17 @@
 #![tactic(auto)]
 
 mod abstract_state;
+mod checks;
 mod dataflow;
+mod effects;
+mod flat;
+mod frame_bytes;
 mod procedure;
-mod range;
+mod slots;
 mod structure;
 #[cfg(test)]
 mod tests;
-mod transfer;
 
 pub use bpf_model::{Refusal, VerifyFault};
+pub use flat::FlatInsn;
 pub use procedure::{Procedure, verify};

@@ -173,3 +173,312 @@ fn accepted(rt: HostRuntime) -> Result<(), Fail> {
     }
     Ok(())
 }
+
+/// Whether code is refused so.
+fn is_refused(alloc: Global, slots: &[u64], fault: VerifyFault, slot: u32) -> Result<bool, Fail> {
+    let bytes = code(alloc, slots)?;
+    match verify(alloc, &bytes) {
+        Ok(_) => Ok(false),
+        Err(refusal) => Ok(refusal == Refusal { fault, slot }),
+    }
+}
+
+/// The bound of code, or none where it is refused.
+fn bound_of(alloc: Global, slots: &[u64]) -> Result<Option<u32>, Fail> {
+    let bytes = code(alloc, slots)?;
+    match verify(alloc, &bytes) {
+        Ok(procedure) => Ok(Some(procedure.bound())),
+        Err(_) => Ok(None),
+    }
+}
+
+#[test]
+fn refused_accesses(rt: HostRuntime) -> Result<(), Fail> {
+    let rows: [(&str, &[u64], VerifyFault, u32); 8] = [
+        (
+            "the frame less 8 bytes",
+            &[0x7a0a_f8fd_2a00_0000, R0_IS_0, EXIT],
+            VerifyFault::BadAccess,
+            0,
+        ),
+        (
+            "a byte that was never stored",
+            &[0x79a0_f0ff_0000_0000, EXIT],
+            VerifyFault::UninitBytes,
+            0,
+        ),
+        (
+            "2 bytes at the last byte of the arguments",
+            &[
+                0x7112_0000_0000_0000,
+                0x0f21_0000_0000_0000,
+                0x6910_0000_0000_0000,
+                EXIT,
+            ],
+            VerifyFault::BadAccess,
+            2,
+        ),
+        (
+            "8 bytes behind a test, one too far",
+            &[
+                0x7112_0000_0000_0000,
+                0x2502_0300_0f00_0000,
+                0x0f21_0000_0000_0000,
+                0x7910_ea00_0000_0000,
+                EXIT,
+                R0_IS_0,
+                EXIT,
+            ],
+            VerifyFault::BadAccess,
+            3,
+        ),
+        (
+            "a store at a range initializes nothing",
+            &[
+                0xbfa3_0000_0000_0000,
+                0x7112_0000_0000_0000,
+                0x5702_0000_0800_0000,
+                0x0f23_0000_0000_0000,
+                0x7203_f0ff_0100_0000,
+                0x71a0_f0ff_0000_0000,
+                EXIT,
+            ],
+            VerifyFault::UninitBytes,
+            5,
+        ),
+        (
+            "4 bytes stored, 8 loaded",
+            &[0x620a_f8ff_0100_0000, 0x79a0_f8ff_0000_0000, EXIT],
+            VerifyFault::UninitBytes,
+            1,
+        ),
+        (
+            "a store of an absent register",
+            &[0x7b5a_f8ff_0000_0000, R0_IS_0, EXIT],
+            VerifyFault::UninitRegister,
+            0,
+        ),
+        (
+            "a sign-extended load may be any number",
+            &[
+                0x9112_0000_0000_0000,
+                0x0f21_0000_0000_0000,
+                0x7110_0000_0000_0000,
+                EXIT,
+            ],
+            VerifyFault::BadAccess,
+            2,
+        ),
+    ];
+    for (name, slots, fault, slot) in rows {
+        let found = is_refused(rt.alloc(), slots, fault, slot)?;
+        assert!(rt; found, "{name}");
+    }
+    Ok(())
+}
+
+#[test]
+fn refused_jumps(rt: HostRuntime) -> Result<(), Fail> {
+    let rows: [(&str, &[u64], VerifyFault, u32); 10] = [
+        (
+            "a jump to itself",
+            &[0x0500_ffff_0000_0000, EXIT],
+            VerifyFault::JumpBackward,
+            0,
+        ),
+        (
+            "a jump out of the code, backward",
+            &[0x0500_fdff_0000_0000, EXIT],
+            VerifyFault::JumpBackward,
+            0,
+        ),
+        (
+            "a jump into a second half",
+            &[
+                0x0500_0100_0000_0000,
+                0x1800_0000_0100_0000,
+                0x0000_0000_0000_0000,
+                EXIT,
+            ],
+            VerifyFault::JumpOutside,
+            0,
+        ),
+        (
+            "a jump behind the end",
+            &[R0_IS_0, 0x0500_0100_0000_0000, EXIT],
+            VerifyFault::JumpOutside,
+            1,
+        ),
+        (
+            "a call behind the end",
+            &[0x8510_0000_0200_0000, R0_IS_0, EXIT],
+            VerifyFault::JumpOutside,
+            0,
+        ),
+        ("no exit", &[R0_IS_0], VerifyFault::FallsOffEnd, 0),
+        (
+            "a constant of two slots ends the code",
+            &[0x1800_0000_0100_0000, 0x0000_0000_0000_0000],
+            VerifyFault::FallsOffEnd,
+            0,
+        ),
+        (
+            "a load to r10",
+            &[0x791a_0000_0000_0000, R0_IS_0, EXIT],
+            VerifyFault::WritesFramePointer,
+            0,
+        ),
+        (
+            "a local call",
+            &[0x8510_0000_0100_0000, EXIT, R0_IS_0, EXIT],
+            VerifyFault::CallDepth,
+            0,
+        ),
+        (
+            "helper 3",
+            &[0x8500_0000_0300_0000, EXIT],
+            VerifyFault::UnknownHelper,
+            0,
+        ),
+    ];
+    for (name, slots, fault, slot) in rows {
+        let found = is_refused(rt.alloc(), slots, fault, slot)?;
+        assert!(rt; found, "{name}");
+    }
+    Ok(())
+}
+
+#[test]
+fn refused_joins(rt: HostRuntime) -> Result<(), Fail> {
+    let rows: [(&str, &[u64], VerifyFault, u32); 3] = [
+        (
+            "a register that one edge alone brings",
+            &[
+                0x7112_0000_0000_0000,
+                0x1502_0100_0000_0000,
+                0xb700_0000_0100_0000,
+                EXIT,
+            ],
+            VerifyFault::UninitRegister,
+            3,
+        ),
+        (
+            "bytes that one edge alone brings",
+            &[
+                0x7112_0000_0000_0000,
+                0x1502_0100_0000_0000,
+                0x7a0a_f8ff_0100_0000,
+                0x79a0_f8ff_0000_0000,
+                EXIT,
+            ],
+            VerifyFault::UninitBytes,
+            3,
+        ),
+        (
+            "the hull of both edges",
+            &[
+                0x7112_0000_0000_0000,
+                0xb703_0000_0000_0000,
+                0x1502_0100_0000_0000,
+                0xb703_0000_ff00_0000,
+                0x0f31_0000_0000_0000,
+                0x7910_0000_0000_0000,
+                EXIT,
+            ],
+            VerifyFault::BadAccess,
+            5,
+        ),
+    ];
+    for (name, slots, fault, slot) in rows {
+        let found = is_refused(rt.alloc(), slots, fault, slot)?;
+        assert!(rt; found, "{name}");
+    }
+    Ok(())
+}
+
+#[test]
+fn bounds(rt: HostRuntime) -> Result<(), Fail> {
+    let rows: [(&str, &[u64], u32); 9] = [
+        (
+            "a store and its load",
+            &[0x7a0a_f8ff_2a00_0000, 0x79a0_f8ff_0000_0000, EXIT],
+            3,
+        ),
+        (
+            "any byte of the arguments",
+            &[
+                0x7112_0000_0000_0000,
+                0x0f21_0000_0000_0000,
+                0x7110_0000_0000_0000,
+                EXIT,
+            ],
+            4,
+        ),
+        (
+            "8 bytes behind a test",
+            &[
+                0x7112_0000_0000_0000,
+                0x2502_0300_0f00_0000,
+                0x0f21_0000_0000_0000,
+                0x7910_e900_0000_0000,
+                EXIT,
+                R0_IS_0,
+                EXIT,
+            ],
+            5,
+        ),
+        (
+            "the edge of a refuted test is not taken",
+            &[
+                0xb700_0000_0300_0000,
+                0x1500_0100_0300_0000,
+                0x7900_0000_0000_0000,
+                EXIT,
+            ],
+            3,
+        ),
+        (
+            "the longest of two paths",
+            &[
+                0x1502_0200_0000_0000,
+                0x7a0a_f8ff_0100_0000,
+                0x0500_0100_0000_0000,
+                0x7a0a_f8ff_0200_0000,
+                0x79a0_f8ff_0000_0000,
+                EXIT,
+            ],
+            5,
+        ),
+        (
+            "a constant of two slots",
+            &[0x1800_0000_0100_0000, 0x0000_0000_0000_0000, EXIT],
+            2,
+        ),
+        (
+            "a jump by an immediate, over what is not reached",
+            &[R0_IS_0, 0x0600_0000_0100_0000, R0_IS_R5, EXIT],
+            3,
+        ),
+        (
+            "both edges of a test to one slot",
+            &[R0_IS_0, 0x1502_0000_0000_0000, EXIT],
+            3,
+        ),
+        (
+            "a test of one register with itself keeps its range",
+            &[
+                0x7112_0000_0000_0000,
+                0x1d22_0000_0000_0000,
+                0x0f21_0000_0000_0000,
+                0x7110_0000_0000_0000,
+                EXIT,
+            ],
+            5,
+        ),
+    ];
+    for (name, slots, bound) in rows {
+        let found = bound_of(rt.alloc(), slots)?;
+        assert_eq!(rt; found, Some(bound), "{name}");
+    }
+    Ok(())
+}

@@ -18,18 +18,15 @@ use Rattle.tenant_maps.specs.Entries.{Entries, has_room, put}
 use Rattle.tenant_maps.proofs.EntriesLemmas.{All-keys-put, All-values-put, count_stays}
 use Rattle.bpf_num.specs.Bind.{◌>>=◌}
 use Rattle.bpf_decode.specs.declared.insn.Insn.{Insn}
-use Rattle.bpf_decode.specs.declared.insn.Insn.TheVariants.{Alu, CallHelper, Exit}
 use Rattle.bpf_decode.specs.Faults.{IsCode, length_fault}
 use Rattle.bpf_model.specs.declared.helper.Helper.{Helper}
 use Rattle.bpf_model.specs.declared.helper.Helper.TheVariants.{Get, Put}
-use Rattle.bpf_model.specs.Code.{insn_at}
-use Rattle.bpf_model.specs.Machine.{Machine, Frame, Memory, Call, start, bytes_at, is_in_bounds}
-use Rattle.bpf_model.specs.Helpers.{Answer, answer_of, get_effect, put_effect, helper_of}
-use Rattle.bpf_model.specs.Step.{Next, Continues, Ends, step, effect, returned, source_value, destination_value, after_answer}
+use Rattle.bpf_model.specs.Machine.{Machine, Memory, Call, start, bytes_at, is_in_bounds}
+use Rattle.bpf_model.specs.Helpers.{Answer, answer_of, get_effect, put_effect}
 use Rattle.bpf_model.specs.Run.{Run, Ending, EndsSo}
 use Rattle.bpf_model.specs.Verdict.{Accepts}
+use Rattle.bpf_model.proofs.Effects.{Keeps, step_keeps}
 use Rattle.bpf_model.proofs.Options.{bind_some, no_fault, some_is}
-use Rattle.bpf_model.proofs.Runs.{continues_is}
 use Rattle.service_core.specs.declared.outcome.Outcome.{Outcome}
 use Rattle.service_core.specs.Words.{four_bytes, eight_bytes}
 use Rattle.service_core.specs.Operations.{Operation, Install, Call as CallOf, Bad, operation_of, Installs, Calls, Runs, Does, installed, called, refused, no_procedure, too_many_procedures, arguments_too_long, bad_operation}
@@ -67,7 +64,7 @@ bytes_length memory a (suc n) bytes e =
 
 -- what a step leaves of the map and of the output
 abbrev KeepsSizes : Machine → Machine → Type 0
-KeepsSizes m next = (IsSizedMap m.entries → IsSizedMap next.entries) × (next.output ≡ m.output)
+KeepsSizes m next = Keeps IsSizedMap m next
 
 same_sizes : (m next : Machine) → next.entries ≡ m.entries → next.output ≡ m.output → KeepsSizes m next
 same_sizes m next e o = ((λ is. subst IsSizedMap (sym e) is), o)
@@ -89,44 +86,11 @@ answer_sized Put m first second answer e is =
     subst IsSizedMap (ap (λ (a : Answer). a.entries) (some_is (put_effect m key.0 value.0) answer value.2))
     (sized_put m.entries key.0 value.0 is (bytes_length m.memory first 16 key.0 key.1) (bytes_length m.memory second 32 value.0 value.1))
 
-effect_keeps : (m next : Machine) (x : Insn) → effect m x ≡ Some (Continues next) → KeepsSizes m next
-effect_keeps m next (Alu width op dst src) e =
-    let b = bind_some (source_value m.frame.registers src) _ (Continues next) e in
-    let a = bind_some (destination_value m.frame.registers op dst.number) _ (Continues next) b.2 in
-    cases (eqb dst.number 10) _ a.2 where
-      cases : (t : Bool) (frame : Frame) → cond t None (Some (Continues (record m { frame = frame }))) ≡ Some (Continues next) → KeepsSizes m next
-      cases true frame h = absurd (cc)
-      cases false frame h = let is = continues_is (record m { frame = frame }) next h in same_sizes m next (ap (λ (k : Machine). k.entries) (sym is)) (ap (λ (k : Machine). k.output) (sym is))
-effect_keeps m next (CallHelper number) e =
-    let helper = bind_some (helper_of number) _ (Continues next) e in
-    let first = bind_some (finite.get m.frame.registers 1) _ (Continues next) helper.2 in
-    let second = bind_some (finite.get m.frame.registers 2) _ (Continues next) first.2 in
-    let answer = bind_some (answer_of helper.0 m first.0 second.0) _ (Continues next) second.2 in
-    let is = next_is (after_answer m 1 answer.0) answer.2 in
-    ((λ sized. subst IsSizedMap (ap (λ (k : Machine). k.entries) is) (answer_sized helper.0 m first.0 second.0 answer.0 answer.1 sized)), ap (λ (k : Machine). k.output) (sym is)) where
-      machine_of : Next → Machine
-      machine_of (Continues k) = k
-      machine_of (Ends value) = m
-
-      next_is : (n : Next) → Some n ≡ Some (Continues next) → machine_of n ≡ next
-      next_is n h = ap machine_of (some_is n (Continues next) h)
-effect_keeps m next Exit e =
-    let result = bind_some (finite.get m.frame.registers 0) _ (Continues next) e in
-    cases m.callers result.0 result.2 where
-      cases : (callers : List Frame) (result : ℕ) → Some (returned callers m result) ≡ Some (Continues next) → KeepsSizes m next
-      cases [] result h = absurd (cc)
-      cases (caller ∷ callers) result h = let is = continues_is _ next h in same_sizes m next (ap (λ (k : Machine). k.entries) (sym is)) (ap (λ (k : Machine). k.output) (sym is))
-
-step_keeps : (code : List Insn) (m next : Machine) → step code m ≡ Some (Continues next) → KeepsSizes m next
-step_keeps code m next e =
-    let insn = bind_some (insn_at code m.frame.pc) (λ x. effect m x) (Continues next) e in
-    effect_keeps m next insn.0 insn.2
-
 run_keeps : (code : List Insn) (first : Machine) (n : ℕ) (last : Machine) → Run code first n last → KeepsSizes first last
 run_keeps code first zero last e = same_sizes first last (ap (λ (k : Machine). k.entries) (sym e)) (ap (λ (k : Machine). k.output) (sym e))
 run_keeps code first (suc n) last (mid, run, e) =
     let before = run_keeps code first n mid run in
-    let one = step_keeps code mid last e in
+    let one = step_keeps IsSizedMap answer_sized code mid last e in
     ((λ sized. one.0 (before.0 sized)), one.1 ∙ before.1)
 
 ending_sized : (code : List Insn) (call : Call) (ending : Ending) → EndsSo code call ending → IsSizedMap call.entries → IsSizedMap ending.entries × (length ending.output ≤ 256)

@@ -1,20 +1,18 @@
-use Rattle.std.proofs.lemmas.Result.{err_from_is_err_and}
-use Rattle.bpf_decode.proofs.Encodings.{refused_here, encoded_more, fit_more}
+use Rattle.std.proofs.Common.{◌+◌, ◌*◌, ◌≤◌, length, arith}
+use Rattle.bpf_decode.specs.Encoding.{insn_slots}
+use Rattle.bpf_decode.proofs.Encodings.{encoded_more, fit_more}
 use Rattle.bpf_decode.proofs.code.read_code.Goals as goal
-
-pub returns-in_err-insn-clause-refused : goal.returns-in_err-insn-clause-refused
-returns-in_err-insn-clause-refused c =
-    let p = err_from_is_err_and c.from_residual.result c.from_residual.ensures.1 in
-    let i = c.loop-slot.invariant in
-    rw (p.1, p.2) (refused_here c.args.bytes.now c.loop-slot.slot c.loop-slot.code.items _ i.fits i.encoded c.in_err-insn.ensures.refused)
 
 pub loop-slot-preserved : goal.loop-slot-preserved
 loop-slot-preserved c =
     let i = c.loop-slot.invariant in
-    let at = c.in_ok-insn.ensures.found in
+    let x = c.in_ok-insn.insn in
+    let found = c.in_ok-insn.ensures.found in
+    let fits : 8 * c.loop-slot.slot + 8 * length (insn_slots x) ≤ length c.args.bytes.now = c.in_ok-insn.ensures.fits in
     record {
-      encoded = rw c.in_ok-push.ensures.items (encoded_more c.args.bytes.now c.loop-slot.slot c.loop-slot.code.items _ i.encoded at);
-      fit = rw c.in_ok-push.ensures.items (fit_more c.loop-slot.code.items _ i.fit at.3);
+      encoded = rw (c.in_ok-push.ensures.items, c.slots-slot.ensures) (encoded_more c.args.bytes.now c.loop-slot.slot c.loop-slot.code.items x i.encoded found);
+      fit = rw c.in_ok-push.ensures.items (fit_more c.loop-slot.code.items x i.fit found.1);
       whole = i.whole;
+      within = rw c.slots-slot.ensures (omega (arith, fits));
       fits = i.fits;
     }

@@ -1,4 +1,4 @@
-use Rattle.std.proofs.Common.{◌≡◌, ◌*◌, take, length, None}
+use Rattle.std.proofs.Common.{◌≡◌, ◌-◌, ◌*◌, ◌≤◌, take, length, None}
 use Rattle.std.specs.List.{AllByRecursion}
 use Rattle.bpf_decode.specs.Encoding.{encoding, IsInsn}
 use Rattle.bpf_decode.specs.Faults.{length_fault}
@@ -9,5 +9,9 @@ invariant-loop-slot l = record {
   encoded : take (8 * l.slot) l.bytes ≡ encoding l.code.items;
   fit : AllByRecursion IsInsn l.code.items;
   whole : 8 * l.slots ≡ length l.bytes;
+  within : l.slot ≤ l.slots;
   fits : length_fault (length l.bytes) ≡ None;
 }
+
+abbrev pub decreases-loop-slot : goal.decreases-loop-slot
+decreases-loop-slot l = l.slots - l.slot

@@ -1,7 +1,7 @@
 use Rattle.std.proofs.Common.{ℕ}
 use Rattle.std.specs.Option.{is_some}
 use Rattle.bpf_verifier.specs.Represents.{ranges_of}
-use Rattle.bpf_verifier.proofs.StateLemmas.{all_done, all_more}
+use Rattle.bpf_verifier.proofs.Loops.{all_done, all_more}
 use Rattle.bpf_verifier.proofs.abstract_state.AbstractState.has_all.Goals as goal
 
 pub returns : goal.returns

@@ -1,0 +1,59 @@
+-- The verdict that the verifier's passes find together.
+use Rattle.std.proofs.Common.{◌≡◌, ◌⊎◌, ℕ, List, Option, None, refl, sym, ap, subst, ◌∙◌, inl, inr}
+use Rattle.bpf_decode.specs.declared.insn.Insn.{Insn}
+use Rattle.bpf_decode.specs.declared.refusal.DecodeFault.{DecodeFault}
+use Rattle.bpf_decode.specs.declared.refusal.DecodeFault.TheVariants as decode
+use Rattle.bpf_decode.specs.Faults.{IsCode, IsRefused}
+use Rattle.bpf_decode.proofs.Encodings.{same_code}
+use Rattle.bpf_model.specs.Code.{insns_by_slot}
+use Rattle.bpf_model.specs.Dataflow.{IsBound}
+use Rattle.bpf_model.specs.Faults.{verify_fault_of}
+use Rattle.bpf_model.specs.Run.{IsSafe}
+use Rattle.bpf_model.specs.Verdict.{Refuses, IsAccepted, dataflow_fault}
+use Rattle.bpf_model.specs.declared.fault.VerifyFault.{VerifyFault}
+use Rattle.bpf_model.specs.declared.fault.VerifyFault.TheVariants.{Decode, Memory}
+use Rattle.bpf_model.proofs.Safety.{safe, bounded}
+use Rattle.bpf_verifier.specs.declared.flat.FlatInsn.{FlatInsn}
+use Rattle.bpf_verifier.specs.Flat.{IsTable}
+use Rattle.bpf_verifier.specs.Verified.{IsProcedure}
+use Rattle.bpf_verifier.specs.Sweep.{IsStructured}
+
+-- what the two passes find together
+pub accepted_by : (code : List Insn) (a b : List (Option Insn)) (bound : ℕ) → a ≡ insns_by_slot code → b ≡ insns_by_slot code → ((c : List Insn) → a ≡ insns_by_slot c → IsStructured c) → ((c : List Insn) → b ≡ insns_by_slot c → IsStructured c → (slot : ℕ) → dataflow_fault c slot ≡ None) → ((c : List Insn) → b ≡ insns_by_slot c → IsStructured c → IsBound c bound) → IsAccepted code bound
+accepted_by code a b bound is-a is-b structure dataflow longest = record {
+  structure = structure code is-a;
+  dataflow = dataflow code is-b (structure code is-a);
+  longest = longest code is-b (structure code is-a);
+}
+
+-- code that was accepted makes a procedure, with its table
+pub procedure_of : (bytes : List ℕ) (code : List Insn) (table : List FlatInsn) (bound : ℕ) → IsCode bytes code → IsTable code table → IsAccepted code bound → IsProcedure bytes code table bound
+procedure_of bytes code table bound is flat accepted =
+    record { is_code = is; is_table = flat; safe = safe bytes code bound is accepted; small = bounded bytes code bound is accepted }
+
+pub safe_of : (bytes : List ℕ) (code : List Insn) (bound : ℕ) → IsCode bytes code → IsAccepted code bound → (insns : List Insn) → IsCode bytes insns → IsSafe insns bound
+safe_of bytes code bound is accepted insns other =
+    subst (λ (c : List Insn). IsSafe c bound) (same_code bytes code insns is other) (safe bytes code bound is accepted)
+
+-- ---- the decoder's refusals
+
+decoded : (fault : DecodeFault) → (fault ≡ decode.Memory) ⊎ (verify_fault_of fault ≡ Decode fault)
+decoded decode.Empty = inr refl
+decoded decode.NotSlots = inr refl
+decoded decode.TooLong = inr refl
+decoded decode.BadOpcode = inr refl
+decoded decode.BadRegister = inr refl
+decoded decode.FieldNotZero = inr refl
+decoded decode.TruncatedWide = inr refl
+decoded decode.BadWidth = inr refl
+decoded decode.BadOffset = inr refl
+decoded decode.Memory = inl refl
+
+-- a refusal of the decoder's, as the verifier reports it
+pub reported : (bytes : List ℕ) (reason : DecodeFault) (slot : ℕ) (fault : VerifyFault) (at : ℕ) → fault ≡ verify_fault_of reason → at ≡ slot → (reason ≡ decode.Memory) ⊎ IsRefused bytes reason slot → (fault ≡ Memory) ⊎ Refuses bytes fault at
+reported bytes reason slot fault at e same (inl memory) = inl (e ∙ ap verify_fault_of memory)
+reported bytes reason slot fault at e same (inr refused) =
+    elim (decoded reason) [
+      | inl memory ↦ inl (e ∙ ap verify_fault_of memory)
+      | inr is ↦ inr (inl (reason, subst (λ (k : ℕ). IsRefused bytes reason k) (sym same) refused, e ∙ is))
+    ]

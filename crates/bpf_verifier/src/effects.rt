@@ -1,0 +1,227 @@
+//! What an instruction makes of an abstract state.
+
+ghost use Rattle.std.specs.Prelude.{◌≡◌};
+ghost use Rattle.reg_ranges.specs.RangeOf.{range_of};
+ghost use Rattle.bpf_model.specs.AbstractState.{loaded_range, transfer};
+
+use crate::abstract_state::AbstractState;
+use crate::checks::bytes_of;
+use bpf_decode::{Insn, Reg, Size, Source};
+use bpf_model::layout::{FRAME_END, FRAME_START};
+use bpf_model::{Access, Helper};
+use bpf_num::{AluOp, AluWidth, Test};
+use reg_ranges::{Range, refine, swap_range, transfer32, transfer64};
+
+impl AbstractState {
+    ghost use Rattle.std.specs.Prelude.{◌≡◌, ℕ, ◌+◌, ◌<◌, ◌||◌, Bool};
+    ghost use Rattle.std.specs.Option.{option_map};
+    ghost use Rattle.reg_ranges.specs.RangeOf.{range_of};
+    ghost use Rattle.bpf_model.specs.Helpers.{writes};
+    ghost use Rattle.bpf_model.specs.Machine.{frame_start};
+    ghost use Rattle.bpf_model.specs.Access.{bytes_of};
+    ghost use Rattle.bpf_model.specs.AbstractState.{after_insn, after_store, address_range, after_helper, after_test, alu_range, source_range, tested_range, is_written};
+    ghost use Rattle.bpf_verifier.specs.FrameBytes.{has_byte, Marks};
+    ghost use Rattle.bpf_verifier.specs.Represents.{Represents, RepresentsOption, state_of};
+
+    /// Goes over an instruction, by the edge to the slot behind it.
+    pub fn after_insn(&mut self, insn: &Insn)
+        ensures { (marked : ℕ → Bool) → Marks self.old.initialized.words marked →
+            Represents self.new (after_insn (state_of self.old.ranges marked) insn.now) }
+    {
+        match insn {
+            Insn::Alu {
+                width,
+                op,
+                dst,
+                src,
+            } => {
+                let range = self.alu_range(*width, *op, *dst, *src);
+                self.set(*dst, range);
+            }
+            Insn::Swap { kind, width, dst } => {
+                let range = match self.range_of(dst.number) {
+                    Some(range) => Some(swap_range(*kind, *width, range)),
+                    None => None,
+                };
+                self.set(*dst, range);
+            }
+            Insn::LoadImm { dst, value } => self.set(*dst, Some(Range::single(*value))),
+            Insn::Load {
+                size,
+                signed,
+                dst,
+                ..
+            } => self.set(*dst, Some(loaded_range(*size, *signed))),
+            Insn::StoreImm {
+                size,
+                base,
+                offset,
+                ..
+            } => self.store(*size, *base, *offset),
+            Insn::Store {
+                size,
+                base,
+                offset,
+                ..
+            } => self.store(*size, *base, *offset),
+            Insn::CallHelper { helper } => match Helper::of(*helper) {
+                Some(helper) => self.after_helper(helper.writes()),
+                None => self.after_helper(&[]),
+            },
+            Insn::Jump { .. }
+            | Insn::JumpLong { .. }
+            | Insn::Test { .. }
+            | Insn::CallLocal { .. }
+            | Insn::Exit => {}
+        }
+    }
+
+    /// What an arithmetic instruction makes of its operands.
+    fn alu_range(&self, width: AluWidth, op: AluOp, dst: Reg, src: Source) -> Option<Range>
+        ensures { (marked : ℕ → Bool) →
+            option_map range_of result ≡
+            alu_range (state_of self.now.ranges marked) width op dst.number src }
+    {
+        let b = self.source_range(src)?;
+        let a = if op.reads_destination() {
+            self.range_of(dst.number)?
+        } else {
+            Range::single(0)
+        };
+        Some(transfer(width, op, a, b))
+    }
+
+    fn source_range(&self, src: Source) -> Option<Range>
+        ensures { (marked : ℕ → Bool) →
+            option_map range_of result ≡ source_range (state_of self.now.ranges marked) src }
+    {
+        match src {
+            Source::Imm(value) => Some(Range::single(i64::from(value).cast_unsigned())),
+            Source::Reg(reg) => self.range_of(reg.number),
+        }
+    }
+
+    /// After a helper r0 has its answer, and r1 to r5 hold nothing. What it wrote is initialized
+    /// where its address is a single number.
+    fn after_helper(&mut self, writes: &[Access])
+        ensures { (marked : ℕ → Bool) → Marks self.old.initialized.words marked →
+            Represents self.new (after_helper (state_of self.old.ranges marked) writes.now) }
+    {
+        for access in writes {
+            let range = self.range_of(access.register);
+            self.initialize(range, access.size);
+        }
+        self.ranges = [
+            Some(Range::new(0, 1)),
+            None,
+            None,
+            None,
+            None,
+            None,
+            self.ranges[6],
+            self.ranges[7],
+            self.ranges[8],
+            self.ranges[9],
+            self.ranges[10],
+        ];
+    }
+
+    /// Initializes what a store writes.
+    fn store(&mut self, size: Size, base: Reg, offset: i16)
+        ensures { (marked : ℕ → Bool) → Marks self.old.initialized.words marked →
+            Represents self.new (after_store (state_of self.old.ranges marked)
+            (address_range (state_of self.old.ranges marked) base.number offset) (bytes_of size)) }
+    {
+        let range = self.address_range(base, offset);
+        self.initialize(range, bytes_of(size));
+    }
+
+    /// Initializes the bytes of the frame that a write writes, where its address is a single
+    /// number.
+    fn initialize(&mut self, range: Option<Range>, size: u8)
+        ensures ranges { self.new.ranges ≡ self.old.ranges }
+        ensures initialized { (i : ℕ) → i < 512 → has_byte self.new.initialized.words i ≡
+            (is_written (option_map range_of range) size (frame_start 0 + i)
+            || has_byte self.old.initialized.words i) }
+    {
+        let Some(range) = range else {
+            return;
+        };
+        if !range.is_single() || range.lo >= FRAME_END {
+            return;
+        }
+        let from = range.lo.max(FRAME_START);
+        let to = (range.lo + u64::from(size)).clamp(FRAME_START, FRAME_END);
+        self.initialized
+            .insert_all((from - FRAME_START) as usize, (to - FRAME_START) as usize);
+    }
+
+    /// The state behind a test that is taken, or isn't; none where that can't be.
+    pub fn after_test(
+        &self,
+        narrow: bool,
+        test: Test,
+        dst: Reg,
+        src: Source,
+        taken: bool,
+    ) -> Option<AbstractState>
+        ensures { (marked : ℕ → Bool) → Marks self.now.initialized.words marked →
+            RepresentsOption result
+            (after_test (state_of self.now.ranges marked) narrow test dst.number src taken) }
+    {
+        let b = self.tested_range(narrow, src)?;
+        let a = self.range_of(dst.number)?;
+        let (a, b) = refine(test, narrow, a, b, taken)?;
+        let mut state = *self;
+        match src {
+            Source::Imm(_) => state.set(dst, Some(a)),
+            Source::Reg(src) => {
+                if dst.number != src.number {
+                    state.set(dst, Some(a));
+                    state.set(src, Some(b));
+                }
+            }
+        }
+        Some(state)
+    }
+
+    /// What a test compares with.
+    fn tested_range(&self, narrow: bool, src: Source) -> Option<Range>
+        ensures { (marked : ℕ → Bool) →
+            option_map range_of result ≡ tested_range (state_of self.now.ranges marked) narrow src }
+    {
+        match src {
+            Source::Imm(value) => Some(Range::single(if narrow {
+                u64::from(value.cast_unsigned())
+            } else {
+                i64::from(value).cast_unsigned()
+            })),
+            Source::Reg(reg) => self.range_of(reg.number),
+        }
+    }
+}
+
+/// What an operation of a width makes of its operands' ranges.
+fn transfer(width: AluWidth, op: AluOp, a: Range, b: Range) -> Range
+    ensures { range_of result ≡ transfer width op (range_of a) (range_of b) }
+{
+    match width {
+        AluWidth::W32 => transfer32(op, a, b),
+        AluWidth::W64 => transfer64(op, a, b),
+    }
+}
+
+/// What can be loaded.
+fn loaded_range(size: Size, signed: bool) -> Range
+    ensures { range_of result ≡ loaded_range size signed }
+{
+    if signed {
+        return Range::new(0, u64::MAX);
+    }
+    match size {
+        Size::B => Range::new(0, 0xff),
+        Size::H => Range::new(0, 0xffff),
+        Size::W => Range::new(0, 0xffff_ffff),
+        Size::Dw => Range::new(0, u64::MAX),
+    }
+}

@@ -1,0 +1,119 @@
+//! Runs of the programs, and their times.
+
+use crate::programs::{Program, all, tests};
+use anyhow::{Result, anyhow};
+use bpf_machine::{Finished, run};
+use bpf_verifier::{Procedure, verify};
+use host_types::ClientId;
+use std::time::Instant;
+use tenant_maps::TenantMap;
+
+/// The rounds of which the least counts.
+const ROUNDS: u32 = 20;
+
+/// What the verifier may take for a slot, in picoseconds.
+const SLOT: u128 = 40_000;
+
+/// What a slot of 1,024 may take, in thousandths of one of 256.
+const LINEAR: u128 = 1300;
+
+/// The 48 argument bytes 0, 1, 2, ..
+fn arguments() -> [u8; 48] {
+    let mut bytes = [0; 48];
+    let mut next = 0u8;
+    for byte in &mut bytes {
+        *byte = next;
+        next = next.wrapping_add(1);
+    }
+    bytes
+}
+
+fn verified(rt: &HostRuntime, program: &Program) -> Result<Procedure> {
+    match verify(rt.alloc(), &program.code) {
+        Ok(procedure) => Ok(procedure),
+        Err(_) => Err(anyhow!("the program is not accepted")),
+    }
+}
+
+/// One run.
+fn finished(procedure: &Procedure, map: &mut TenantMap) -> Result<Finished> {
+    Ok(run(procedure, &arguments(), ClientId(16), map)?)
+}
+
+/// Prints the steps and the result of each program.
+pub fn print_results(rt: &HostRuntime) -> Result<()> {
+    for program in &all(rt.alloc())? {
+        let procedure = verified(rt, program)?;
+        let mut map = TenantMap::new(rt.alloc());
+        let end = finished(&procedure, &mut map)?;
+        println!(rt;
+            "{}: {} steps, result {}",
+            program.name, end.steps, end.result
+        )?;
+    }
+    Ok(())
+}
+
+/// Prints each program's name, steps and code in hex, a line each.
+pub fn print_programs(rt: &HostRuntime) -> Result<()> {
+    for program in &all(rt.alloc())? {
+        let procedure = verified(rt, program)?;
+        let mut map = TenantMap::new(rt.alloc());
+        let end = finished(&procedure, &mut map)?;
+        println!(rt;
+            "{} {} {}",
+            program.name,
+            end.steps,
+            hex::encode(rt.alloc(), &program.code)?
+        )?;
+    }
+    Ok(())
+}
+
+/// Prints each program's name, the least time of a run in picoseconds, and the result.
+pub fn print_times(rt: &HostRuntime) -> Result<()> {
+    for program in &all(rt.alloc())? {
+        let procedure = verified(rt, program)?;
+        let mut map = TenantMap::new(rt.alloc());
+        let end = finished(&procedure, &mut map)?;
+        let runs = 1_000_000 / end.steps.saturating_add(20).max(1);
+        let mut least = u128::MAX;
+        let mut result = 0;
+        for _ in 0..ROUNDS {
+            let start = Instant::now(rt)?;
+            for _ in 0..runs {
+                result = finished(&procedure, &mut map)?.result;
+            }
+            least = least.min(start.elapsed(rt)?.as_nanos());
+        }
+        let each = least.saturating_mul(1000) / u128::from(runs.max(1));
+        println!(rt; "{} {} {}", program.name, each, result)?;
+    }
+    Ok(())
+}
+
+/// The least time of verifying a program, for each of its slots, in picoseconds.
+fn picoseconds_of_slot(rt: &HostRuntime, program: &Program) -> Result<u128> {
+    let slots = (program.code.len() as u64 / 8).max(1);
+    let mut least = u128::MAX;
+    for _ in 0..ROUNDS {
+        let start = Instant::now(rt)?;
+        for _ in 0..100 {
+            let _procedure = verified(rt, program)?;
+        }
+        least = least.min(start.elapsed(rt)?.as_nanos());
+    }
+    Ok(least.saturating_mul(10) / u128::from(slots))
+}
+
+/// Prints what the verifier takes for a slot of code of tests and joins; an error where it is too much.
+pub fn print_verification(rt: &HostRuntime) -> Result<()> {
+    let short = picoseconds_of_slot(rt, &tests(rt.alloc(), "short", 123)?)?;
+    let long = picoseconds_of_slot(rt, &tests(rt.alloc(), "long", 507)?)?;
+    println!(rt; "verify: {short} ps a slot of 255, {long} ps a slot of 1,023, limit {SLOT} ps")?;
+    if long <= SLOT && long.saturating_mul(1000) <= short.saturating_mul(LINEAR) {
+        Ok(())
+    } else {
+        Err(anyhow!("a limit is passed"))
+    }
+}
