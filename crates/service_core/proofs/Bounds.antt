@@ -55,7 +55,7 @@ sized_put entries key value is k v = cases (has_room entries key) refl where
   cases true room = sized_insert entries key value is k v room
   cases false room = is
 
-bytes_length : (memory : Memory) (a n : ℕ) (bytes : List ℕ) → bytes_at memory a n ≡ Some bytes → length bytes ≡ n
+pub bytes_length : (memory : Memory) (a n : ℕ) (bytes : List ℕ) → bytes_at memory a n ≡ Some bytes → length bytes ≡ n
 bytes_length memory a zero bytes e = ap length (sym (some_is [] bytes e))
 bytes_length memory a (suc n) bytes e =
     let first = bind_some (finite.get memory a) (λ byte. bytes_at memory (a + 1) n >>= λ rest. Some (byte ∷ rest)) bytes e in
@@ -240,7 +240,7 @@ tenant_step_bounded n x request after reply kept range b h =
     (one_of_bool (nat_eq request.time last.time) _ _ _ (λ (e : (after ≡ x) × (reply ≡ Some last) × (kept ≡ true)). same e.0) done)) h
 
 -- the tenants' ids after one part was changed
-ids_with_tenant : (changed : TenantState) (xs : List TenantState) → map (λ x. x.tenant) (with_tenant changed xs) ≡ map (λ x. x.tenant) xs
+pub ids_with_tenant : (changed : TenantState) (xs : List TenantState) → map (λ x. x.tenant) (with_tenant changed xs) ≡ map (λ x. x.tenant) xs
 ids_with_tenant changed [] = refl
 ids_with_tenant changed (x ∷ xs) = cases (eqb x.tenant changed.tenant) refl (ids_with_tenant changed xs) where
   cases : (b : Bool) → eqb x.tenant changed.tenant ≡ b → map (λ y. y.tenant) (with_tenant changed xs) ≡ map (λ y. y.tenant) xs

@@ -13,3 +13,5 @@ pub mod Clients
 pub mod Injective
 pub mod Bounds
 pub mod Lengths
+pub mod Bytes
+pub mod Existing

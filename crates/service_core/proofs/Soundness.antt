@@ -123,7 +123,7 @@ follows_sound state [] after outcomes sound h = subst IsSound (sym h.0) sound
 follows_sound state (request ∷ requests) after outcomes sound (mid, outcome, others, step, rest, e) =
     follows_sound mid requests after others (step_sound state request mid outcome sound step) rest
 
-accepted_safe : (code : List ℕ) → IsAcceptedCode code → CannotGoWrong code
+pub accepted_safe : (code : List ℕ) → IsAcceptedCode code → CannotGoWrong code
 accepted_safe code (bound, (insns, is, accepted)) =
     record { insns = insns; bound = bound; is_code = is; accepted = accepted; safe = safe code insns bound is accepted }
 

@@ -8,3 +8,4 @@ pub mod Encoding
 pub mod Sinks
 pub mod Sound
 pub mod Bounded
+pub mod Asked

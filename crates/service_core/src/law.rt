@@ -1,6 +1,6 @@
 //! Laws of the service, each on a function with an empty body.
 
-ghost use Rattle.std.specs.Prelude.{◌≡◌, ◌+◌, ◌^◌, ◌<◌, ◌≤◌, ℕ, length, Option, Some, IfSome, List, [], ◌∷◌, ◌++◌};
+ghost use Rattle.std.specs.Prelude.{◌≡◌, ◌+◌, ◌^◌, ◌<◌, ◌≤◌, ℕ, length, All, Option, Some, IfSome, List, [], ◌∷◌, ◌++◌};
 ghost use Rattle.host_types.specs.declared.request.Request.{Request};
 ghost use Rattle.host_types.specs.declared.request.Reply.{Reply};
 ghost use Rattle.service_core.specs.declared.outcome.Outcome.{Outcome};
@@ -9,6 +9,7 @@ ghost use Rattle.service_core.specs.TenantStates.{Service, genesis_of, last_repl
 ghost use Rattle.service_core.specs.Steps.{IsStep, Serves};
 ghost use Rattle.service_core.specs.Sound.{IsSound, NoneGoesWrong};
 ghost use Rattle.service_core.specs.Bounded.{IsBounded};
+ghost use Rattle.service_core.specs.Asked.{CanAsk, HasTenantMaps};
 ghost use Rattle.service_core.specs.Encoding.{encoded};
 
 /// A step of the service has one outcome: the state and the request determine the state after it and
@@ -62,4 +63,25 @@ pub fn states_are_bounded()
     ensures length { (state : Service) → IsBounded state → length (encoded state) ≤ 5_787_825 }
     ensures last { (state : Service) (request : Request) (after : Service) (outcome : Outcome) (reply : Reply) →
         IsStep state (Some request) after outcome → outcome.reply ≡ Some reply → last_reply_of after request.client.0 ≡ Some reply }
+{}
+
+/// Each tenant's map stays a tenant's map, of keys and values that are bytes, where each operation that
+/// is asked for is a list of bytes.
+pub fn maps_stay_maps()
+    ensures first { (config : Configuration) → HasTenantMaps (genesis_of config) }
+    ensures next { (state : Service) (request : Option Request) (after : Service) (outcome : Outcome) →
+        HasTenantMaps state → IfSome request (λ r. All (λ byte. byte < 256) r.op) →
+        IsStep state request after outcome → HasTenantMaps after }
+{}
+
+/// A step exists, and so the service never stops for want of one: from each state that it reaches, for
+/// the null request and for every request that a client of the configuration can make. Hence a list of
+/// such requests, taken from the beginning, has an outcome.
+pub fn a_step_exists()
+    ensures one { (state : Service) (request : Option Request) →
+        IsBounded state → IsSound state → HasTenantMaps state → IfSome request (CanAsk state.config) →
+        (after : Service) × (outcome : Outcome) × IsStep state request after outcome }
+    ensures all { (config : Configuration) (requests : List (Option Request)) →
+        All (λ request. IfSome request (CanAsk config)) requests →
+        (after : Service) × (outcomes : List Outcome) × Serves config requests after outcomes }
 {}

@@ -14,8 +14,9 @@ mod tenant_part;
 mod tests;
 
 pub use law::{
-    a_step_has_one_outcome, equal_bytes_are_equal_states, installed_procedures_cannot_go_wrong,
-    requests_have_one_outcome, states_are_bounded, states_are_sound,
+    a_step_exists, a_step_has_one_outcome, equal_bytes_are_equal_states,
+    installed_procedures_cannot_go_wrong, maps_stay_maps, requests_have_one_outcome,
+    states_are_bounded, states_are_sound,
 };
 pub use outcome::Outcome;
 pub use state::State;
