@@ -15,3 +15,4 @@ pub mod Bounds
 pub mod Lengths
 pub mod Bytes
 pub mod Existing
+pub mod Reading

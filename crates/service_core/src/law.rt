@@ -66,12 +66,13 @@ pub fn states_are_bounded()
 {}
 
 /// Each tenant's map stays a tenant's map, of keys and values that are bytes, where each operation that
-/// is asked for is a list of bytes.
+/// is asked for is a list of bytes. A state whose encoding is a list of bytes has such maps.
 pub fn maps_stay_maps()
     ensures first { (config : Configuration) → HasTenantMaps (genesis_of config) }
     ensures next { (state : Service) (request : Option Request) (after : Service) (outcome : Outcome) →
         HasTenantMaps state → IfSome request (λ r. All (λ byte. byte < 256) r.op) →
         IsStep state request after outcome → HasTenantMaps after }
+    ensures read { (state : Service) → IsBounded state → All (λ byte. byte < 256) (encoded state) → HasTenantMaps state }
 {}
 
 /// A step exists, and so the service never stops for want of one: from each state that it reaches, for
