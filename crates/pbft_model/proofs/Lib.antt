@@ -21,6 +21,7 @@ pub mod Origins
 pub mod Holdings
 pub mod Texts
 pub mod Fitting
+pub mod Stepping
 pub mod ByNumber
 pub mod Reactions
 pub mod Telling

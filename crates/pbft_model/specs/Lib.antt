@@ -10,6 +10,7 @@ pub mod Rules
 pub mod Duties
 pub mod Rows
 pub mod Histories
+pub mod Received
 pub mod Agreement
 pub mod Journals
 pub mod Worked

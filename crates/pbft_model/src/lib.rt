@@ -11,11 +11,13 @@ ghost use Rattle.pbft_model.specs.Acts.{Act, Execute, after};
 ghost use Rattle.pbft_model.specs.Agreement.{IsHonest, AgreesByNumber};
 ghost use Rattle.pbft_model.specs.Example.{the_setup, the_family, the_digest};
 ghost use Rattle.pbft_model.specs.Journals.{Journals, IsHonestFamily, Agrees};
-ghost use Rattle.pbft_model.specs.Core.{Core, start_of};
-ghost use Rattle.pbft_model.specs.Duties.{due, NothingBefore};
+ghost use Rattle.pbft_model.specs.Core.{Core, request_of, start_of};
+ghost use Rattle.pbft_model.specs.Duties.{Executing, due, NothingBefore};
+ghost use Rattle.pbft_model.specs.Received.{TakesBytes};
 ghost use Rattle.pbft_model.specs.Rows.{Row, Fulfils, IsLawfulFrom, IsNext, FollowsWithout, RepliesAlone, leaves_in};
 ghost use Rattle.pbft_model.specs.Rules.{Allowed};
-ghost use Rattle.pbft_model.specs.Sequential.{Service, Outcome};
+ghost use Rattle.pbft_model.specs.Sequential.{Service, Outcome, IsStep};
+ghost use Rattle.host_types.specs.Configuration.{IsConfiguration};
 ghost use Rattle.pbft_model.specs.Setup.{signer_after};
 ghost use Rattle.host_types.specs.declared.request.Reply.{Reply};
 ghost use Rattle.pbft_model.specs.Worked.{Works, toy, serving, fresh, through_backup, through_primary, changing_view, joining_view, reaching_a_checkpoint, installing, through_all, IsDiscarded};
@@ -55,6 +57,18 @@ pub fn an_honest_family_executes()
 pub fn what_is_due_is_allowed()
     ensures { (c : Setup) (me : ℕ) (signer : SigningState) (acts : List Act) → IsHistory c me signer acts
         → (a : Act) → Fulfils c (core_after c signer acts) (due c me (core_after c signer acts)) a → Allowed c me (core_after c signer acts) a }
+{}
+
+/// A history never stops for want of a step of the service, where each message that was taken came as a
+/// list of bytes: at each of its points there is one for whatever a digest stands for. So where to
+/// execute is due, an act does it.
+pub fn an_execution_has_a_step()
+    ensures step { (c : Setup) (me : ℕ) (signer : SigningState) → IsConfiguration c.config → (acts : List Act) → IsHistory c me signer acts → TakesBytes acts
+        → (digest : List ℕ) → (service : Service) × (outcome : Outcome)
+        × IsStep (core_after c signer acts).service (request_of c (core_after c signer acts) digest) service outcome }
+    ensures act { (c : Setup) (me : ℕ) (signer : SigningState) → IsConfiguration c.config → (acts : List Act) → IsHistory c me signer acts → TakesBytes acts
+        → (number : ℕ) (digest : List ℕ) → due c me (core_after c signer acts) ≡ Some (Executing number digest)
+        → (a : Act) × Fulfils c (core_after c signer acts) (due c me (core_after c signer acts)) a }
 {}
 
 /// The rows of a lawful journal are a history of acts, each of which was allowed, with the same core.
