@@ -61,7 +61,7 @@ from_takes m (Execute n d t o ∷ acts) (inr h) = from_takes m acts h
 from_takes m (Install n b t ∷ acts) (inl (r, e)) = absurd cc
 from_takes m (Install n b t ∷ acts) (inr h) = from_takes m acts h
 
-abbrev state_in : Act → List Service
+abbrev pub state_in : Act → List Service
 state_in (Take m r) = []
 state_in Timeout = []
 state_in (Send to m) = []
@@ -71,7 +71,7 @@ state_in (Rise n d) = []
 state_in (Execute n d t o) = t ∷ []
 state_in (Install n b t) = []
 
-abbrev states_in : List Act → List Service
+abbrev pub states_in : List Act → List Service
 states_in [] = []
 states_in (a ∷ acts) = state_in a ++ states_in acts
 
@@ -114,7 +114,7 @@ module _ (secrets : ℕ → List ℕ) where
         authentic = subst (λ (ms : List (Signed Body)). AllByRecursion (IsAuthentic c.config) (m ∷ ms)) (sym alone) (authentic, tt);
       }
 
-  request_opened : IsChecked (record { config = c.config; message = as_message bodies.Request (a_request secrets) })
+  pub request_opened : IsChecked (record { config = c.config; message = as_message bodies.Request (a_request secrets) })
   request_opened =
       let m : Signed Body = as_message bodies.Request (a_request secrets) in
       let valid = small_leaf 100 0 (omega arith) (signed_text m) in
@@ -131,17 +131,17 @@ module _ (secrets : ℕ → List ℕ) where
         authentic = (record { key = key_of secrets 100; listed = refl; role = refl; signature = valid }, tt);
       }
 
-  proposal_opened : IsChecked (record { config = c.config; message = message_of secrets 0 0 (a_pre_prepare 0 1 the_digest) })
+  pub proposal_opened : IsChecked (record { config = c.config; message = message_of secrets 0 0 (a_pre_prepare 0 1 the_digest) })
   proposal_opened = opened 0 0 (a_pre_prepare 0 1 the_digest) (omega arith) (omega arith) refl (omega arith) (record { view_in_range = omega arith; digest_in_range = refl }) refl (omega arith) refl
 
-  prepare_opened : (n : ℕ) → n < 4 → slice_get c.config.keys n ≡ Some (key_of secrets n) → IsTrue (may_sign c.config Replica n (a_prepare 0 1 the_digest))
+  pub prepare_opened : (n : ℕ) → n < 4 → slice_get c.config.keys n ≡ Some (key_of secrets n) → IsTrue (may_sign c.config Replica n (a_prepare 0 1 the_digest))
       → IsChecked (record { config = c.config; message = message_of secrets n 0 (a_prepare 0 1 the_digest) })
   prepare_opened n below listed role = opened n 0 (a_prepare 0 1 the_digest) below (omega arith) listed (omega arith) (record { view_in_range = omega arith; digest_in_range = refl }) refl (omega arith) role
 
-  commit_opened : (n : ℕ) → n < 4 → slice_get c.config.keys n ≡ Some (key_of secrets n) → IsChecked (record { config = c.config; message = message_of secrets n 1 (a_commit 0 1 the_digest) })
+  pub commit_opened : (n : ℕ) → n < 4 → slice_get c.config.keys n ≡ Some (key_of secrets n) → IsChecked (record { config = c.config; message = message_of secrets n 1 (a_commit 0 1 the_digest) })
   commit_opened n below listed = opened n 1 (a_commit 0 1 the_digest) below (omega arith) listed (omega arith) (record { view_in_range = omega arith; digest_in_range = refl }) refl (omega arith) refl
 
-  step : IsStep (genesis_of c.config) (Some (request_in (a_request secrets))) (after_request c.config) the_outcome
+  pub step : IsStep (genesis_of c.config) (Some (request_in (a_request secrets))) (after_request c.config) the_outcome
   step = request_serves 1 2 c.config.keys (key_of secrets 100)
 
   -- ---- the histories
@@ -220,7 +220,7 @@ module _ (secrets : ℕ → List ℕ) where
   ]
   real (suc (suc n)) correct m p taken within = absurd taken
 
-  configuration : IsConfiguration c.config
+  pub configuration : IsConfiguration c.config
   configuration = record {
     min_faulty = omega arith;
     max_faulty = omega arith;
@@ -235,13 +235,13 @@ module _ (secrets : ℕ → List ℕ) where
 
   -- ---- what was hashed
 
-  abbrev text : List ℕ
+  abbrev pub text : List ℕ
   text = signed_text (as_message bodies.Request (a_request secrets))
 
-  abbrev bytes : List ℕ
+  abbrev pub bytes : List ℕ
   bytes = encoded (after_request c.config)
 
-  abbrev Known : List ℕ → Type 0
+  abbrev pub Known : List ℕ → Type 0
   Known x = (x ≡ []) ⊎ ((x ≡ text) ⊎ (x ≡ bytes))
 
   other_kind : (m : Signed RequestBody) (x : Signed Body) → as_message bodies.Request m ≡ x → ((b : RequestBody) → bodies.Request b ≡ x.body → ⊥) → ⊥
@@ -296,10 +296,10 @@ module _ (secrets : ℕ → List ℕ) where
   known x (inr (inr (inl (m, (i, correct, taken), is)))) = absurd (no_snapshot i m taken)
   known x (inr (inr (inr (i, number, digest, w, is)))) = inr (inr (is ∙ ap encoded (state_text i number digest w)))
 
-  abbrev hash : List ℕ → List ℕ
+  abbrev pub hash : List ℕ → List ℕ
   hash = first_byte_hash
 
-  apart : (x y : List ℕ) → Known x → Known y → hash x ≡ hash y → x ≡ y
+  pub apart : (x y : List ℕ) → Known x → Known y → hash x ≡ hash y → x ≡ y
   apart x y (inl a) (inl b) e = a ∙ sym b
   apart x y (inl a) (inr (inl b)) e = absurd (different (sym (ap hash a) ∙ e ∙ ap hash b)) where
     different : hash [] ≡ hash text → ⊥

@@ -29,5 +29,6 @@ pub mod OverJournals
 pub mod Leaves
 pub mod Steady
 pub mod Example
+pub mod ExampleRows
 pub mod Later
 pub mod Following

@@ -59,11 +59,16 @@ module _ (c : Setup) (me : ℕ) where
       let w = one_end acts acts' (after c s a) t t' rest e (subst (λ (x : Act). Follows c me (after c s x) acts' t') (sym same) rest') f in
       ((λ i. same i ∷ w.0 i), w.1)
 
+  -- The acts of one input, and one core after them.
+  pub same_acts : (s t t' : Core) (row row' : Row) → row.input ≡ row'.input → (n : IsNext c me s row t) (n' : IsNext c me s row' t') → (n.acts ≡ n'.acts) × (t ≡ t')
+  same_acts s t t' row row' input n n' =
+      let first = one_beginning row.input n.first n'.first n.begins (subst (λ (i : Input). Begins c i n'.first) (sym input) n'.begins) in
+      one_end n.acts n'.acts (after c s n.first) t t' n.reacts.follows n.reacts.rests (subst (λ (x : Act). Follows c me (after c s x) n'.acts t') (sym first) n'.reacts.follows) n'.reacts.rests
+
   -- One row, and one core after it.
   pub one_row : (s t t' : Core) (row row' : Row) → row.input ≡ row'.input → IsNext c me s row t → IsNext c me s row' t' → (row ≡ row') × (t ≡ t')
   one_row s t t' row row' input n n' =
-      let first = one_beginning row.input n.first n'.first n.begins (subst (λ (i : Input). Begins c i n'.first) (sym input) n'.begins) in
-      let w = one_end n.acts n'.acts (after c s n.first) t t' n.reacts.follows n.reacts.rests (subst (λ (x : Act). Follows c me (after c s x) n'.acts t') (sym first) n'.reacts.follows) n'.reacts.rests in
+      let w = same_acts s t t' row row' input n n' in
       let outputs = n.outputs ∙ ap all_outputs w.0 ∙ sym n'.outputs in
       let done = n.done ∙ ap (all_done c) w.0 ∙ sym n'.done in
       let leaves = n.leaves ∙ ap all_leaves w.0 ∙ sym n'.leaves in

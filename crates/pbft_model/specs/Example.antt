@@ -1,14 +1,16 @@
--- Statement: an honest family of histories in which a correct replica executes a client's request. With it agreement is
--- no statement about nothing.
-use Rattle.std.specs.Prelude.{ℕ, zero, suc, ◌==◌, List, [], ◌∷◌, replicate, None}
+-- Statement: an honest family of histories, and one of journals, in which a correct replica executes a client's request.
+-- With them agreement is no statement about nothing.
+use Rattle.std.specs.Prelude.{ℕ, zero, suc, ◌==◌, List, [], ◌∷◌, map, replicate, None}
 use Rattle.lms_tree.specs.declared.height.Height.TheVariants.{H5}
 use Rattle.lms_tree.specs.Signature.{public_key_of}
 use Rattle.pbft_model.specs.Words.{SigningState, Signed, Body, RequestBody, Client, as_message, sealed_message}
 use Rattle.pbft_codec.specs.declared.body.Body.TheVariants as bodies
 use Rattle.pbft_model.specs.Setup.{Setup}
-use Rattle.pbft_model.specs.Acts.{Act, Take, Send, Execute, All}
+use Rattle.pbft_model.specs.Acts.{Act, Take, Send, Execute, All, ToClient}
+use Rattle.pbft_model.specs.Rows.{Row, Received, all_outputs, all_done, all_leaves}
 use Rattle.pbft_model.specs.Histories.{Family}
-use Rattle.pbft_model.specs.Worked.{the_client, the_request, the_outcome, after_request, fresh, own, a_pre_prepare, a_prepare, a_commit}
+use Rattle.pbft_model.specs.Journals.{Journals}
+use Rattle.pbft_model.specs.Worked.{the_client, the_request, the_outcome, after_request, fresh, own, a_pre_prepare, a_prepare, a_commit, reply_in_view_0}
 
 -- f = 1, one client, and a hash that tells nothing, a request's bytes and a state's bytes apart by what they begin with.
 -- Whatever secrets the signers have, the keys are theirs.
@@ -79,3 +81,53 @@ acts_by secrets (suc (suc n)) = []
 
 abbrev pub the_family : (ℕ → List ℕ) → Family
 the_family secrets = record { faulty = λ i. i == 3; signer = signer_of secrets; acts = acts_by secrets }
+
+-- ---- the same in journals: each message that is received, and all that it makes a replica do
+
+abbrev pub Reaction : Type 0
+Reaction = Signed Body × List Act
+
+abbrev pub row_of : Setup → Reaction → Row
+row_of c reaction = record {
+  input = Received reaction.0;
+  outputs = all_outputs reaction.1;
+  done = all_done c reaction.1;
+  leaves = all_leaves reaction.1;
+}
+
+abbrev pub rows_of : Setup → List Reaction → List Row
+rows_of c reactions = map (row_of c) reactions
+
+-- The primary proposes the request as it comes, and commits to it with the second Prepare.
+abbrev pub reactions_of_primary : (ℕ → List ℕ) → List Reaction
+reactions_of_primary secrets =
+    (as_message bodies.Request (a_request secrets), Send All (message_of secrets 0 0 (a_pre_prepare 0 1 the_digest)) ∷ [])
+    ∷ (message_of secrets 1 0 (a_prepare 0 1 the_digest), [])
+    ∷ (message_of secrets 3 0 (a_prepare 0 1 the_digest), Send All (message_of secrets 0 1 (a_commit 0 1 the_digest)) ∷ [])
+    ∷ []
+
+-- Replica 1 prepares it with the proposal and commits to it with another's Prepare; with the second Commit of another it
+-- executes it, and replies to the client.
+abbrev pub reactions_of_backup : (ℕ → List ℕ) → List Reaction
+reactions_of_backup secrets =
+    (as_message bodies.Request (a_request secrets), [])
+    ∷ (message_of secrets 0 0 (a_pre_prepare 0 1 the_digest), Send All (message_of secrets 1 0 (a_prepare 0 1 the_digest)) ∷ [])
+    ∷ (message_of secrets 3 0 (a_prepare 0 1 the_digest), Send All (message_of secrets 1 1 (a_commit 0 1 the_digest)) ∷ [])
+    ∷ (message_of secrets 0 1 (a_commit 0 1 the_digest), [])
+    ∷ (
+      message_of secrets 3 1 (a_commit 0 1 the_digest),
+      Execute 1 the_digest (after_request (the_setup secrets).config) the_outcome
+          ∷ Send (ToClient 100) (message_of secrets 1 2 reply_in_view_0)
+          ∷ [],
+    )
+    ∷ []
+
+-- Replica 2 gets nothing, and 3 is faulty.
+abbrev pub reactions_by : (ℕ → List ℕ) → ℕ → List Reaction
+reactions_by secrets zero = reactions_of_primary secrets
+reactions_by secrets (suc zero) = reactions_of_backup secrets
+reactions_by secrets (suc (suc n)) = []
+
+abbrev pub the_journals : (ℕ → List ℕ) → Journals
+the_journals secrets =
+    record { faulty = λ i. i == 3; signer = signer_of secrets; rows = λ i. rows_of (the_setup secrets) (reactions_by secrets i) }

@@ -9,18 +9,19 @@ ghost use Rattle.std.specs.List.{AllByRecursion};
 ghost use Rattle.lms_tree.specs.SigningState.{SigningState};
 ghost use Rattle.pbft_model.specs.Acts.{Act, Execute, after};
 ghost use Rattle.pbft_model.specs.Agreement.{IsHonest, AgreesByNumber};
-ghost use Rattle.pbft_model.specs.Example.{the_setup, the_family, the_digest};
-ghost use Rattle.pbft_model.specs.Journals.{Journals, IsHonestFamily, Agrees};
+ghost use Rattle.pbft_model.specs.Example.{the_setup, the_family, the_journals, the_digest, message_of};
+ghost use Rattle.pbft_model.specs.Journals.{Journals, HasDone, HasGiven, IsHonestFamily, Agrees};
 ghost use Rattle.pbft_model.specs.Core.{Core, request_of, start_of};
 ghost use Rattle.pbft_model.specs.Duties.{Executing, due, NothingBefore};
 ghost use Rattle.pbft_model.specs.Received.{TakesBytes};
-ghost use Rattle.pbft_model.specs.Rows.{Row, Fulfils, IsLawfulFrom, IsNext, FollowsWithout, RepliesAlone, leaves_in};
+ghost use Rattle.pbft_model.specs.Rows.{Row, Executed, Fulfils, IsLawfulFrom, IsNext, FollowsWithout, RepliesAlone, leaves_in};
 ghost use Rattle.pbft_model.specs.Rules.{Allowed};
 ghost use Rattle.pbft_model.specs.Sequential.{Service, Outcome, IsStep};
 ghost use Rattle.host_types.specs.Configuration.{IsConfiguration};
 ghost use Rattle.pbft_model.specs.Setup.{signer_after};
+ghost use Rattle.pbft_model.specs.Words.{part_of};
 ghost use Rattle.host_types.specs.declared.request.Reply.{Reply};
-ghost use Rattle.pbft_model.specs.Worked.{Works, toy, serving, fresh, through_backup, through_primary, changing_view, joining_view, reaching_a_checkpoint, installing, through_all, IsDiscarded};
+ghost use Rattle.pbft_model.specs.Worked.{Works, reply_in_view_0, toy, serving, fresh, through_backup, through_primary, changing_view, joining_view, reaching_a_checkpoint, installing, through_all, IsDiscarded};
 ghost use Rattle.pbft_model.specs.Histories.{Family, IsCorrect, IsUnforged, IsSteady, HasCommitted, HasExecuted, AgreesByView, ExecutesAlike, IsHistory, core_after};
 
 /// Agreement by view: where nobody forges, no two digests are committed at one number, whatever
@@ -51,6 +52,15 @@ pub fn agreement()
 pub fn an_honest_family_executes()
     ensures honest { (secrets : ℕ → List ℕ) → IsHonest (the_setup secrets) (the_family secrets) }
     ensures executes { (secrets : ℕ → List ℕ) → HasExecuted (the_setup secrets) (the_family secrets) 1 1 the_digest }
+{}
+
+/// An honest family of journals exists in which a correct replica executes a client's request and
+/// replies to it, whatever the signers' secrets are: agreement's one premise can hold.
+pub fn honest_journals_execute()
+    ensures honest { (secrets : ℕ → List ℕ) → IsHonestFamily (the_setup secrets) (the_journals secrets) }
+    ensures executes { (secrets : ℕ → List ℕ) → IsCorrect (the_setup secrets) (the_journals secrets).faulty 1
+        × HasDone (Executed 1 the_digest (1 ∷ [])) ((the_journals secrets).rows 1) }
+    ensures replies { (secrets : ℕ → List ℕ) → HasGiven (part_of (message_of secrets 1 2 reply_in_view_0)) ((the_journals secrets).rows 1) }
 {}
 
 /// What is due is allowed: whatever act does the duty, at each point of a history.
