@@ -1,8 +1,9 @@
 -- Where the messages taken are lists of bytes, the service has a step for each request that a digest stands for.
-use Rattle.std.proofs.Common.{◌≡◌, ℕ, ◌<◌, Bool, true, false, cond, IsTrue, List, [], ◌∷◌, ◌++◌, length, Option, Some, None, refl, sym, subst, ◌∙◌, inr}
+use Rattle.std.proofs.Common.{◌≡◌, ℕ, ◌+◌, ◌<◌, ◌≤◌, arith, inl, Bool, true, false, cond, IsTrue, List, [], ◌∷◌, ◌++◌, length, Option, Some, None, refl, sym, subst, ◌∙◌, inr}
 use Rattle.std.specs.Prelude.{IfSome, IsSome, All, bytes_eq}
 use Rattle.std.specs.Option.{option_map}
 use Rattle.std.specs.Int.{w32, w64, to_be_bytes}
+use Rattle.std.proofs.lemmas.Bool.{cases_lt}
 use Rattle.std.proofs.lemmas.List.Elements.{All-tail}
 use Rattle.host_types.specs.declared.config.ClientEntry.{ClientEntry}
 use Rattle.host_types.specs.Configuration.{entry_of}
@@ -13,13 +14,13 @@ use Rattle.service_core.specs.Asked.{CanAsk, HasTenantMaps}
 use Rattle.service_core.proofs.Existing.{genesis_maps, step_maps, step_exists}
 use Rattle.service_core.proofs.Reading.{left_bytes, right_bytes, read_maps}
 use Rattle.seal.specs.Signers.{key_of, may_sign}
-use Rattle.pbft_model.specs.Words.{SigningState, Signed, Body, Role, Replica, Client, RequestBody, Snapshot, Request, Configuration, IsConfiguration, IsChecked, as_message}
+use Rattle.pbft_model.specs.Words.{SigningState, leaf_count, Signed, Body, Role, Replica, Client, RequestBody, Snapshot, Request, Configuration, IsConfiguration, IsChecked, as_message}
 use Rattle.pbft_model.specs.Sequential.{Service, Outcome, IsStep}
 use Rattle.pbft_model.specs.Setup.{Setup, null_digest, request_in}
 use Rattle.pbft_model.specs.Core.{held_with, is_named, request_of}
 use Rattle.pbft_model.specs.Acts.{Act, Take, Timeout, Send, Relay, Enter, Rise, Execute, Install, after}
-use Rattle.pbft_model.specs.Duties.{Duty, Executing, due}
-use Rattle.pbft_model.specs.Rows.{Fulfils}
+use Rattle.pbft_model.specs.Duties.{Duty, Do, Executing, WornOut, due}
+use Rattle.pbft_model.specs.Rows.{Fulfils, Lacks, Exhausted, Worn, leaves_for, GoesOn}
 use Rattle.pbft_model.specs.Rules.{Allowed}
 use Rattle.pbft_model.specs.Histories.{core_after, IsHistory, HasTaken, IsIn}
 use Rattle.pbft_model.specs.Received.{TakesBytes}
@@ -127,3 +128,18 @@ module _ (c : Setup) (me : ℕ) (signer : SigningState) (configuration : IsConfi
       let w = service_steps acts is bytes digest in
       let a : Act = Execute number digest w.0 w.1 in
       (a, subst (λ (d : Option Duty). Fulfils c s d a) (sym e) (w.0, w.1, w.2, refl))
+
+  -- ---- what is due is done, or halts the replica
+
+  pub goes_on : (acts : List Act) → IsHistory c me signer acts → TakesBytes acts → (let s = core_after c signer acts in s.signer.next_leaf ≤ leaf_count s.signer) → GoesOn c me (core_after c signer acts)
+  goes_on acts is bytes spare = cases (due c me (core_after c signer acts)) refl where
+    cases : (d : Option Duty) → due c me (core_after c signer acts) ≡ d → GoesOn c me (core_after c signer acts)
+    cases None e = inl e
+    cases (Some (Do a)) e = elim (cases_lt (leaf_count (core_after c signer acts).signer) ((core_after c signer acts).signer.next_leaf + leaves_for a)) [
+      | inl few ↦ inr (inr (Exhausted, subst (λ (d : Option Duty). Lacks (core_after c signer acts) d Exhausted) (sym e) few))
+      | inr enough ↦ inr (inl (a, subst (λ (d : Option Duty). Fulfils c (core_after c signer acts) d a) (sym e) refl, enough))
+    ]
+    cases (Some (Executing n d)) e =
+        let w = service_steps acts is bytes d in
+        inr (inl (Execute n d w.0 w.1, subst (λ (x : Option Duty). Fulfils c (core_after c signer acts) x (Execute n d w.0 w.1)) (sym e) (w.0, w.1, w.2, refl), omega (arith, spare)))
+    cases (Some WornOut) e = inr (inr (Worn, subst (λ (d : Option Duty). Lacks (core_after c signer acts) d Worn) (sym e) tt))

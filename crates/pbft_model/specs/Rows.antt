@@ -1,6 +1,6 @@
 -- Statement: a row is what one message or one timeout makes a replica do, up to where nothing is due; a journal
 -- is a list of rows.
-use Rattle.std.specs.Prelude.{◌≡◌, ℕ, ◌+◌, ◌%◌, ◌==◌, ◌<◌, ◌≤◌, Bool, true, false, List, [], ◌∷◌, ◌++◌, Option, Some, None}
+use Rattle.std.specs.Prelude.{◌≡◌, ◌⊎◌, ℕ, ◌+◌, ◌%◌, ◌==◌, ◌<◌, ◌≤◌, Bool, true, false, List, [], ◌∷◌, ◌++◌, Option, Some, None}
 use Rattle.pbft_model.specs.Words.{SigningState, leaf_count, IsKeyOf, Signed, Body, Replica, Reply}
 use Rattle.seal.specs.Signers.{key_of}
 use Rattle.pbft_model.specs.Sequential.{Service, Outcome, IsStep}
@@ -146,6 +146,13 @@ Lacks s None halt = ⊥
 Lacks s (Some WornOut) Exhausted = ⊥
 Lacks s (Some (Do a)) Worn = ⊥
 Lacks s (Some (Executing number digest)) halt = ⊥
+
+-- Nothing is due; or an act does what is due, and has its leaves; or what is due halts the replica.
+abbrev pub GoesOn : Setup → ℕ → Core → Type 0
+GoesOn c me s =
+    (due c me s ≡ None)
+    ⊎ (((a : Act) × Fulfils c s (due c me s) a × HasLeaves s a)
+    ⊎ ((halt : Halt) × Lacks s (due c me s) halt))
 
 -- An input halts the replica: what it leads to wants what is not there.
 pub record HaltsBy (c : Setup) (me : ℕ) (s : Core) (input : Input) (halt : Halt) : Type 0 where

@@ -4,7 +4,7 @@
 #![tactic(auto)]
 
 ghost use Rattle.pbft_model.specs.Setup.{Setup};
-ghost use Rattle.std.specs.Prelude.{◌≡◌, ℕ, List, [], ◌∷◌, ◌++◌, Some, None, true};
+ghost use Rattle.std.specs.Prelude.{◌≡◌, ◌≤◌, ℕ, List, [], ◌∷◌, ◌++◌, Some, None, true};
 ghost use Rattle.std.specs.List.{AllByRecursion};
 ghost use Rattle.lms_tree.specs.SigningState.{SigningState};
 ghost use Rattle.pbft_model.specs.Acts.{Act, Execute, after};
@@ -14,12 +14,12 @@ ghost use Rattle.pbft_model.specs.Journals.{Journals, HasDone, HasGiven, IsHones
 ghost use Rattle.pbft_model.specs.Core.{Core, request_of, start_of};
 ghost use Rattle.pbft_model.specs.Duties.{Executing, due, NothingBefore};
 ghost use Rattle.pbft_model.specs.Received.{TakesBytes};
-ghost use Rattle.pbft_model.specs.Rows.{Row, Executed, Fulfils, IsLawfulFrom, IsNext, FollowsWithout, RepliesAlone, leaves_in};
+ghost use Rattle.pbft_model.specs.Rows.{Row, Executed, Fulfils, GoesOn, IsLawfulFrom, IsNext, FollowsWithout, RepliesAlone, leaves_in};
 ghost use Rattle.pbft_model.specs.Rules.{Allowed};
 ghost use Rattle.pbft_model.specs.Sequential.{Service, Outcome, IsStep};
 ghost use Rattle.host_types.specs.Configuration.{IsConfiguration};
 ghost use Rattle.pbft_model.specs.Setup.{signer_after};
-ghost use Rattle.pbft_model.specs.Words.{part_of};
+ghost use Rattle.pbft_model.specs.Words.{leaf_count, part_of};
 ghost use Rattle.host_types.specs.declared.request.Reply.{Reply};
 ghost use Rattle.pbft_model.specs.Worked.{Works, reply_in_view_0, toy, serving, fresh, through_backup, through_primary, changing_view, joining_view, reaching_a_checkpoint, installing, through_all, IsDiscarded};
 ghost use Rattle.pbft_model.specs.Histories.{Family, IsCorrect, IsUnforged, IsSteady, HasCommitted, HasExecuted, AgreesByView, ExecutesAlike, IsHistory, core_after};
@@ -79,6 +79,13 @@ pub fn an_execution_has_a_step()
     ensures act { (c : Setup) (me : ℕ) (signer : SigningState) → IsConfiguration c.config → (acts : List Act) → IsHistory c me signer acts → TakesBytes acts
         → (number : ℕ) (digest : List ℕ) → due c me (core_after c signer acts) ≡ Some (Executing number digest)
         → (a : Act) × Fulfils c (core_after c signer acts) (due c me (core_after c signer acts)) a }
+{}
+
+/// No duty is stuck: at each point of a history in which messages came as lists of bytes, and whose signer
+/// is not past its last leaf, nothing is due, or an act does what is due, or it halts the replica.
+pub fn a_duty_is_done_or_halts()
+    ensures { (c : Setup) (me : ℕ) (signer : SigningState) → IsConfiguration c.config → (acts : List Act) → IsHistory c me signer acts → TakesBytes acts
+        → (core_after c signer acts).signer.next_leaf ≤ leaf_count (core_after c signer acts).signer → GoesOn c me (core_after c signer acts) }
 {}
 
 /// The rows of a lawful journal are a history of acts, each of which was allowed, with the same core.
