@@ -46,7 +46,7 @@ recorded_signer c s m (bodies.NewView b) = refl
 recorded_signer c s m (bodies.Fetch b) = refl
 recorded_signer c s m (bodies.Snapshot b) = refl
 
-signer_by : (c : Setup) (s : Core) (a : Act) → (after c s a).signer ≡ signer_after s.signer (leaves_for a)
+pub signer_by : (c : Setup) (s : Core) (a : Act) → (after c s a).signer ≡ signer_after s.signer (leaves_for a)
 signer_by c s (Take m r) = recorded_signer c s m m.body ∙ none_taken s.signer
 signer_by c s Timeout = none_taken s.signer
 signer_by c s (Send to m) = ap (λ (x : SigningState). signer_after x (leaves_of m.body)) (said_signer c s m m.body)
@@ -61,7 +61,7 @@ signer_follows c me [] s t same = ap (λ (x : Core). x.signer) same ∙ none_tak
 signer_follows c me (a ∷ acts) s t (does, leaves, rest) =
     signer_follows c me acts (after c s a) t rest ∙ ap (λ (x : SigningState). signer_after x (all_leaves acts)) (signer_by c s a) ∙ taken_twice s.signer (leaves_for a) (all_leaves acts)
 
-signer_begins : (c : Setup) (s : Core) (input : Input) (a : Act) → Begins c input a → (after c s a).signer ≡ s.signer
+pub signer_begins : (c : Setup) (s : Core) (input : Input) (a : Act) → Begins c input a → (after c s a).signer ≡ s.signer
 signer_begins c s (Received m) a (reading, may, is) = ap (λ (x : Act). (after c s x).signer) is ∙ recorded_signer c s m m.body
 signer_begins c s TimedOut a is = ap (λ (x : Act). (after c s x).signer) is
 

@@ -17,17 +17,20 @@ use Rattle.seal.specs.Signers.{key_of, may_sign}
 use Rattle.pbft_model.specs.Words.{SigningState, leaf_count, Signed, Body, Role, Replica, Client, RequestBody, Snapshot, Request, Configuration, IsConfiguration, IsChecked, as_message}
 use Rattle.pbft_model.specs.Sequential.{Service, Outcome, IsStep}
 use Rattle.pbft_model.specs.Setup.{Setup, null_digest, request_in}
-use Rattle.pbft_model.specs.Core.{held_with, is_named, request_of}
+use Rattle.pbft_model.specs.Core.{Core, start_of, held_with, is_named, request_of}
 use Rattle.pbft_model.specs.Acts.{Act, Take, Timeout, Send, Relay, Enter, Rise, Execute, Install, after}
 use Rattle.pbft_model.specs.Duties.{Duty, Do, Executing, WornOut, due}
-use Rattle.pbft_model.specs.Rows.{Fulfils, Lacks, Exhausted, Worn, leaves_for, GoesOn}
+use Rattle.pbft_model.specs.Rows.{Row, Input, Fulfils, Follows, Begins, IsLawfulFrom, Lacks, Exhausted, Worn, leaves_for, GoesOn}
 use Rattle.pbft_model.specs.Rules.{Allowed}
 use Rattle.pbft_model.specs.Histories.{core_after, IsHistory, HasTaken, IsIn}
-use Rattle.pbft_model.specs.Received.{TakesBytes}
+use Rattle.pbft_model.specs.Received.{TakesBytes, ReceivesBytes}
 use Rattle.pbft_model.proofs.Events.{now}
 use Rattle.pbft_model.proofs.Origins.{recorded_keeps, said_keeps, left_keeps}
 use Rattle.pbft_model.proofs.Holdings.{from_find, just_taken, held_taken}
 use Rattle.pbft_model.proofs.Fitting.{held_opened, fits_at}
+use Rattle.pbft_model.proofs.Rowed.{begun}
+use Rattle.pbft_model.proofs.Leaves.{signer_by, signer_begins}
+use Rattle.pbft_model.proofs.Telling.{pushed, taken_before, acts_from, core_from, history_from, core_follows, history_follows, reactions, begins_take, taken_from}
 
 abbrev AreBytes : List ℕ → Type 0
 AreBytes bytes = All (λ byte. byte < 256) bytes
@@ -143,3 +146,57 @@ module _ (c : Setup) (me : ℕ) (signer : SigningState) (configuration : IsConfi
         let w = service_steps acts is bytes d in
         inr (inl (Execute n d w.0 w.1, subst (λ (x : Option Duty). Fulfils c (core_after c signer acts) x (Execute n d w.0 w.1)) (sym e) (w.0, w.1, w.2, refl), omega (arith, spare)))
     cases (Some WornOut) e = inr (inr (Worn, subst (λ (d : Option Duty). Lacks (core_after c signer acts) d Worn) (sym e) tt))
+
+  -- ---- and so in a row that an input begins behind those of a journal
+
+  abbrev Spares : SigningState → Type 0
+  Spares x = x.next_leaf ≤ leaf_count x
+
+  spares_follows : (acts : List Act) (s t : Core) → Spares s.signer → Follows c me s acts t → Spares t.signer
+  spares_follows [] s t spare same = subst (λ (x : Core). Spares x.signer) (sym same) spare
+  spares_follows (a ∷ acts) s t spare (does, leaves, rest) = spares_follows acts (after c s a) t (subst Spares (sym (signer_by c s a)) leaves) rest
+
+  spares_begins : (s : Core) (input : Input) (first : Act) → Begins c input first → Spares s.signer → Spares (after c s first).signer
+  spares_begins s input first begins spare = subst Spares (sym (signer_begins c s input first begins)) spare
+
+  spares_rows : (rows : List Row) (s t : Core) → Spares s.signer → IsLawfulFrom c me s rows t → Spares t.signer
+  spares_rows [] s t spare same = subst (λ (x : Core). Spares x.signer) (sym same) spare
+  spares_rows (row ∷ rows) s t spare (u, next, rest) =
+      spares_rows rows u t (spares_follows next.acts (after c s next.first) u (spares_begins s row.input next.first next.begins spare) next.reacts.follows) rest
+
+  pub row_goes_on : Spares signer → (rows : List Row) (s : Core) → IsLawfulFrom c me (start_of c signer) rows s → (input : Input) → ReceivesBytes rows input
+      → (first : Act) → Begins c input first → (acts : List Act) (t : Core) → Follows c me (after c s first) acts t → GoesOn c me t
+  row_goes_on spare rows s lawful input bytes first begins acts t follows =
+      subst (GoesOn c me) comes (goes_on all is given (subst (λ (x : Core). Spares x.signer) (sym comes) last)) where
+        early : List Act
+        early = acts_from c me signer [] rows (start_of c signer) s lawful
+
+        begun_there : core_after c signer early ≡ s
+        begun_there = core_from c me signer [] rows (start_of c signer) s lawful refl
+
+        is_early : IsHistory c me signer early
+        is_early = history_from c me signer [] rows (start_of c signer) s lawful refl tt
+
+        follows_early : Follows c me (core_after c signer (first ∷ early)) acts t
+        follows_early = subst (λ (x : Core). Follows c me (after c x first) acts t) (sym begun_there) follows
+
+        all : List Act
+        all = pushed acts (first ∷ early)
+
+        is : IsHistory c me signer all
+        is = history_follows c me signer acts (first ∷ early) t (is_early, begun c me signer (core_after c signer early) input first begins) follows_early
+
+        comes : core_after c signer all ≡ t
+        comes = core_follows c me signer acts (first ∷ early) t follows_early
+
+        given : TakesBytes all
+        given m taken = elim (taken_before m acts (first ∷ early) (reactions c me signer acts (after c s first) t follows) taken) [
+          | inl (r, e) ↦ bytes m (inr (begins_take c me signer input m r first begins e))
+          | inr older ↦ elim (taken_from c me signer m [] rows (start_of c signer) s lawful older) [
+            | inl none ↦ absurd none
+            | inr received ↦ bytes m (inl received)
+          ]
+        ]
+
+        last : Spares t.signer
+        last = spares_follows acts (after c s first) t (spares_begins s input first begins (spares_rows rows (start_of c signer) s spare lawful)) follows

@@ -49,7 +49,7 @@ from_pushed b before (a ∷ acts) early h = elim (from_pushed b before acts (a �
   head : (b a : Act) (xs ys : List Act) → b ∷ xs ≡ a ∷ ys → b ≡ a
   head b a xs ys e = cc
 
-taken_before : (m : Signed Body) (acts early : List Act) → AllByRecursion IsReaction acts → HasTaken m (pushed acts early) → HasTaken m early
+pub taken_before : (m : Signed Body) (acts early : List Act) → AllByRecursion IsReaction acts → HasTaken m (pushed acts early) → HasTaken m early
 taken_before m [] early all h = h
 taken_before m (a ∷ acts) early all h = elim (taken_before m acts (a ∷ early) all.1 h) [
   | inl (r, e) ↦ absurd (subst IsReaction e all.0)
@@ -79,15 +79,15 @@ module _ (c : Setup) (me : ℕ) (signer : SigningState) where
 
   -- ---- they are a history, which ends in the core after the rows
 
-  core_follows : (acts early : List Act) (t : Core) → Follows c me (core_after c signer early) acts t → core_after c signer (pushed acts early) ≡ t
+  pub core_follows : (acts early : List Act) (t : Core) → Follows c me (core_after c signer early) acts t → core_after c signer (pushed acts early) ≡ t
   core_follows [] early t same = sym same
   core_follows (a ∷ acts) early t (does, leaves, rest) = core_follows acts (a ∷ early) t rest
 
-  history_follows : (acts early : List Act) (t : Core) → IsHistory c me signer early → Follows c me (core_after c signer early) acts t → IsHistory c me signer (pushed acts early)
+  pub history_follows : (acts early : List Act) (t : Core) → IsHistory c me signer early → Follows c me (core_after c signer early) acts t → IsHistory c me signer (pushed acts early)
   history_follows [] early t is same = is
   history_follows (a ∷ acts) early t is (does, leaves, rest) = history_follows acts (a ∷ early) t (is, due_allowed c me signer early is a does) rest
 
-  reactions : (acts : List Act) (s t : Core) → Follows c me s acts t → AllByRecursion IsReaction acts
+  pub reactions : (acts : List Act) (s t : Core) → Follows c me s acts t → AllByRecursion IsReaction acts
   reactions [] s t same = tt
   reactions (a ∷ acts) s t (does, leaves, rest) = (is_reaction c me s a does, reactions acts (after c s a) t rest)
 
@@ -112,7 +112,7 @@ module _ (c : Setup) (me : ℕ) (signer : SigningState) where
 
   -- ---- what was taken was received
 
-  begins_take : (input : Input) (m : Signed Body) (r : Option Service) (a : Act) → Begins c input a → a ≡ Take m r → input ≡ Received m
+  pub begins_take : (input : Input) (m : Signed Body) (r : Option Service) (a : Act) → Begins c input a → a ≡ Take m r → input ≡ Received m
   begins_take (Received m') m r a (reading, may, is) e = let both : Take m' reading ≡ Take m r = sym is ∙ e in let same : m' ≡ m = taken_same m' m reading r both in ap Received same where
     taken_same : (m' m : Signed Body) (q r : Option Service) → Take m' q ≡ Take m r → m' ≡ m
     taken_same m' m q r e = cc

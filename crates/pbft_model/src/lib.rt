@@ -13,8 +13,8 @@ ghost use Rattle.pbft_model.specs.Example.{the_setup, the_family, the_journals, 
 ghost use Rattle.pbft_model.specs.Journals.{Journals, HasDone, HasGiven, IsHonestFamily, Agrees};
 ghost use Rattle.pbft_model.specs.Core.{Core, request_of, start_of};
 ghost use Rattle.pbft_model.specs.Duties.{Executing, due, NothingBefore};
-ghost use Rattle.pbft_model.specs.Received.{TakesBytes};
-ghost use Rattle.pbft_model.specs.Rows.{Row, Executed, Fulfils, GoesOn, IsLawfulFrom, IsNext, FollowsWithout, RepliesAlone, leaves_in};
+ghost use Rattle.pbft_model.specs.Received.{TakesBytes, ReceivesBytes};
+ghost use Rattle.pbft_model.specs.Rows.{Row, Input, Begins, Follows, Executed, Fulfils, GoesOn, IsLawfulFrom, IsNext, FollowsWithout, RepliesAlone, leaves_in};
 ghost use Rattle.pbft_model.specs.Rules.{Allowed};
 ghost use Rattle.pbft_model.specs.Sequential.{Service, Outcome, IsStep};
 ghost use Rattle.host_types.specs.Configuration.{IsConfiguration};
@@ -82,10 +82,14 @@ pub fn an_execution_has_a_step()
 {}
 
 /// No duty is stuck: at each point of a history in which messages came as lists of bytes, and whose signer
-/// is not past its last leaf, nothing is due, or an act does what is due, or it halts the replica.
+/// is not past its last leaf, nothing is due, or an act does what is due, or it halts the replica. So it
+/// is at each point of what an input leads to behind the rows of a journal.
 pub fn a_duty_is_done_or_halts()
-    ensures { (c : Setup) (me : ℕ) (signer : SigningState) → IsConfiguration c.config → (acts : List Act) → IsHistory c me signer acts → TakesBytes acts
+    ensures acts { (c : Setup) (me : ℕ) (signer : SigningState) → IsConfiguration c.config → (acts : List Act) → IsHistory c me signer acts → TakesBytes acts
         → (core_after c signer acts).signer.next_leaf ≤ leaf_count (core_after c signer acts).signer → GoesOn c me (core_after c signer acts) }
+    ensures rows { (c : Setup) (me : ℕ) (signer : SigningState) → IsConfiguration c.config → signer.next_leaf ≤ leaf_count signer
+        → (rows : List Row) (s : Core) → IsLawfulFrom c me (start_of c signer) rows s → (input : Input) → ReceivesBytes rows input
+        → (first : Act) → Begins c input first → (acts : List Act) (t : Core) → Follows c me (after c s first) acts t → GoesOn c me t }
 {}
 
 /// The rows of a lawful journal are a history of acts, each of which was allowed, with the same core.
