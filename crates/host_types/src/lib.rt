@@ -10,8 +10,6 @@ mod bytes;
 mod config;
 mod replica_set;
 mod request;
-#[cfg(test)]
-mod tests;
 
 pub use bytes::Bytes;
 pub use config::{ClientEntry, Config, ConfigFault};

@@ -20,6 +20,4 @@ mod height;
 mod nodes;
 mod signature;
 mod signer;
-#[cfg(test)]
-mod tests;
 mod validity;

@@ -41,6 +41,3 @@ pub use sender::Sender;
 pub use sequence::Sequence;
 pub use signed::{Role, Signed};
 pub use try_clone::TryClone;
-
-#[cfg(test)]
-mod tests;

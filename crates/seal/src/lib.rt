@@ -13,8 +13,6 @@ mod nested_messages;
 mod opening;
 mod part;
 mod sealing;
-#[cfg(test)]
-mod tests;
 mod verify_parts;
 
 pub use checked::Checked;

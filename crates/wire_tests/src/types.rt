@@ -1,4 +1,9 @@
-use super::*;
+//! Configurations and their first fault, sets of replicas, lists of bytes.
+
+use crate::is_named;
+use host_types::{
+    Bytes, ClientEntry, ClientId, Config, ConfigFault, ReplicaId, ReplicaSet, TenantId, View,
+};
 use std::alloc::{AllocError, Global};
 use std::process::Abort;
 use std::test::Fail;
@@ -36,7 +41,18 @@ fn fault_of(
     Ok(Config::new(f, k, keys(alloc, key_count)?, clients(alloc, pairs)?).err())
 }
 
-static NINE_TENANTS: [(u32, u32); 9] = [
+const EIGHT_TENANTS: [(u32, u32); 8] = [
+    (16, 1),
+    (17, 2),
+    (18, 3),
+    (19, 4),
+    (20, 5),
+    (21, 6),
+    (22, 7),
+    (23, 8),
+];
+
+const NINE_TENANTS: [(u32, u32); 9] = [
     (16, 1),
     (17, 2),
     (18, 3),
@@ -48,52 +64,48 @@ static NINE_TENANTS: [(u32, u32); 9] = [
     (24, 9),
 ];
 
+// f, k, the number of replicas' keys, the clients' ids and tenants, and the fault.
+type Row = (u8, u8, u8, &'static [(u32, u32)], Option<ConfigFault>);
+
+const ROWS: [Row; 15] = [
+    (1, 8, 4, &[(100, 1)], None),
+    (3, 1, 10, &[], None),
+    (1, 8, 4, &EIGHT_TENANTS, None),
+    (4, 8, 13, &[(100, 1)], Some(ConfigFault::BadF)),
+    (0, 8, 1, &[(100, 1)], Some(ConfigFault::BadF)),
+    (4, 0, 3, &[(100, 1)], Some(ConfigFault::BadF)),
+    (1, 8, 3, &[(100, 1)], Some(ConfigFault::WrongReplicaCount)),
+    (1, 0, 3, &[(100, 1)], Some(ConfigFault::WrongReplicaCount)),
+    (1, 0, 4, &[(100, 1)], Some(ConfigFault::BadInterval)),
+    (1, 9, 4, &[(100, 1)], Some(ConfigFault::BadInterval)),
+    (1, 0, 4, &[(15, 1)], Some(ConfigFault::BadInterval)),
+    (1, 8, 4, &[(15, 1)], Some(ConfigFault::TooMany)),
+    (1, 8, 4, &NINE_TENANTS, Some(ConfigFault::TooMany)),
+    (
+        1,
+        8,
+        4,
+        &[(16, 1), (16, 2), (3, 1)],
+        Some(ConfigFault::TooMany),
+    ),
+    (
+        1,
+        8,
+        4,
+        &[(16, 1), (16, 2)],
+        Some(ConfigFault::DuplicateClient),
+    ),
+];
+
 #[test]
 fn the_first_fault_is_reported(rt: HostRuntime) -> Result<(), Fail> {
-    let alloc = rt.alloc();
-    let one = [(100, 1)];
-    assert_eq!(rt; fault_of(alloc, 1, 8, 4, &one)?, None);
-    assert_eq!(rt; fault_of(alloc, 3, 1, 10, &[])?, None);
-    assert_eq!(rt; fault_of(alloc, 4, 8, 13, &one)?, Some(ConfigFault::BadF));
-    assert_eq!(rt; fault_of(alloc, 0, 8, 1, &one)?, Some(ConfigFault::BadF));
-    assert_eq!(rt;
-        fault_of(alloc, 1, 8, 3, &one)?,
-        Some(ConfigFault::WrongReplicaCount)
-    );
-    assert_eq!(rt;
-        fault_of(alloc, 1, 0, 4, &one)?,
-        Some(ConfigFault::BadInterval)
-    );
-    assert_eq!(rt;
-        fault_of(alloc, 1, 9, 4, &one)?,
-        Some(ConfigFault::BadInterval)
-    );
-    assert_eq!(rt;
-        fault_of(alloc, 1, 8, 4, &[(15, 1)])?,
-        Some(ConfigFault::TooMany)
-    );
-    assert_eq!(rt;
-        fault_of(alloc, 1, 8, 4, &NINE_TENANTS)?,
-        Some(ConfigFault::TooMany)
-    );
-    assert_eq!(rt; fault_of(alloc, 1, 8, 4, &NINE_TENANTS[..8])?, None);
-    assert_eq!(rt;
-        fault_of(alloc, 1, 8, 4, &[(16, 1), (16, 2)])?,
-        Some(ConfigFault::DuplicateClient)
-    );
-    assert_eq!(rt; fault_of(alloc, 4, 0, 3, &one)?, Some(ConfigFault::BadF));
-    assert_eq!(rt;
-        fault_of(alloc, 1, 0, 3, &one)?,
-        Some(ConfigFault::WrongReplicaCount)
-    );
-    assert_eq!(rt;
-        fault_of(alloc, 1, 0, 4, &[(15, 1)])?,
-        Some(ConfigFault::BadInterval)
-    );
-    assert_eq!(rt;
-        fault_of(alloc, 1, 8, 4, &[(16, 1), (16, 2), (3, 1)])?,
-        Some(ConfigFault::TooMany)
-    );
+    for (f, k, key_count, pairs, fault) in ROWS {
+        assert_eq!(rt;
+            fault_of(rt.alloc(), f, k, key_count, pairs)?,
+            fault,
+            "{f} {k} {key_count}"
+        );
+    }
     Ok(())
 }
 
@@ -107,8 +119,10 @@ fn faults_have_names_and_numbers(rt: HostRuntime) -> Result<(), Fail> {
         (ConfigFault::TooMany, "TooMany", 6),
     ];
     for (fault, name, number) in rows {
-        assert_eq!(rt; fault.to_string(rt.alloc())?.as_str(), name);
-        assert_eq!(rt; fault.number(), number, "{name}");
+        assert!(rt;
+            is_named(rt.alloc(), &fault, name)? && fault.number() == number,
+            "{name}"
+        );
     }
     Ok(())
 }
@@ -126,37 +140,37 @@ fn more_than_64_clients(rt: HostRuntime) -> Result<(), Fail> {
     Ok(())
 }
 
+fn has_its_numbers(config: &Config) -> bool {
+    config.f() == 1
+        && config.k() == 8
+        && config.replica_count() == 4
+        && config.primary(View(0)).0 == 0
+        && config.primary(View(4_294_967_295)).0 == 3
+}
+
+fn has_its_keys(config: &Config) -> bool {
+    config.replica_key(ReplicaId(3)).copied() == Some([3; 56])
+        && config.replica_key(ReplicaId(4)).is_none()
+        && config.clients().len() == 4
+        && config.client(ClientId(102)).is_none()
+        && matches!(config.client(ClientId(101)), Some(client) if client.tenant.0 == 9)
+}
+
+fn has_its_ids(config: &Config) -> bool {
+    let clients = [ClientId(16), ClientId(17), ClientId(100), ClientId(101)];
+    let tenants = [TenantId(2), TenantId(4), TenantId(9)];
+    config.client_ids().as_slice() == clients.as_slice()
+        && config.tenant_ids().as_slice() == tenants.as_slice()
+}
+
 #[test]
 fn a_configuration_has_what_it_was_given(rt: HostRuntime) -> Result<(), Fail> {
     let alloc = rt.alloc();
     let listed = clients(alloc, &[(100, 9), (16, 2), (101, 9), (17, 4)])?;
     let config = Config::new(1, 8, keys(alloc, 4)?, listed).map_err(|fault| fault.number())?;
-    assert_eq!(rt; config.f(), 1);
-    assert_eq!(rt; config.k(), 8);
-    assert_eq!(rt; config.replica_count(), 4);
-    assert_eq!(rt; config.primary(View(0)).0, 0);
-    assert_eq!(rt; config.primary(View(4_294_967_295)).0, 3);
-    assert_eq!(rt; config.replica_key(ReplicaId(3)).copied(), Some([3; 56]));
-    assert_eq!(rt; config.replica_key(ReplicaId(4)).copied(), None);
-    assert_eq!(rt;
-        config.client(ClientId(101)).map(|client| client.tenant.0),
-        Some(9)
-    );
-    assert_eq!(rt;
-        config.client(ClientId(102)).map(|client| client.tenant.0),
-        None
-    );
-    assert_eq!(rt; config.clients().len(), 4);
-    let ids = config.client_ids();
-    assert_eq!(rt;
-        ids.as_slice(),
-        [ClientId(16), ClientId(17), ClientId(100), ClientId(101)].as_slice()
-    );
-    let tenants = config.tenant_ids();
-    assert_eq!(rt;
-        tenants.as_slice(),
-        [TenantId(2), TenantId(4), TenantId(9)].as_slice()
-    );
+    assert!(rt; has_its_numbers(&config));
+    assert!(rt; has_its_keys(&config));
+    assert!(rt; has_its_ids(&config));
     Ok(())
 }
 

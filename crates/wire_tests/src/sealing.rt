@@ -1,13 +1,10 @@
-ghost use Rattle.std.specs.Prelude.{◌≡◌, [], IfOk};
-ghost use Rattle.pbft_codec.specs.Bodies.{BodyWellFormed};
-ghost use Rattle.seal.specs.Parts.{nested_in};
+//! Messages that are sealed, opened and refused.
 
-use super::*;
-use crate::sealing::with_empty_signature;
-use crate::verify_parts::{listed_key, may_sign};
+use crate::is_named;
 use host_types::{Bytes, ClientEntry, ClientId, Config, TenantId};
 use lms_tree::{Height, SignFault, Signer};
-use pbft_codec::{Body, CodecFault, RequestBody, Role, signed_bytes};
+use pbft_codec::{Body, CodecFault, RequestBody, Role, Signed, signed_bytes};
+use seal::{Checked, Part, SealFault, nested, open, parts, request_digest, seal};
 use sha2::{Digest, Sha256};
 use std::alloc::{AllocError, Global};
 use std::process::Abort;
@@ -21,12 +18,17 @@ const CLIENT: u8 = 2;
 // The body of a Request at time 1 of one operation byte.
 const REQUEST: [u8; 14] = [1, 0, 0, 0, 0, 0, 0, 0, 1, 0, 0, 0, 1, 9];
 
+// The seeds are parameters, so that a proof takes them as they come and computes nothing of them.
+fn signer(alloc: Global, identifier: [u8; 16], seed: [u8; 32]) -> Result<Signer, AllocError> {
+    Signer::from_seed(alloc, Height::H5, identifier, seed)
+}
+
 fn replica(alloc: Global, index: u8) -> Result<Signer, AllocError> {
-    Signer::from_seed(alloc, Height::H5, [index; 16], [5; 32])
+    signer(alloc, [index; 16], [5; 32])
 }
 
 fn client(alloc: Global) -> Result<Signer, AllocError> {
-    Signer::from_seed(alloc, Height::H5, [100; 16], [6; 32])
+    signer(alloc, [100; 16], [6; 32])
 }
 
 // Four replicas, of which one may be faulty, and the client 100.
@@ -103,8 +105,8 @@ fn change(
 
 fn with_last_byte_changed(alloc: Global, bytes: &[u8]) -> Result<Vec<u8>, Fail> {
     let mut changed = Vec::from_slice(alloc, bytes)?;
-    if let Some(last) = changed.pop() {
-        changed.push(last ^ 1)?;
+    if let Some(last) = changed.last_mut() {
+        *last = last.wrapping_add(1);
     }
     Ok(changed)
 }
@@ -123,51 +125,132 @@ fn bytes_and_signatures_are_verified(rt: HostRuntime) -> Result<(), Fail> {
         [0; 56],
     )?;
     let good = message(alloc, &mut second, REPLICA, 1, &vote(alloc, 3, 0)?)?;
-    assert_eq!(rt; fault(alloc, &config, &good), None);
     let changed = with_last_byte_changed(alloc, &good)?;
-    assert_eq!(rt;
-        fault(alloc, &config, &changed),
-        Some(SealFault::BadSignature)
-    );
     let more = [good.as_slice(), [0].as_slice()].concat(alloc)?;
-    let trailing = SealFault::Codec(CodecFault::Trailing);
-    assert_eq!(rt; fault(alloc, &config, &more), Some(trailing));
+    let rows = [
+        ("as signed", &good, None),
+        ("changed", &changed, Some(SealFault::BadSignature)),
+        (
+            "one byte more",
+            &more,
+            Some(SealFault::Codec(CodecFault::Trailing)),
+        ),
+    ];
+    for (name, bytes, wanted) in rows {
+        assert!(rt; fault(alloc, &config, bytes) == wanted, "{name}");
+    }
     Ok(())
+}
+
+// The fault of a replica's message of this body, changed behind its signature or not.
+fn fault_of_part(
+    alloc: Global,
+    config: &Arc<Config>,
+    signer: &mut Signer,
+    id: u32,
+    body: &[u8],
+    is_changed: bool,
+) -> Result<Option<SealFault>, Fail> {
+    let bytes = message(alloc, signer, REPLICA, id, body)?;
+    if !is_changed {
+        return Ok(fault(alloc, config, &bytes));
+    }
+    let changed = with_last_byte_changed(alloc, &bytes)?;
+    Ok(fault(alloc, config, &changed))
 }
 
 #[test]
 fn the_first_fault_of_a_part_is_reported(rt: HostRuntime) -> Result<(), Fail> {
     let alloc = rt.alloc();
     let mut first = replica(alloc, 0)?;
-    let mut second = replica(alloc, 1)?;
     let config = config(
         alloc,
-        &[first.public_key(), second.public_key(), [0; 56], [0; 56]],
+        &[first.public_key(), [0; 56], [0; 56], [0; 56]],
         [0; 56],
     )?;
     let prepare = vote(alloc, 3, 0)?;
-    let of_primary = message(alloc, &mut first, REPLICA, 0, &prepare)?;
-    assert_eq!(rt;
-        fault(alloc, &config, &of_primary),
-        Some(SealFault::WrongRole)
-    );
-    let changed = with_last_byte_changed(alloc, &of_primary)?;
-    assert_eq!(rt; fault(alloc, &config, &changed), Some(SealFault::WrongRole));
-    let request = message(alloc, &mut second, REPLICA, 1, &REQUEST)?;
-    assert_eq!(rt; fault(alloc, &config, &request), Some(SealFault::WrongRole));
-    for id in [4, 257] {
-        let unlisted = message(alloc, &mut second, REPLICA, id, &prepare)?;
-        assert_eq!(rt;
-            fault(alloc, &config, &unlisted),
-            Some(SealFault::UnknownSigner)
-        );
-        let unlisted = message(alloc, &mut second, REPLICA, id, &REQUEST)?;
-        assert_eq!(rt;
-            fault(alloc, &config, &unlisted),
-            Some(SealFault::UnknownSigner)
-        );
+    let request = REQUEST.as_slice();
+    let rows = [
+        (
+            "a Prepare of the primary",
+            0,
+            prepare.as_slice(),
+            false,
+            SealFault::WrongRole,
+        ),
+        (
+            "and a bad signature",
+            0,
+            prepare.as_slice(),
+            true,
+            SealFault::WrongRole,
+        ),
+        (
+            "a replica's Request",
+            0,
+            request,
+            false,
+            SealFault::WrongRole,
+        ),
+        (
+            "replica 4 of 4",
+            4,
+            prepare.as_slice(),
+            false,
+            SealFault::UnknownSigner,
+        ),
+        (
+            "replica 257",
+            257,
+            prepare.as_slice(),
+            false,
+            SealFault::UnknownSigner,
+        ),
+        (
+            "a Request of replica 4",
+            4,
+            request,
+            false,
+            SealFault::UnknownSigner,
+        ),
+        (
+            "a Request of replica 257",
+            257,
+            request,
+            false,
+            SealFault::UnknownSigner,
+        ),
+    ];
+    for (name, id, body, is_changed, wanted) in rows {
+        let found = fault_of_part(alloc, &config, &mut first, id, body, is_changed)?;
+        assert!(rt; found == Some(wanted), "{name}");
     }
     Ok(())
+}
+
+// The messages of a certificate: a PrePrepare, the same with a bad signature, a Prepare, and one of a
+// replica that isn't listed.
+#[derive(Drop)]
+struct Votes {
+    pre_prepare: Vec<u8>,
+    changed: Vec<u8>,
+    prepare: Vec<u8>,
+    unlisted: Vec<u8>,
+}
+
+fn signed_votes(alloc: Global, first: &mut Signer, second: &mut Signer) -> Result<Votes, Fail> {
+    let proposal = vote(alloc, 2, 0)?;
+    let vote = vote(alloc, 3, 0)?;
+    let pre_prepare = message(alloc, first, REPLICA, 0, &proposal)?;
+    let changed = with_last_byte_changed(alloc, &pre_prepare)?;
+    let prepare = message(alloc, second, REPLICA, 1, &vote)?;
+    let unlisted = message(alloc, second, REPLICA, 4, &vote)?;
+    Ok(Votes {
+        pre_prepare,
+        changed,
+        prepare,
+        unlisted,
+    })
 }
 
 #[test]
@@ -180,30 +263,18 @@ fn the_first_part_with_a_fault_is_reported(rt: HostRuntime) -> Result<(), Fail> 
         &[first.public_key(), second.public_key(), [0; 56], [0; 56]],
         [0; 56],
     )?;
-    let prepare = message(alloc, &mut second, REPLICA, 1, &vote(alloc, 3, 0)?)?;
-    let unlisted = message(alloc, &mut second, REPLICA, 4, &vote(alloc, 3, 0)?)?;
-    let pre_prepare = message(alloc, &mut first, REPLICA, 0, &vote(alloc, 2, 0)?)?;
-    let changed = with_last_byte_changed(alloc, &pre_prepare)?;
-
-    let body = change(alloc, &pre_prepare, &prepare, &unlisted)?;
-    let whole = message(alloc, &mut second, REPLICA, 1, &body)?;
-    assert_eq!(rt;
-        fault(alloc, &config, &whole),
-        Some(SealFault::UnknownSigner)
-    );
-    let body = change(alloc, &changed, &prepare, &unlisted)?;
-    let whole = message(alloc, &mut second, REPLICA, 1, &body)?;
-    assert_eq!(rt;
-        fault(alloc, &config, &whole),
-        Some(SealFault::BadSignature)
-    );
-    let body = change(alloc, &pre_prepare, &prepare, &unlisted)?;
-    let whole = message(alloc, &mut second, REPLICA, 1, &body)?;
-    let whole = with_last_byte_changed(alloc, &whole)?;
-    assert_eq!(rt;
-        fault(alloc, &config, &whole),
-        Some(SealFault::BadSignature)
-    );
+    let votes = signed_votes(alloc, &mut first, &mut second)?;
+    let good = change(alloc, &votes.pre_prepare, &votes.prepare, &votes.unlisted)?;
+    let bad = change(alloc, &votes.changed, &votes.prepare, &votes.unlisted)?;
+    let rows = [
+        ("the last Prepare's", &good, false, SealFault::UnknownSigner),
+        ("the PrePrepare's", &bad, false, SealFault::BadSignature),
+        ("the whole message's", &good, true, SealFault::BadSignature),
+    ];
+    for (name, body, is_changed, wanted) in rows {
+        let found = fault_of_part(alloc, &config, &mut second, 1, body, is_changed)?;
+        assert!(rt; found == Some(wanted), "{name}");
+    }
     Ok(())
 }
 
@@ -274,35 +345,42 @@ fn entry_of(
     })
 }
 
+// Signers and kinds of a NewView's parts, each after the one it is nested in.
+const PARTS: [(u32, u8); 10] = [
+    (1, 8),
+    (1, 7),
+    (0, 2),
+    (1, 3),
+    (2, 3),
+    (2, 7),
+    (0, 2),
+    (1, 3),
+    (2, 3),
+    (1, 2),
+];
+
+fn holds(entry: &Entry, inside: &[Checked]) -> bool {
+    match inside {
+        [own, other, proposed] => {
+            own.bytes() == entry.own.as_slice()
+                && other.bytes() == entry.other.as_slice()
+                && proposed.bytes() == entry.proposed.as_slice()
+                && other.signer() == (Role::Replica, 2)
+        }
+        _ => false,
+    }
+}
+
 fn check_new_view(
     rt: &impl Abort,
     alloc: Global,
     opened: &Checked,
     entry: &Entry,
 ) -> Result<(), Fail> {
-    assert_eq!(rt;
-        signers_and_kinds(alloc, &parts(alloc, opened)?)?.as_slice(),
-        [
-            (1, 8),
-            (1, 7),
-            (0, 2),
-            (1, 3),
-            (2, 3),
-            (2, 7),
-            (0, 2),
-            (1, 3),
-            (2, 3),
-            (1, 2)
-        ]
-        .as_slice()
-    );
+    let parts = parts(alloc, opened)?;
+    assert!(rt; signers_and_kinds(alloc, &parts)?.as_slice() == PARTS.as_slice());
     let inside = nested(alloc, opened)?;
-    assert_eq!(rt; inside.len(), 3);
-    assert_eq!(rt; inside[0].bytes(), entry.own.as_slice());
-    assert_eq!(rt; inside[1].bytes(), entry.other.as_slice());
-    assert_eq!(rt; inside[2].bytes(), entry.proposed.as_slice());
-    assert_eq!(rt; inside[1].signer(), (Role::Replica, 2));
-    assert_eq!(rt; parts(alloc, &inside[1])?.len(), 4);
+    assert!(rt; holds(entry, &inside));
     Ok(())
 }
 
@@ -334,64 +412,63 @@ fn the_parts_of_a_new_view(rt: HostRuntime) -> Result<(), Fail> {
     Ok(())
 }
 
-// Seals a body without nested messages, after what its caller owes was tested.
-fn sealed_message(
+// Seals a request of one byte for client 100, after what the caller of `seal` owes was tested.
+fn sealed_request(
     rt: &impl Abort,
     alloc: Global,
     config: &Arc<Config>,
     signer: &mut Signer,
-    id: u32,
-    body: Body,
-) -> Result<Result<Checked, SignFault>, Fail>
-    requires well_formed { BodyWellFormed body }
-    requires flat { nested_in body ≡ [] }
-{
-    let Some(key) = listed_key(config, Role::Client, id) else {
-        return Err("no key")?;
+) -> Result<Result<Checked, SignFault>, Fail> {
+    let Some(entry) = config.client(ClientId(100)) else {
+        return Err("no entry")?;
     };
-    assert!(rt; *key == signer.public_key());
-    assert!(rt; may_sign(config, Role::Client, id, &body));
-    let unsigned = with_empty_signature(alloc, Role::Client, id, body);
-    let text = signed_bytes(alloc, &unsigned)?;
-    assert!(rt; text.len() < 8_000_000);
-    Ok(seal(alloc, config, signer, Role::Client, id, unsigned.body))
+    assert!(rt; entry.key == signer.public_key());
+    let unsigned = Signed {
+        role: Role::Client,
+        id: 100,
+        body: Body::Request(RequestBody {
+            time: 1,
+            op: Bytes::from_vec(Vec::from_slice(alloc, &[9])?),
+        }),
+        sig: Bytes::from_vec(Vec::new(alloc)),
+    };
+    assert!(rt; signed_bytes(alloc, &unsigned)?.len() < 8_000_000);
+    Ok(seal(alloc, config, signer, Role::Client, 100, unsigned.body))
 }
 
-fn request(alloc: Global) -> Result<Body, Fail>
-    ensures { IfOk result (λ body. BodyWellFormed body × (nested_in body ≡ [])) }
-{
-    Ok(Body::Request(RequestBody {
-        time: 1,
-        op: Bytes::from_vec(Vec::from_slice(alloc, &[9])?),
-    }))
+// A sealed request of client 100 shows what it was made of.
+fn is_sealed_as(sealed: &Checked, bytes: &[u8]) -> bool {
+    sealed.bytes() == bytes
+        && sealed.signer() == (Role::Client, 100)
+        && kind(sealed.body()) == 1
+        && sealed.config().f() == 1
+}
+
+fn check_sealed(rt: &impl Abort, alloc: Global, sealed: &Checked) -> Result<(), Fail> {
+    let parts = parts(alloc, sealed)?;
+    assert!(rt; signers_and_kinds(alloc, &parts)?.as_slice() == [(100, 1)].as_slice());
+    assert!(rt; nested(alloc, sealed)?.is_empty());
+    assert!(rt; fault(alloc, sealed.config(), sealed.bytes()).is_none());
+    assert!(rt; sealed.copy()?.bytes() == sealed.bytes());
+    let digest = Sha256::digest(&text(alloc, CLIENT, 100, &REQUEST)?);
+    assert!(rt; request_digest(sealed).0 == digest);
+    Ok(())
 }
 
 #[test]
 fn a_signer_seals_until_it_is_exhausted(rt: HostRuntime) -> Result<(), Fail> {
     let alloc = rt.alloc();
+    let bytes = message(alloc, &mut client(alloc)?, CLIENT, 100, &REQUEST)?;
     let mut signer = client(alloc)?;
     let config = config(alloc, &[[0; 56]; 4], signer.public_key())?;
-    let bytes = message(alloc, &mut client(alloc)?, CLIENT, 100, &REQUEST)?;
-    let first = sealed_message(&rt, alloc, &config, &mut signer, 100, request(alloc)?)??;
-    assert_eq!(rt; first.bytes(), bytes.as_slice());
-    assert_eq!(rt; first.signer(), (Role::Client, 100));
-    assert_eq!(rt; kind(first.body()), 1);
-    assert_eq!(rt; first.copy()?.bytes(), bytes.as_slice());
-    assert_eq!(rt; first.config().f(), 1);
-    assert_eq!(rt; open(alloc, first.config(), first.bytes()).err(), None);
-    assert_eq!(rt;
-        signers_and_kinds(alloc, &parts(alloc, &first)?)?.as_slice(),
-        [(100, 1)].as_slice()
-    );
-    assert_eq!(rt; nested(alloc, &first)?.len(), 0);
-    let digest = Sha256::digest(&text(alloc, CLIENT, 100, &REQUEST)?);
-    assert_eq!(rt; request_digest(&first).0, digest);
+    let first = sealed_request(&rt, alloc, &config, &mut signer)??;
+    assert!(rt; is_sealed_as(&first, &bytes));
+    check_sealed(&rt, alloc, &first)?;
     for _ in 1..32 {
-        let _next = sealed_message(&rt, alloc, &config, &mut signer, 100, request(alloc)?)??;
+        let _next = sealed_request(&rt, alloc, &config, &mut signer)??;
     }
-    let none = sealed_message(&rt, alloc, &config, &mut signer, 100, request(alloc)?)?;
-    assert_eq!(rt; none.err(), Some(SignFault::Exhausted));
-    assert_eq!(rt; signer.next_leaf(), 32);
+    let none = sealed_request(&rt, alloc, &config, &mut signer)?;
+    assert!(rt; none.err() == Some(SignFault::Exhausted) && signer.next_leaf() == 32);
     Ok(())
 }
 
@@ -410,8 +487,10 @@ fn faults_have_names_and_numbers(rt: HostRuntime) -> Result<(), Fail> {
         (SealFault::Memory, "Memory", 5),
     ];
     for (fault, name, number) in rows {
-        assert_eq!(rt; fault.to_string(rt.alloc())?.as_str(), name);
-        assert_eq!(rt; fault.number(), number, "{name}");
+        assert!(rt;
+            is_named(rt.alloc(), &fault, name)? && fault.number() == number,
+            "{name}"
+        );
     }
     Ok(())
 }

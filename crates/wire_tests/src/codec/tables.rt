@@ -1,6 +1,6 @@
 //! Messages as hex, cut into pieces, made by another writer of the grammar.
 
-use super::CodecFault;
+use pbft_codec::CodecFault;
 
 /// One message of each kind.
 pub static MESSAGES: [&[&str]; 11] = [

@@ -1,11 +1,18 @@
-use super::*;
+//! Keys and signatures of another implementation, and what is wrong with damaged ones.
+
+use crate::is_named;
 use hex::FromHex;
-use std::alloc::Global;
+use lms_tree::{Height, SigFault, SignFault, Signer, verify};
+use std::alloc::{AllocError, Global};
 use std::process::Abort;
 use std::test::Fail;
 
-mod damaged;
 mod valid;
+
+use valid::{
+    LEAF_0_OF_HEIGHT_5, LEAF_0_OF_HEIGHT_10, LEAF_1_OF_HEIGHT_5, LEAF_31_OF_HEIGHT_5,
+    RFC_8554_CASE_2,
+};
 
 // A key, a message and a signature in hex, the signature in pieces.
 #[derive(Drop)]
@@ -73,15 +80,14 @@ fn concatenation(alloc: Global, buffer: &[&str]) -> Result<Vec<u8>, Fail> {
     Ok(bytes)
 }
 
-fn verified(alloc: Global, case: &Case) -> Result<Result<(), SigFault>, Fail> {
-    let message = hex::decode(alloc, case.message)?;
-    let signature = concatenation(alloc, case.signature)?;
-    Ok(verify(&array(case.key)?, &message, &signature))
+// The seeds are parameters, so that a proof computes nothing of them.
+fn signer(alloc: Global, identifier: [u8; 16], seed: [u8; 32]) -> Result<Signer, AllocError> {
+    Signer::from_seed(alloc, Height::H5, identifier, seed)
 }
 
 #[test]
 fn a_tree_of_height_5_signs_32_times(rt: HostRuntime) -> Result<(), Fail> {
-    let mut signer = Signer::from_seed(rt.alloc(), Height::H5, [7; 16], [9; 32])?;
+    let mut signer = signer(rt.alloc(), [7; 16], [9; 32])?;
     let key = signer.public_key();
     for leaf in 0..32u32 {
         assert_eq!(rt; signer.next_leaf(), leaf);
@@ -97,7 +103,7 @@ fn a_tree_of_height_5_signs_32_times(rt: HostRuntime) -> Result<(), Fail> {
 
 fn check_keys(rt: &impl Abort, alloc: Global, rows: &[(&str, &str, &str)]) -> Result<(), Fail> {
     for (id, secret, key) in rows {
-        let signer = Signer::from_seed(alloc, Height::H5, array(id)?, array(secret)?)?;
+        let signer = signer(alloc, array(id)?, array(secret)?)?;
         assert_eq!(rt; signer.public_key(), array(key)?, "at {id}");
     }
     Ok(())
@@ -120,106 +126,155 @@ fn last_public_keys_of_another_implementation(rt: HostRuntime) -> Result<(), Fai
 
 #[test]
 fn signatures_of_another_implementation(rt: HostRuntime) -> Result<(), Fail> {
-    let case = valid::leaf_1_of_height_5();
-    let mut signer = Signer::from_seed(
-        rt.alloc(),
-        Height::H5,
-        array(KEYS[2].0)?,
-        array(KEYS[2].1)?,
-    )?;
+    let mut signer = signer(rt.alloc(), array(KEYS[2].0)?, array(KEYS[2].1)?)?;
     let _first = signer.sign(b"a")?;
     let second = signer.sign(b"a")?;
     assert_eq!(rt;
         second.as_slice(),
-        concatenation(rt.alloc(), case.signature)?.as_slice()
+        concatenation(rt.alloc(), LEAF_1_OF_HEIGHT_5.signature)?.as_slice()
     );
     Ok(())
 }
 
+// What is changed of a case.
+#[derive(Clone, Copy)]
+enum Change {
+    Nothing,
+    Key { at: usize, byte: u8 },
+    Message(&'static str),
+    Signature { at: usize, byte: u8 },
+    Leaf(u32),
+    Length(usize),
+}
+
+fn put(bytes: &mut [u8], at: usize, byte: u8) {
+    if let Some(found) = bytes.get_mut(at) {
+        *found = byte;
+    }
+}
+
+// What verification says of the case with this change.
+fn verdict(alloc: Global, case: &Case, change: Change) -> Result<Option<SigFault>, Fail> {
+    let mut key: [u8; 56] = array(case.key)?;
+    let mut message = hex::decode(alloc, case.message)?;
+    let mut signature = concatenation(alloc, case.signature)?;
+    match change {
+        Change::Nothing => {}
+        Change::Key { at, byte } => put(&mut key, at, byte),
+        Change::Message(text) => message = hex::decode(alloc, text)?,
+        Change::Signature { at, byte } => put(&mut signature, at, byte),
+        Change::Leaf(leaf) => {
+            for (at, byte) in leaf.to_be_bytes().into_iter().enumerate() {
+                put(&mut signature, at, byte);
+            }
+        }
+        Change::Length(length) => signature.resize(length, 0)?,
+    }
+    Ok(verify(&key, &message, &signature).err())
+}
+
 #[test]
 fn valid_signatures(rt: HostRuntime) -> Result<(), Fail> {
-    assert_eq!(rt; verified(rt.alloc(), &valid::leaf_1_of_height_5())?, Ok(()));
-    assert_eq!(rt;
-        verified(rt.alloc(), &valid::leaf_0_of_height_10())?,
-        Ok(())
-    );
-    assert_eq!(rt; verified(rt.alloc(), &valid::leaf_0_of_height_5())?, Ok(()));
-    assert_eq!(rt;
-        verified(rt.alloc(), &valid::leaf_31_of_height_5())?,
-        Ok(())
-    );
-    assert_eq!(rt; verified(rt.alloc(), &valid::rfc_8554_case_2())?, Ok(()));
+    let cases = [
+        &LEAF_1_OF_HEIGHT_5,
+        &LEAF_0_OF_HEIGHT_10,
+        &LEAF_0_OF_HEIGHT_5,
+        &LEAF_31_OF_HEIGHT_5,
+        &RFC_8554_CASE_2,
+    ];
+    for case in cases {
+        assert_eq!(rt; verdict(rt.alloc(), case, Change::Nothing)?, None);
+    }
     Ok(())
 }
 
 #[test]
 fn damaged_signatures_and_keys(rt: HostRuntime) -> Result<(), Fail> {
-    assert_eq!(rt;
-        verified(rt.alloc(), &damaged::one_byte_long())?,
-        Err(SigFault::Length)
-    );
-    assert_eq!(rt;
-        verified(rt.alloc(), &damaged::eight_bytes())?,
-        Err(SigFault::Length)
-    );
-    assert_eq!(rt;
-        verified(rt.alloc(), &damaged::key_of_other_height())?,
-        Err(SigFault::Length)
-    );
-    assert_eq!(rt;
-        verified(rt.alloc(), &damaged::key_of_other_one_time_type())?,
-        Err(SigFault::WrongType)
-    );
-    assert_eq!(rt;
-        verified(rt.alloc(), &damaged::key_of_type_0())?,
-        Err(SigFault::WrongType)
-    );
-    assert_eq!(rt;
-        verified(rt.alloc(), &damaged::signature_of_type_0())?,
-        Err(SigFault::WrongType)
-    );
-    assert_eq!(rt;
-        verified(rt.alloc(), &damaged::leaf_beyond())?,
-        Err(SigFault::Leaf)
-    );
-    assert_eq!(rt;
-        verified(rt.alloc(), &damaged::leaf_beyond_again())?,
-        Err(SigFault::Leaf)
-    );
-    assert_eq!(rt;
-        verified(rt.alloc(), &damaged::leaf_far_beyond())?,
-        Err(SigFault::Leaf)
-    );
-    assert_eq!(rt;
-        verified(rt.alloc(), &damaged::message_changed())?,
-        Err(SigFault::Mismatch)
-    );
-    assert_eq!(rt;
-        verified(rt.alloc(), &damaged::path_changed())?,
-        Err(SigFault::Mismatch)
-    );
-    assert_eq!(rt;
-        verified(rt.alloc(), &damaged::leaf_plus_one())?,
-        Err(SigFault::Mismatch)
-    );
+    let five = &LEAF_31_OF_HEIGHT_5;
+    let ten = &LEAF_0_OF_HEIGHT_10;
+    let rows = [
+        (
+            "one byte more",
+            five,
+            Change::Length(2_349),
+            SigFault::Length,
+        ),
+        ("8 bytes", five, Change::Length(8), SigFault::Length),
+        (
+            "a key of height 10",
+            five,
+            Change::Key { at: 3, byte: 6 },
+            SigFault::Length,
+        ),
+        (
+            "a key of one-time type 4",
+            five,
+            Change::Key { at: 7, byte: 4 },
+            SigFault::WrongType,
+        ),
+        (
+            "a key of type 0",
+            ten,
+            Change::Key { at: 3, byte: 0 },
+            SigFault::WrongType,
+        ),
+        (
+            "a signature of type 0",
+            ten,
+            Change::Signature { at: 2_187, byte: 0 },
+            SigFault::WrongType,
+        ),
+        (
+            "leaf 32 of height 5",
+            five,
+            Change::Leaf(32),
+            SigFault::Leaf,
+        ),
+        (
+            "the greatest leaf",
+            five,
+            Change::Leaf(4_294_967_295),
+            SigFault::Leaf,
+        ),
+        ("another leaf", ten, Change::Leaf(1), SigFault::Mismatch),
+        (
+            "another message",
+            five,
+            Change::Message("61"),
+            SigFault::Mismatch,
+        ),
+        (
+            "another sibling",
+            ten,
+            Change::Signature { at: 2_188, byte: 1 },
+            SigFault::Mismatch,
+        ),
+    ];
+    for (name, case, change, fault) in rows {
+        assert_eq!(rt; verdict(rt.alloc(), case, change)?, Some(fault), "{name}");
+    }
     Ok(())
 }
 
 #[test]
 fn faults_have_names_and_numbers(rt: HostRuntime) -> Result<(), Fail> {
+    let rows = [
+        (SigFault::Length, "Length", 1),
+        (SigFault::WrongType, "WrongType", 2),
+        (SigFault::Leaf, "Leaf", 3),
+        (SigFault::Mismatch, "Mismatch", 4),
+    ];
+    for (fault, name, number) in rows {
+        assert!(rt;
+            is_named(rt.alloc(), &fault, name)? && fault.number() == number,
+            "{name}"
+        );
+    }
     assert_eq!(rt;
-        format!(in rt.alloc(); "{} {}", SignFault::Exhausted, SignFault::Memory)?.as_str(),
-        "Exhausted Memory"
+        SignFault::Exhausted.to_string(rt.alloc())?.as_str(),
+        "Exhausted"
     );
-    assert_eq!(rt;
-        format!(in rt.alloc(); "{} {}", SigFault::Length, SigFault::WrongType)?.as_str(),
-        "Length WrongType"
-    );
-    assert_eq!(rt;
-        format!(in rt.alloc(); "{} {}", SigFault::Leaf, SigFault::Mismatch)?.as_str(),
-        "Leaf Mismatch"
-    );
+    assert_eq!(rt; SignFault::Memory.to_string(rt.alloc())?.as_str(), "Memory");
     assert_eq!(rt; SignFault::Memory.number(), 2);
-    assert_eq!(rt; SigFault::Mismatch.number(), 4);
     Ok(())
 }

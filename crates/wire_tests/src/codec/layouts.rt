@@ -1,0 +1,205 @@
+//! The layout of each kind: a body in hex whose fields all differ, and what is read from it.
+
+use super::bytes_of;
+use host_types::{ClientId, Digest, SeqNo, View};
+use pbft_codec::{
+    Body, Certificate, Checkpoint, Commit, Fetch, NewView, PrePrepare, Prepare, ReplyBody,
+    RequestBody, Role, Signed, Snapshot, ViewChange, decode,
+};
+use std::alloc::Global;
+use std::test::Fail;
+
+const VIEW: View = View(0x01020304);
+
+const NUMBER: SeqNo = SeqNo(0x060708090a0b);
+
+const DIGEST: Digest = Digest([
+    0, 1, 2, 3, 4, 5, 6, 7, 8, 9, 10, 11, 12, 13, 14, 15, 16, 17, 18, 19, 20, 21, 22, 23, 24, 25,
+    26, 27, 28, 29, 30, 31,
+]);
+
+const PRE_PREPARE: PrePrepare = PrePrepare {
+    view: VIEW,
+    number: NUMBER,
+    digest: DIGEST,
+};
+
+const PREPARE: Prepare = Prepare {
+    view: VIEW,
+    number: NUMBER,
+    digest: DIGEST,
+};
+
+const COMMIT: Commit = Commit {
+    view: VIEW,
+    number: NUMBER,
+    digest: DIGEST,
+};
+
+const CHECKPOINT: Checkpoint = Checkpoint {
+    number: NUMBER,
+    digest: DIGEST,
+};
+
+const NUMBER_HEX: &str = "0000060708090a0b";
+
+const DIGEST_HEX: &str = "000102030405060708090a0b0c0d0e0f101112131415161718191a1b1c1d1e1f";
+
+// A new view of one view change of one checkpoint and one certificate, and one proposal.
+const NEW_VIEW: &[&str] = &[
+    "08",
+    "01020304000000010100000008000000c407010203040000060708090a0b00",
+    "000001010000000500000029060000060708090a0b000102030405060708090a",
+    "0b0c0d0e0f101112131415161718191a1b1c1d1e1f00000001cc000000010100",
+    "0000060000002d02010203040000060708090a0b000102030405060708090a0b",
+    "0c0d0e0f101112131415161718191a1b1c1d1e1f000000000000000101000000",
+    "070000002d03010203040000060708090a0b000102030405060708090a0b0c0d",
+    "0e0f101112131415161718191a1b1c1d1e1f0000000000000001dd0000000101",
+    "000000090000002d02010203040000060708090a0b000102030405060708090a",
+    "0b0c0d0e0f101112131415161718191a1b1c1d1e1f00000001ee",
+];
+
+fn is_proposal(message: &Signed<PrePrepare>, id: u32) -> bool {
+    message.id == id && message.body == PRE_PREPARE
+}
+
+fn is_certificate(certificate: &Certificate) -> bool {
+    match certificate.prepares.as_slice() {
+        [prepare] => {
+            is_proposal(&certificate.pre_prepare, 6) && prepare.id == 7 && prepare.body == PREPARE
+        }
+        _ => false,
+    }
+}
+
+fn is_signed_checkpoint(message: &Signed<Checkpoint>) -> bool {
+    message.id == 5 && message.body == CHECKPOINT && message.sig.as_slice() == [0xcc].as_slice()
+}
+
+fn is_view_change(change: &ViewChange) -> bool {
+    match (
+        change.checkpoints.as_slice(),
+        change.certificates.as_slice(),
+    ) {
+        ([checkpoint], [certificate]) => {
+            change.view == VIEW
+                && change.low == NUMBER
+                && is_signed_checkpoint(checkpoint)
+                && is_certificate(certificate)
+        }
+        _ => false,
+    }
+}
+
+fn is_new_view(entry: &NewView) -> bool {
+    match (entry.changes.as_slice(), entry.pre_prepares.as_slice()) {
+        ([change], [proposal]) => {
+            entry.view == VIEW
+                && change.id == 8
+                && is_view_change(&change.body)
+                && is_proposal(proposal, 9)
+                && proposal.sig.as_slice() == [0xee].as_slice()
+        }
+        _ => false,
+    }
+}
+
+// A body of each layout; the new view holds the view change, and that the other two kinds of body.
+static BODIES: [&[&str]; 8] = [
+    &["01", "0102030405060708", "00000002", "6162"],
+    &["02", "01020304", NUMBER_HEX, DIGEST_HEX],
+    &["03", "01020304", NUMBER_HEX, DIGEST_HEX],
+    &["04", "01020304", NUMBER_HEX, DIGEST_HEX],
+    &[
+        "05",
+        "01020304",
+        "11121314",
+        "2122232425262728",
+        "0000313233343536",
+        "00000001",
+        "ff",
+    ],
+    &["06", NUMBER_HEX, DIGEST_HEX],
+    &["0a", NUMBER_HEX, "00000002", "abcd"],
+    NEW_VIEW,
+];
+
+static FETCHES: [(&[&str], Fetch); 2] = [
+    (&["09", "01", DIGEST_HEX], Fetch::Request(DIGEST)),
+    (&["09", "02", NUMBER_HEX], Fetch::State(NUMBER)),
+];
+
+// The body in a message of replica 0x01020304 with the signature aa.
+fn message_of(alloc: Global, pieces: &[&str]) -> Result<Signed, Fail> {
+    let body = bytes_of(alloc, pieces)?;
+    let length = u32::try_from(body.len())?;
+    let mut bytes = Vec::new(alloc);
+    bytes.extend_from_slice(&[1, 1, 2, 3, 4])?;
+    bytes.extend_from_slice(&length.to_be_bytes())?;
+    bytes.extend_from_slice(&body)?;
+    bytes.extend_from_slice(&[0, 0, 0, 1, 0xaa])?;
+    Ok(decode(alloc, &bytes)?)
+}
+
+fn is_signed(message: &Signed) -> bool {
+    message.role == Role::Replica
+        && message.id == 0x01020304
+        && message.sig.as_slice() == [0xaa].as_slice()
+}
+
+fn is_request(request: &RequestBody) -> bool {
+    request.time == 0x0102030405060708 && request.op.as_slice() == b"ab".as_slice()
+}
+
+fn is_reply(reply: &ReplyBody) -> bool {
+    reply.view == VIEW
+        && reply.client == ClientId(0x11121314)
+        && reply.time == 0x2122232425262728
+        && reply.number == SeqNo(0x313233343536)
+        && reply.result.as_slice() == [0xff].as_slice()
+}
+
+fn is_snapshot(snapshot: &Snapshot) -> bool {
+    snapshot.number == NUMBER && snapshot.state.as_slice() == [0xab, 0xcd].as_slice()
+}
+
+// Whether a body is of this kind, and has the fields of its layout.
+fn is_laid_out(body: &Body, kind: &str) -> bool {
+    match body {
+        Body::Request(request) => kind == "01" && is_request(request),
+        Body::PrePrepare(vote) => kind == "02" && *vote == PRE_PREPARE,
+        Body::Prepare(vote) => kind == "03" && *vote == PREPARE,
+        Body::Commit(vote) => kind == "04" && *vote == COMMIT,
+        Body::Reply(reply) => kind == "05" && is_reply(reply),
+        Body::Checkpoint(vote) => kind == "06" && *vote == CHECKPOINT,
+        Body::NewView(entry) => kind == "08" && is_new_view(entry),
+        Body::Snapshot(snapshot) => kind == "0a" && is_snapshot(snapshot),
+        _ => false,
+    }
+}
+
+fn is_fetch(body: &Body, fetch: Fetch) -> bool {
+    matches!(body, Body::Fetch(found) if *found == fetch)
+}
+
+#[test]
+fn each_field_has_its_place(rt: HostRuntime) -> Result<(), Fail> {
+    for pieces in BODIES {
+        let message = message_of(rt.alloc(), pieces)?;
+        let kind = pieces.first().copied().unwrap_or("");
+        assert!(rt;
+            is_signed(&message) && is_laid_out(&message.body, kind),
+            "{kind}"
+        );
+    }
+    Ok(())
+}
+
+#[test]
+fn both_kinds_of_fetches(rt: HostRuntime) -> Result<(), Fail> {
+    for (pieces, fetch) in FETCHES {
+        let message = message_of(rt.alloc(), pieces)?;
+        assert!(rt; is_fetch(&message.body, fetch));
+    }
+    Ok(())
+}
