@@ -8,8 +8,6 @@ mod law;
 mod opcode;
 mod refusal;
 mod slot;
-#[cfg(test)]
-mod tests;
 
 pub use code::{decode_all, encode_all};
 pub use insn::{Insn, Reg, Size, Source};

@@ -11,8 +11,6 @@ mod frame_bytes;
 mod procedure;
 mod slots;
 mod structure;
-#[cfg(test)]
-mod tests;
 
 pub use bpf_model::{Refusal, VerifyFault};
 pub use flat::FlatInsn;

@@ -10,8 +10,6 @@ mod outcome;
 mod sink;
 mod state;
 mod tenant_part;
-#[cfg(test)]
-mod tests;
 
 pub use law::{
     a_step_exists, a_step_has_one_outcome, equal_bytes_are_equal_states,

@@ -1,7 +1,8 @@
 //! Runs at worked values.
 
-use super::*;
-use bpf_verifier::verify;
+use bpf_machine::run;
+use bpf_verifier::{Procedure, verify};
+use host_types::ClientId;
 use std::alloc::{AllocError, Global};
 use std::process::Abort;
 use std::test::Fail;
@@ -40,26 +41,33 @@ fn value_of(number: u32) -> [u8; 32] {
     value
 }
 
+/// What a call of client 16 returns.
+fn result_on(procedure: &Procedure, bytes: &[u8; 48], map: &mut TenantMap) -> Result<u64, Fail> {
+    Ok(run(procedure, bytes, ClientId(16), map)?.result)
+}
+
 #[test]
 fn a_map_fills_up(rt: HostRuntime) -> Result<(), Fail> {
     let put = verify(rt.alloc(), &PUT)?;
     let get = verify(rt.alloc(), &GET)?;
     let mut map = TenantMap::new(rt.alloc());
     for number in 0..4096 {
-        let finished = run(&put, &arguments(number), ClientId(16), &mut map)?;
-        assert_eq!(rt; finished.result, 0);
-        assert_eq!(rt; finished.steps, 4);
+        assert!(rt;
+            result_on(&put, &arguments(number), &mut map)? == 0,
+            "at {number}"
+        );
     }
-    assert_eq!(rt; map.len(), 4096);
-    let full = run(&put, &arguments(4096), ClientId(16), &mut map)?;
-    assert_eq!(rt; full.result, 1);
-    assert_eq!(rt; map.len(), 4096);
-    let again = run(&put, &arguments(0), ClientId(16), &mut map)?;
-    assert_eq!(rt; again.result, 0);
-    let found = run(&get, &arguments(4095), ClientId(16), &mut map)?;
-    assert_eq!(rt; found.result, 0);
-    let absent = run(&get, &arguments(4096), ClientId(16), &mut map)?;
-    assert_eq!(rt; absent.result, 1);
+    // the call, the number, what it returns, and how many entries there are then
+    let rows = [
+        ("put of a new key", &put, 4096, 1),
+        ("put of a key that is there", &put, 0, 0),
+        ("get of the last key", &get, 4095, 0),
+        ("get of the key that was not put", &get, 4096, 1),
+    ];
+    for (name, procedure, number, result) in rows {
+        let found = result_on(procedure, &arguments(number), &mut map)?;
+        assert!(rt; found == result && map.len() == 4096, "{name}");
+    }
     Ok(())
 }
 
@@ -68,15 +76,13 @@ fn an_entry_is_overwritten(rt: HostRuntime) -> Result<(), Fail> {
     let put = verify(rt.alloc(), &PUT)?;
     let mut map = TenantMap::new(rt.alloc());
     let mut bytes = arguments(7);
-    let first = run(&put, &bytes, ClientId(16), &mut map)?;
-    assert_eq!(rt; first.result, 0);
+    let first = result_on(&put, &bytes, &mut map)?;
     bytes[47] = 9;
-    let again = run(&put, &bytes, ClientId(16), &mut map)?;
-    assert_eq!(rt; again.result, 0);
-    assert_eq!(rt; map.len(), 1);
+    let again = result_on(&put, &bytes, &mut map)?;
+    assert!(rt; first == 0 && again == 0 && map.len() == 1);
     let mut value = value_of(7);
     value[31] = 9;
-    assert_eq!(rt; map.get(&key_of(7)), Some(value));
+    assert!(rt; map.get(&key_of(7)) == Some(value));
     Ok(())
 }
 
@@ -119,9 +125,10 @@ fn what_a_call_begins_with(rt: HostRuntime) -> Result<(), Fail> {
         let procedure = verify(rt.alloc(), &bytes)?;
         let mut map = TenantMap::new(rt.alloc());
         let finished = run(&procedure, &arguments(1), ClientId(16), &mut map)?;
-        assert_eq!(rt; finished.result, result, "{name}");
-        assert_eq!(rt; finished.steps, 2, "{name}");
-        assert_eq!(rt; finished.out.len(), 0, "{name}");
+        assert!(rt;
+            finished.result == result && finished.steps == 2 && finished.out.is_empty(),
+            "{name}"
+        );
     }
     Ok(())
 }
@@ -132,7 +139,7 @@ fn zeros_behind_the_arguments_and_for_an_absent_key(rt: HostRuntime) -> Result<(
     let mut map = TenantMap::new(rt.alloc());
     // without arguments the key and the value are zeros
     run(&put, &[], ClientId(16), &mut map)?;
-    assert_eq!(rt; map.get(&[0; 16]), Some([0; 32]));
+    assert!(rt; map.get(&[0; 16]) == Some([0; 32]));
     // reads an absent key's value over the arguments, and writes that value for the key
     let slots = [
         0xbf16_0000_0000_0000,
@@ -147,7 +154,7 @@ fn zeros_behind_the_arguments_and_for_an_absent_key(rt: HostRuntime) -> Result<(
     ];
     let both = verify(rt.alloc(), &code(rt.alloc(), &slots)?)?;
     run(&both, &arguments(5), ClientId(16), &mut map)?;
-    assert_eq!(rt; map.get(&key_of(5)), Some([0; 32]));
+    assert!(rt; map.get(&key_of(5)) == Some([0; 32]));
     Ok(())
 }
 
@@ -191,7 +198,7 @@ fn arithmetic_of_every_kind(rt: HostRuntime) -> Result<(), Fail> {
         ),
     ];
     for (name, slots, result, steps) in rows {
-        assert_eq!(rt; result_of(&rt, &slots)?, (result, steps), "{name}");
+        assert!(rt; result_of(&rt, &slots)? == (result, steps), "{name}");
     }
     Ok(())
 }
@@ -221,7 +228,7 @@ fn memory_of_both_regions(rt: HostRuntime) -> Result<(), Fail> {
         ),
     ];
     for (name, slots, result) in rows {
-        assert_eq!(rt; result_of(&rt, &slots)?.0, result, "{name}");
+        assert!(rt; result_of(&rt, &slots)?.0 == result, "{name}");
     }
     Ok(())
 }
@@ -286,7 +293,7 @@ fn jumps_and_tests(rt: HostRuntime) -> Result<(), Fail> {
         ),
     ];
     for (name, slots, result, steps) in rows {
-        assert_eq!(rt; result_of(&rt, &slots)?, (result, steps), "{name}");
+        assert!(rt; result_of(&rt, &slots)? == (result, steps), "{name}");
     }
     Ok(())
 }

@@ -1,8 +1,8 @@
 //! The service as installs and calls, and its states byte for byte.
 
-use super::*;
 use hex::encode;
 use host_types::{Bytes, ClientEntry, ClientId, Config, Request, TenantId};
+use service_core::{Outcome, State};
 use sha2::{Digest, Sha256};
 use std::alloc::{AllocError, Global};
 use std::process::Abort;
@@ -89,29 +89,27 @@ fn expect<R: Abort + AllocGlobal>(
     wanted: &str,
 ) -> Result<(), Fail> {
     let reply = reply_to(rt.alloc(), state, time, op)?;
-    assert_eq!(rt; reply.as_str(), wanted);
+    assert!(rt; reply.as_str() == wanted, "{wanted}");
     Ok(())
+}
+
+/// The state that a configuration begins with.
+fn genesis(alloc: Global, pairs: &[(u32, u32)]) -> Result<State, Fail> {
+    Ok(State::genesis(alloc, config(alloc, pairs)?)?)
 }
 
 #[test]
 fn a_time_is_answered_once(rt: HostRuntime) -> Result<(), Fail> {
     let alloc = rt.alloc();
     let mut state = State::genesis(alloc, config(alloc, &[(100, 1)])?)?;
-    for _ in 0..2 {
-        let seven = install(alloc, SEVEN)?;
-        assert_eq!(rt;
-            reply_to(alloc, &mut state, 5, seven)?.as_str(),
-            "1 0000000000"
-        );
-    }
-    let seven = install(alloc, SEVEN)?;
-    assert_eq!(rt; reply_to(alloc, &mut state, 4, seven)?.as_str(), "-");
-    assert_eq!(rt; state.number().0, 3);
-    assert_eq!(rt; state.last_time(ClientId(100)), Some(5));
-    assert_eq!(rt; state.last_time(ClientId(101)), None);
+    let first = "1 0000000000";
+    expect(&rt, &mut state, 5, install(alloc, SEVEN)?, first)?;
+    expect(&rt, &mut state, 5, install(alloc, SEVEN)?, first)?;
+    expect(&rt, &mut state, 4, install(alloc, SEVEN)?, "-")?;
+    assert!(rt; state.number().0 == 3 && state.last_time(ClientId(100)) == Some(5));
+    assert!(rt; state.last_time(ClientId(101)).is_none());
     let again = apply(&mut state, &request(100, 5, raw(alloc, &[9])?))?;
-    assert_eq!(rt; again.number.0, 4);
-    assert!(rt; again.kept);
+    assert!(rt; again.number.0 == 4 && again.kept);
     Ok(())
 }
 
@@ -149,53 +147,42 @@ fn a_tenant_has_64_procedures(rt: HostRuntime) -> Result<(), Fail> {
         let seven = install(alloc, SEVEN)?;
         reply_to(alloc, &mut state, time, seven)?;
     }
-    let seven = install(alloc, SEVEN)?;
-    assert_eq!(rt; reply_to(alloc, &mut state, 65, seven)?.as_str(), "65 04");
-    let refused = install(alloc, &[])?;
-    assert_eq!(rt; reply_to(alloc, &mut state, 66, refused)?.as_str(), "66 04");
-    let last = call(alloc, 63, &[])?;
-    assert_eq!(rt;
-        reply_to(alloc, &mut state, 67, last)?.as_str(),
-        "67 000000000000000007"
-    );
+    expect(&rt, &mut state, 65, install(alloc, SEVEN)?, "65 04")?;
+    expect(&rt, &mut state, 66, install(alloc, &[])?, "66 04")?;
+    let seven = "67 000000000000000007";
+    expect(&rt, &mut state, 67, call(alloc, 63, &[])?, seven)
+}
+
+/// Wants these bytes, in hex, of a state, and the digest of them.
+fn expect_bytes<R: Abort + AllocGlobal>(rt: &R, state: &State, wanted: &str) -> Result<(), Fail> {
+    let bytes = state.to_bytes()?;
+    assert!(rt; encode(rt.alloc(), bytes.as_slice())?.as_str() == wanted);
+    assert!(rt; state.digest().0 == <Sha256 as Digest>::digest(bytes.as_slice()));
     Ok(())
 }
 
 #[test]
 fn the_first_state_as_bytes(rt: HostRuntime) -> Result<(), Fail> {
-    let alloc = rt.alloc();
-    let state = State::genesis(alloc, config(alloc, &[(100, 1)])?)?;
-    assert_eq!(rt;
-        encode(alloc, state.to_bytes()?.as_slice())?.as_str(),
-        "0100000000000000000000000000000001000000010000000000000000"
-    );
-    Ok(())
+    let state = genesis(rt.alloc(), &[(100, 1)])?;
+    let wanted = "0100000000000000000000000000000001000000010000000000000000";
+    expect_bytes(&rt, &state, wanted)
 }
+
+const SMALL_STATE: &str = "\
+    0100000000000000020000000100000064000000000000000200000000000000020000000900000000000000\
+    000700000001000000010000000100000010b700000007000000950000000000000000000000";
 
 #[test]
 fn a_small_state_as_bytes(rt: HostRuntime) -> Result<(), Fail> {
     let alloc = rt.alloc();
-    let mut state = State::genesis(alloc, config(alloc, &[(100, 1)])?)?;
-    let seven = install(alloc, SEVEN)?;
-    reply_to(alloc, &mut state, 1, seven)?;
-    let first = call(alloc, 0, &[])?;
-    assert_eq!(rt;
-        reply_to(alloc, &mut state, 2, first)?.as_str(),
-        "2 000000000000000007"
-    );
-    let bytes = state.to_bytes()?;
-    assert_eq!(rt;
-        encode(alloc, bytes.as_slice())?.as_str(),
-        "0100000000000000020000000100000064000000000000000200000000000000020000000900000000000000000700000001000000010000000100000010b700000007000000950000000000000000000000"
-    );
-    assert_eq!(rt;
-        state.digest().0,
-        <Sha256 as Digest>::digest(bytes.as_slice())
-    );
-    assert_eq!(rt; state.number().0, 2);
+    let mut state = genesis(alloc, &[(100, 1)])?;
+    expect(&rt, &mut state, 1, install(alloc, SEVEN)?, "1 0000000000")?;
+    let seven = "2 000000000000000007";
+    expect(&rt, &mut state, 2, call(alloc, 0, &[])?, seven)?;
+    expect_bytes(&rt, &state, SMALL_STATE)?;
+    assert!(rt; state.number().0 == 2);
     let outcome = state.apply(None)?;
-    assert_eq!(rt; outcome.number.0, 3);
-    assert!(rt; outcome.reply.is_none());
+    assert!(rt; outcome.number.0 == 3 && outcome.reply.is_none());
     Ok(())
 }
 
@@ -236,7 +223,7 @@ const FULL_STATE: &str = "\
 fn a_full_state_as_bytes(rt: HostRuntime) -> Result<(), Fail> {
     let alloc = rt.alloc();
     let clients = [(300, 2), (100, 1), (200, 1), (150, 2)];
-    let mut state = State::genesis(alloc, config(alloc, &clients)?)?;
+    let mut state = genesis(alloc, &clients)?;
     let mut high = [0xee; 48];
     high[0] = 2;
     apply(&mut state, &request(300, 70, install(alloc, SEVEN)?))?;
@@ -245,11 +232,7 @@ fn a_full_state_as_bytes(rt: HostRuntime) -> Result<(), Fail> {
     apply(&mut state, &request(100, 5, call(alloc, 0, &high)?))?;
     apply(&mut state, &request(200, 92, call(alloc, 0, &[1, 1, 1])?))?;
     apply(&mut state, &request(100, 6, call(alloc, 1, &[9; 48])?))?;
-    assert_eq!(rt;
-        encode(alloc, state.to_bytes()?.as_slice())?.as_str(),
-        FULL_STATE
-    );
-    Ok(())
+    expect_bytes(&rt, &state, FULL_STATE)
 }
 
 #[test]
@@ -262,11 +245,8 @@ fn each_tenant_has_its_own_procedures(rt: HostRuntime) -> Result<(), Fail> {
         let reply = outcome.reply.ok_or("no reply")?;
         results.push_str(encode(alloc, reply.result.as_slice())?.as_str())?;
     }
-    assert_eq!(rt; results.as_str(), "000000000000000000000000000001");
-    assert_eq!(rt;
-        state.last_reply(ClientId(300)).ok_or("no reply")?.number.0,
-        2
-    );
+    assert!(rt; results.as_str() == "000000000000000000000000000001");
+    assert!(rt; state.last_reply(ClientId(300)).ok_or("no reply")?.number.0 == 2);
     Ok(())
 }
 
@@ -284,17 +264,11 @@ fn a_map_fills_up(rt: HostRuntime) -> Result<(), Fail> {
         let full = if number < 4096 { 0u8 } else { 1 };
         let number = number + 2;
         let wanted = format!(in alloc; "{number} 00000000000000000{full}")?;
-        assert_eq!(rt; reply.as_str(), wanted.as_str());
+        assert!(rt; reply.as_str() == wanted.as_str());
     }
     entry[..4].copy_from_slice(&[0; 4]);
     let again = call(alloc, 0, &entry)?;
-    assert_eq!(rt;
-        reply_to(alloc, &mut state, 5000, again)?.as_str(),
-        "4099 000000000000000000"
-    );
-    assert_eq!(rt;
-        state.to_bytes()?.len(),
-        13 + 33 + 4 + 8 + 36 + 4 + 48 * 4096
-    );
+    expect(&rt, &mut state, 5000, again, "4099 000000000000000000")?;
+    assert!(rt; state.to_bytes()?.len() == 13 + 33 + 4 + 8 + 36 + 4 + 48 * 4096);
     Ok(())
 }

@@ -2,7 +2,7 @@
 
 ghost use Rattle.std.specs.Prelude.{◌≤◌};
 
-use super::*;
+use bpf_decode::{DecodeFault, Insn, Refusal, Reg, Size, Source, decode_all, encode_all};
 use bpf_num::{AluOp, AluWidth, SwapKind, Test, Width};
 use std::alloc::Global;
 use std::test::Fail;

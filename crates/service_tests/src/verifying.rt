@@ -1,7 +1,7 @@
 //! Verdicts at worked values.
 
-use super::*;
 use bpf_decode::DecodeFault;
+use bpf_verifier::{Refusal, VerifyFault, verify};
 use std::alloc::{AllocError, Global};
 use std::test::Fail;
 
@@ -137,10 +137,7 @@ fn refusals(rt: HostRuntime) -> Result<(), Fail> {
         ),
     ];
     for (name, slots, fault, slot) in rows {
-        match verify(rt.alloc(), &code(rt.alloc(), slots)?) {
-            Ok(_) => assert!(rt; false, "{name}: accepted"),
-            Err(refusal) => assert_eq!(rt; refusal, Refusal { fault, slot }, "{name}"),
-        }
+        assert!(rt; is_refused(rt.alloc(), slots, fault, slot)?, "{name}");
     }
     Ok(())
 }
@@ -166,10 +163,7 @@ fn accepted(rt: HostRuntime) -> Result<(), Fail> {
         ),
     ];
     for (name, slots, bound) in rows {
-        match verify(rt.alloc(), &code(rt.alloc(), slots)?) {
-            Ok(procedure) => assert_eq!(rt; procedure.bound(), bound, "{name}"),
-            Err(refusal) => assert!(rt; false, "{name}: {refusal}"),
-        }
+        assert!(rt; bound_of(rt.alloc(), slots)? == Some(bound), "{name}");
     }
     Ok(())
 }
