@@ -1,8 +1,9 @@
 -- The sweep: what each edge brings to its target, and what that makes of the slots.
-use Rattle.std.proofs.Common.{◌≡◌, ◌≢◌, ◌⊎◌, ℕ, zero, suc, ◌+◌, ◌-◌, ◌<◌, ◌≤◌, Bool, true, false, cond, eqb, max, List, [], ◌∷◌, ◌++◌, length, get_or, set, replicate, Option, Some, None, ℤ, refl, sym, ap, subst, ◌∙◌, arith, inl, inr}
+use Rattle.std.proofs.Common.{◌≡◌, ◌≢◌, ◌⊎◌, ℕ, zero, suc, ◌+◌, ◌-◌, ◌<◌, ◌≤◌, Bool, true, false, cond, eqb, max, List, [], ◌∷◌, ◌++◌, length, get_or, set, replicate, Option, Some, None, Box, ℤ, refl, sym, ap, subst, ◌∙◌, arith, inl, inr}
 use Rattle.std.specs.Prelude.{fold, slice_get, option_and_then, Result, Ok, Err, IfOk, IfErr}
 use Rattle.std.proofs.lemmas.Option.{slice_get-get_or}
 use Rattle.std.specs.Option.{option_map}
+use Rattle.std.specs.declared.alloc.Global.{Global}
 use Rattle.std.proofs.lemmas.Bool.{cases_lt}
 use Rattle.std.proofs.lemmas.Bool.Decides.{eqb_tells}
 use Rattle.std.proofs.lemmas.List.{get_or-set_same, get_or-set_other, get_or_past, get_or_default, length-set, length-replicate, append-nil, append_assoc}
@@ -26,7 +27,7 @@ use Rattle.bpf_verifier.specs.declared.abstract_state.AbstractState.{AbstractSta
 use Rattle.bpf_verifier.specs.declared.dataflow.Visit.{Visit}
 use Rattle.bpf_verifier.specs.FrameBytes.{has_byte, Marks}
 use Rattle.bpf_verifier.specs.Represents.{state_of, Represents, RepresentsOption, join_with}
-use Rattle.bpf_verifier.specs.Sweep.{pending_at, VisitJoined, Pushed, Flowed, HasAtLeast, OfSteps, AreFew, SweepAt, IsStart, IsStructured}
+use Rattle.bpf_verifier.specs.Sweep.{Pending, Brings, pending_at, VisitJoined, Pushed, Flowed, HasAtLeast, OfSteps, AreFew, SweepAt, IsStart, IsStructured}
 use Rattle.bpf_verifier.proofs.Bits.{not_equal}
 
 abbrev pub state_in : Option Visit → Option AbstractState
@@ -34,22 +35,28 @@ state_in o = option_map (λ (v : Visit). v.state) o
 
 -- ---- one edge
 
-pub pushed : (old : List (Option Visit)) (e : Edge) (steps : ℕ) (v : Visit) → VisitJoined (pending_at old e.target) e.state steps (Some v) → e.target < length old → Pushed e steps old (set old e.target (Some v))
-pushed old e steps v is inside = record {
-  length_is = length-set old e.target (Some v);
-  others = λ t apart. get_or-set_other old e.target t (Some v) None apart;
-  joined = λ h. subst (VisitJoined (pending_at old e.target) e.state steps) (sym (get_or-set_same old e.target (Some v) None inside)) is;
-}
+-- what is pending where a visit is
+abbrev pub visit_in : Option (Box Visit Global) → Option Visit
+visit_in o = option_map (λ (b : Box Visit Global). b.value) o
 
-pub not_pushed : (old : List (Option Visit)) (e : Edge) (steps : ℕ) → length old ≤ e.target → Pushed e steps old old
+pub pushed : (old : Pending) (e : Edge) (steps : ℕ) (z : Option (Box Visit Global)) (b : Box Visit Global) → VisitJoined (pending_at old e.target) e.state steps (Some b.value) → e.target < length old → Pushed e steps old (set (set old e.target z) e.target (Some b))
+pushed old e steps z b is inside =
+    let within : e.target < length (set old e.target z) = subst (λ (n : ℕ). e.target < n) (sym (length-set old e.target z)) inside in
+    record {
+      length_is = length-set (set old e.target z) e.target (Some b) ∙ length-set old e.target z;
+      others = λ t apart. ap visit_in (get_or-set_other (set old e.target z) e.target t (Some b) None apart ∙ get_or-set_other old e.target t z None apart);
+      joined = λ h. subst (VisitJoined (pending_at old e.target) e.state steps) (sym (ap visit_in (get_or-set_same (set old e.target z) e.target (Some b) None within))) is;
+    }
+
+pub not_pushed : (old : Pending) (e : Edge) (steps : ℕ) → length old ≤ e.target → Pushed e steps old old
 not_pushed old e steps past = record {
   length_is = refl;
   others = λ t apart. refl;
   joined = λ h. absurd (omega (arith, h, past));
 }
 
-pub flowed-append : (es fs : List Edge) (steps : ℕ) (old mid new : List (Option Visit)) → Flowed es steps old mid → Flowed fs steps mid new → Flowed (es ++ fs) steps old new
-flowed-append [] fs steps old mid new h k = subst (λ (l : List (Option Visit)). Flowed fs steps l new) (sym h) k
+pub flowed-append : (es fs : List Edge) (steps : ℕ) (old mid new : Pending) → Flowed es steps old mid → Flowed fs steps mid new → Flowed (es ++ fs) steps old new
+flowed-append [] fs steps old mid new h k = subst (λ (l : Pending). Flowed fs steps l new) (sym h) k
 flowed-append (e ∷ es) fs steps old mid new (m, p, h) k = (m, p, flowed-append es fs steps m mid new h k)
 
 -- ---- the states
@@ -75,20 +82,20 @@ flows_past t e es xs is = rw is refl
 -- what edges bring to slot t
 module _ (t steps : ℕ) where
   -- what one edge to it makes of it
-  joined_here : (e : Edge) (old mid : List (Option Visit)) → Pushed e steps old mid → e.target ≡ t → t < length old → VisitJoined (pending_at old t) e.state steps (pending_at mid t)
+  joined_here : (e : Edge) (old mid : Pending) → Pushed e steps old mid → e.target ≡ t → t < length old → VisitJoined (pending_at old t) e.state steps (pending_at mid t)
   joined_here e old mid p same inside =
       subst (λ (k : ℕ). VisitJoined (pending_at old k) e.state steps (pending_at mid k)) same (p.joined (subst (λ (k : ℕ). k < length old) (sym same) inside))
 
-  not_here : (e : Edge) (old mid : List (Option Visit)) → Pushed e steps old mid → e.target ≢ t → pending_at mid t ≡ pending_at old t
+  not_here : (e : Edge) (old mid : Pending) → Pushed e steps old mid → e.target ≢ t → pending_at mid t ≡ pending_at old t
   not_here e old mid p apart = p.others t (λ same. apart (sym same))
 
-  still_inside : (e : Edge) (old mid : List (Option Visit)) → Pushed e steps old mid → t < length old → t < length mid
+  still_inside : (e : Edge) (old mid : Pending) → Pushed e steps old mid → t < length old → t < length mid
   still_inside e old mid p inside = subst (λ (n : ℕ). t < n) (sym p.length_is) inside
 
-  pub states_flow : (es : List Edge) (old new : List (Option Visit)) (xs : List model.AbstractState) → t < length old → Flowed es steps old new → RepresentsOption (state_in (pending_at old t)) (join_all xs) → RepresentsOption (state_in (pending_at new t)) (join_all (xs ++ flows_to t es))
+  pub states_flow : (es : List Edge) (old new : Pending) (xs : List model.AbstractState) → t < length old → Flowed es steps old new → RepresentsOption (state_in (pending_at old t)) (join_all xs) → RepresentsOption (state_in (pending_at new t)) (join_all (xs ++ flows_to t es))
   states_flow [] old new xs inside flowed h =
       subst (λ (l : List model.AbstractState). RepresentsOption (state_in (pending_at new t)) (join_all l)) (sym (append-nil xs))
-      (subst (λ (l : List (Option Visit)). RepresentsOption (state_in (pending_at l t)) (join_all xs)) flowed h)
+      (subst (λ (l : Pending). RepresentsOption (state_in (pending_at l t)) (join_all xs)) flowed h)
   states_flow (e ∷ es) old new xs inside (mid, p, flowed) h =
       elim (eqb_tells e.target t) [
         | inl (is, same) ↦
@@ -111,8 +118,8 @@ module _ (t steps : ℕ) where
   joined_steps None s (Some v) h = let is = h.1 in omega (arith, is)
   joined_steps (Some b) s (Some v) h = let is = h.1 in omega (arith, is)
 
-  pub least_flow : (es : List Edge) (old new : List (Option Visit)) (n : ℕ) → t < length old → Flowed es steps old new → HasAtLeast (pending_at old t) n → HasAtLeast (pending_at new t) n
-  least_flow [] old new n inside flowed h = subst (λ (l : List (Option Visit)). HasAtLeast (pending_at l t) n) flowed h
+  pub least_flow : (es : List Edge) (old new : Pending) (n : ℕ) → t < length old → Flowed es steps old new → HasAtLeast (pending_at old t) n → HasAtLeast (pending_at new t) n
+  least_flow [] old new n inside flowed h = subst (λ (l : Pending). HasAtLeast (pending_at l t) n) flowed h
   least_flow (e ∷ es) old new n inside (mid, p, flowed) h =
       least_flow es mid new n (still_inside e old mid p inside) flowed
       (elim (eqb_tells e.target t) [
@@ -120,7 +127,7 @@ module _ (t steps : ℕ) where
         | inr (is, apart) ↦ subst (λ (o : Option Visit). HasAtLeast o n) (sym (not_here e old mid p apart)) h
       ])
 
-  pub brought : (es : List Edge) (old new : List (Option Visit)) (d : Edge) → t < length old → Flowed es steps old new → IsOneOf d es → d.target ≡ t → HasAtLeast (pending_at new t) steps
+  pub brought : (es : List Edge) (old new : Pending) (d : Edge) → t < length old → Flowed es steps old new → IsOneOf d es → d.target ≡ t → HasAtLeast (pending_at new t) steps
   brought [] old new d inside flowed one same = absurd one
   brought (e ∷ es) old new d inside (mid, p, flowed) (inl is) same =
       let to : e.target ≡ t = ap (λ (c : Edge). c.target) (sym is) ∙ same in
@@ -137,8 +144,8 @@ module _ (t steps : ℕ) where
         | inr le ↦ let is = h.1 in let same : before.steps ≡ v.steps = omega (arith, is, le) in subst P same b
       ]
 
-  pub steps_flow : (P : ℕ → Type 0) (es : List Edge) (old new : List (Option Visit)) → t < length old → Flowed es steps old new → ((e : Edge) → IsOneOf e es → e.target ≡ t → P steps) → OfSteps P (pending_at old t) → OfSteps P (pending_at new t)
-  steps_flow P [] old new inside flowed brings h = subst (λ (l : List (Option Visit)). OfSteps P (pending_at l t)) flowed h
+  pub steps_flow : (P : ℕ → Type 0) (es : List Edge) (old new : Pending) → t < length old → Flowed es steps old new → ((e : Edge) → IsOneOf e es → e.target ≡ t → P steps) → OfSteps P (pending_at old t) → OfSteps P (pending_at new t)
+  steps_flow P [] old new inside flowed brings h = subst (λ (l : Pending). OfSteps P (pending_at l t)) flowed h
   steps_flow P (e ∷ es) old new inside (mid, p, flowed) brings h =
       steps_flow P es mid new (still_inside e old mid p inside) flowed (λ d one same. brings d (inr one) same)
       (elim (eqb_tells e.target t) [
@@ -146,7 +153,7 @@ module _ (t steps : ℕ) where
         | inr (is, apart) ↦ subst (OfSteps P) (sym (not_here e old mid p apart)) h
       ])
 
-pub length_flow : (es : List Edge) (steps : ℕ) (old new : List (Option Visit)) → Flowed es steps old new → length new ≡ length old
+pub length_flow : (es : List Edge) (steps : ℕ) (old new : Pending) → Flowed es steps old new → length new ≡ length old
 length_flow [] steps old new flowed = ap length (sym flowed)
 length_flow (e ∷ es) steps old new (mid, p, flowed) = length_flow es steps mid new flowed ∙ p.length_is
 
@@ -155,17 +162,17 @@ OfSteps-weaker P Q f None h = tt
 OfSteps-weaker P Q f (Some v) h = f v.steps h
 
 -- few steps before, one more now
-pub few_flow : (es : List Edge) (steps slot : ℕ) (old new : List (Option Visit)) → Flowed es steps old new → steps ≤ slot + 1 → AreFew old slot → AreFew new (slot + 1)
+pub few_flow : (es : List Edge) (steps slot : ℕ) (old new : Pending) → Flowed es steps old new → steps ≤ slot + 1 → AreFew old slot → AreFew new (slot + 1)
 few_flow es steps slot old new flowed h few t =
     elim (cases_lt t (length old)) [
       | inl inside ↦ steps_flow t steps (λ n. n ≤ slot + 1) es old new inside flowed (λ e one same. h) (OfSteps-weaker (λ n. n ≤ slot) (λ n. n ≤ slot + 1) (λ n k. omega (arith, k)) (pending_at old t) (few t))
       | inr past ↦
           let long = length_flow es steps old new flowed in
-          let none : pending_at new t ≡ None = get_or_past new t None (omega (arith, past, long)) in
+          let none : pending_at new t ≡ None = ap visit_in (get_or_past new t None (omega (arith, past, long))) in
           subst (OfSteps (λ n. n ≤ slot + 1)) (sym none) tt
     ]
 
-pub few_more : (slot : ℕ) (pending : List (Option Visit)) → AreFew pending slot → AreFew pending (slot + 1)
+pub few_more : (slot : ℕ) (pending : Pending) → AreFew pending slot → AreFew pending (slot + 1)
 few_more slot pending few t = OfSteps-weaker (λ n. n ≤ slot) (λ n. n ≤ slot + 1) (λ n k. omega (arith, k)) (pending_at pending t) (few t)
 
 -- ---- one slot
@@ -188,7 +195,7 @@ pub record Idle (code : List Insn) (slot more bound : ℕ) : Type 0 where
   pub no_path : (n : ℕ) → Path code n slot → ⊥
   pub more_is : more ≡ bound
 
-module _ (code : List Insn) (slot : ℕ) (old : List (Option Visit)) (bound : ℕ) (p : SweepAt code slot old bound) (structured : IsStructured code) (inside : slot < length old) where
+module _ (code : List Insn) (slot : ℕ) (old : Pending) (bound : ℕ) (p : SweepAt code slot old bound) (structured : IsStructured code) (inside : slot < length old) where
   weaker : (o : Option Visit) (a b : ℕ) → b ≤ a → HasAtLeast o a → HasAtLeast o b
   weaker None a b h k = absurd k
   weaker (Some v) a b h k = omega (arith, h, k)
@@ -253,47 +260,50 @@ module _ (code : List Insn) (slot : ℕ) (old : List (Option Visit)) (bound : �
       ap (λ (o : Option model.AbstractState). slot_dataflow_fault o (insn_at code slot)) here.1 ∙ ap (slot_dataflow_fault (Some m)) is
       ∙ sym (found m.initialized here.2.initialized_are ∙ ap (λ (s : model.AbstractState). insn_dataflow_fault s x) (same_state v.state m here.2))
 
-  pub flowed_here : (v : Visit) (x : Insn) (steps : ℕ) (new : List (Option Visit)) → pending_at old slot ≡ Some v → insn_at code slot ≡ Some x → ((marked : ℕ → Bool) → Marks v.state.initialized.words marked → Flowed (edges slot (state_of v.state.ranges marked) x) steps old new) → Flowed (edges_at code slot) steps old new
-  flowed_here v x steps new e is flows =
+  pub flowed_here : (v : Visit) (x : Insn) (steps : ℕ) (mid new : Pending) → pending_at old slot ≡ Some v → insn_at code slot ≡ Some x → ((marked : ℕ → Bool) → Marks v.state.initialized.words marked → Flowed (edges slot (state_of v.state.ranges marked) x) steps mid new) → Flowed (edges_at code slot) steps mid new
+  flowed_here v x steps mid new e is flows =
       let here = state_here v e in
       let m = here.0 in
       let are : edges_at code slot ≡ edges slot m x = ap (λ (o : Option model.AbstractState). edges_of slot o (insn_at code slot)) here.1 ∙ ap (edges_of slot (Some m)) is in
-      subst (λ (es : List Edge). Flowed es steps old new) (sym are)
-      (subst (λ (s : model.AbstractState). Flowed (edges slot s x) steps old new) (same_state v.state m here.2) (flows m.initialized here.2.initialized_are))
+      subst (λ (es : List Edge). Flowed es steps mid new) (sym are)
+      (subst (λ (s : model.AbstractState). Flowed (edges slot s x) steps mid new) (same_state v.state m here.2) (flows m.initialized here.2.initialized_are))
 
-  module _ (new : List (Option Visit)) (steps more : ℕ) (flowed : Flowed (edges_at code slot) steps old new) (right : dataflow_fault code slot ≡ None) where
+  module _ (mid new : Pending) (steps more : ℕ) (same_length : length mid ≡ length old) (same : (t : ℕ) → slot < t → pending_at mid t ≡ pending_at old t) (flowed : Flowed (edges_at code slot) steps mid new) (right : dataflow_fault code slot ≡ None) where
     next_right : (k : ℕ) → k < suc slot → dataflow_fault code k ≡ None
     next_right k h =
         elim (cases_lt k slot) [
           | inl lt ↦ p.right k lt
-          | inr le ↦ let same : slot ≡ k = omega (arith, h, le) in subst (λ (j : ℕ). dataflow_fault code j ≡ None) same right
+          | inr le ↦ let at : slot ≡ k = omega (arith, h, le) in subst (λ (j : ℕ). dataflow_fault code j ≡ None) at right
         ]
 
     next_states : (t : ℕ) → suc slot ≤ t → t < length new → RepresentsOption (state_in (pending_at new t)) (join_all (incoming code (suc slot) t))
     next_states t low high =
-        let long = length_flow (edges_at code slot) steps old new flowed in
+        let long = length_flow (edges_at code slot) steps mid new flowed ∙ same_length in
         let there : t < length old = omega (arith, high, long) in
-        states_flow t steps (edges_at code slot) old new (incoming code slot t) there flowed (p.states t (omega (arith, low)) there)
+        let within : t < length mid = omega (arith, there, same_length) in
+        states_flow t steps (edges_at code slot) mid new (incoming code slot t) within flowed (subst (λ (o : Option Visit). RepresentsOption (state_in o) (join_all (incoming code slot t))) (sym (same t (omega (arith, low)))) (p.states t (omega (arith, low)) there))
 
     pub sweep_reached : Reached code slot steps more bound → SweepAt code (suc slot) new more
     sweep_reached r = record {
-      long = length_flow (edges_at code slot) steps old new flowed ∙ p.long;
+      long = length_flow (edges_at code slot) steps mid new flowed ∙ same_length ∙ p.long;
       states = next_states;
-      longest = λ t low high n s e less path one same.
-          let long = length_flow (edges_at code slot) steps old new flowed in
+      longest = λ t low high n s e less path one to.
+          let long = length_flow (edges_at code slot) steps mid new flowed ∙ same_length in
           let there : t < length old = omega (arith, high, long) in
+          let within : t < length mid = omega (arith, there, same_length) in
           elim (cases_lt s slot) [
-            | inl lt ↦ least_flow t steps (edges_at code slot) old new (suc n) there flowed (p.longest t (omega (arith, low)) there n s e lt path one same)
+            | inl lt ↦ least_flow t steps (edges_at code slot) mid new (suc n) within flowed (subst (λ (o : Option Visit). HasAtLeast o (suc n)) (sym (same t (omega (arith, low)))) (p.longest t (omega (arith, low)) there n s e lt path one to))
             | inr le ↦
                 let at : s ≡ slot = omega (arith, less, le) in
                 let most : n + 1 ≤ steps = r.longest n (subst (Path code n) at path) in
-                weaker (pending_at new t) steps (suc n) (omega (arith, most)) (brought t steps (edges_at code slot) old new e there flowed (subst (λ (k : ℕ). IsOneOf e (edges_at code k)) at one) same)
+                weaker (pending_at new t) steps (suc n) (omega (arith, most)) (brought t steps (edges_at code slot) mid new e within flowed (subst (λ (k : ℕ). IsOneOf e (edges_at code k)) at one) to)
           ];
       met = λ t low high.
-          let long = length_flow (edges_at code slot) steps old new flowed in
+          let long = length_flow (edges_at code slot) steps mid new flowed ∙ same_length in
           let there : t < length old = omega (arith, high, long) in
+          let within : t < length mid = omega (arith, there, same_length) in
           let one_more : steps ≡ suc r.before = omega (arith, r.steps_is) in
-          steps_flow t steps (λ n. Path code n t) (edges_at code slot) old new there flowed (λ e one same. subst (λ (n : ℕ). Path code n t) (sym one_more) (slot, e, r.path, one, same)) (p.met t (omega (arith, low)) there);
+          steps_flow t steps (λ n. Path code n t) (edges_at code slot) mid new within flowed (λ e one to. subst (λ (n : ℕ). Path code n t) (sym one_more) (slot, e, r.path, one, to)) (subst (OfSteps (λ n. Path code n t)) (sym (same t (omega (arith, low)))) (p.met t (omega (arith, low)) there));
       right = next_right;
       enough = λ n s less path.
           let is = r.more_is in
@@ -317,19 +327,21 @@ module _ (code : List Insn) (slot : ℕ) (old : List (Option Visit)) (bound : �
 
     pub sweep_idle : Idle code slot more bound → SweepAt code (suc slot) new more
     sweep_idle r = record {
-      long = length_flow (edges_at code slot) steps old new flowed ∙ p.long;
+      long = length_flow (edges_at code slot) steps mid new flowed ∙ same_length ∙ p.long;
       states = next_states;
-      longest = λ t low high n s e less path one same.
-          let long = length_flow (edges_at code slot) steps old new flowed in
+      longest = λ t low high n s e less path one to.
+          let long = length_flow (edges_at code slot) steps mid new flowed ∙ same_length in
           let there : t < length old = omega (arith, high, long) in
+          let within : t < length mid = omega (arith, there, same_length) in
           elim (cases_lt s slot) [
-            | inl lt ↦ least_flow t steps (edges_at code slot) old new (suc n) there flowed (p.longest t (omega (arith, low)) there n s e lt path one same)
+            | inl lt ↦ least_flow t steps (edges_at code slot) mid new (suc n) within flowed (subst (λ (o : Option Visit). HasAtLeast o (suc n)) (sym (same t (omega (arith, low)))) (p.longest t (omega (arith, low)) there n s e lt path one to))
             | inr le ↦ let at : s ≡ slot = omega (arith, less, le) in absurd (r.no_path n (subst (Path code n) at path))
           ];
       met = λ t low high.
-          let long = length_flow (edges_at code slot) steps old new flowed in
+          let long = length_flow (edges_at code slot) steps mid new flowed ∙ same_length in
           let there : t < length old = omega (arith, high, long) in
-          steps_flow t steps (λ n. Path code n t) (edges_at code slot) old new there flowed (λ e one same. absurd (subst (IsOneOf e) r.no_edges one)) (p.met t (omega (arith, low)) there);
+          let within : t < length mid = omega (arith, there, same_length) in
+          steps_flow t steps (λ n. Path code n t) (edges_at code slot) mid new within flowed (λ e one to. absurd (subst (IsOneOf e) r.no_edges one)) (subst (OfSteps (λ n. Path code n t)) (sym (same t (omega (arith, low)))) (p.met t (omega (arith, low)) there));
       right = next_right;
       enough = λ n s less path.
           let is = r.more_is in
@@ -345,16 +357,17 @@ module _ (code : List Insn) (slot : ℕ) (old : List (Option Visit)) (bound : �
 
 -- ---- the code's steps
 
-pub push_flows : (old : List (Option Visit)) (t : ℕ) (s : AbstractState) (steps : ℕ) (v : Visit) (b : Option Visit) → b ≡ get_or old t b → ((of : model.AbstractState) → Represents s of → VisitJoined b of steps (Some v)) → t < length old → (target : Option ℕ) → target ≡ Some t → (state : Option AbstractState) → state ≡ Some s → (of : Option model.AbstractState) → RepresentsOption state of → Flowed (edge_if target of) steps old (set old t (Some v))
-push_flows old t s steps v b is joins inside target te state se of r =
-    subst (λ (q : Option ℕ). Flowed (edge_if q of) steps old (set old t (Some v))) (sym te) (there of (subst (λ (q : Option AbstractState). RepresentsOption q of) se r)) where
-      there : (o : Option model.AbstractState) → RepresentsOption (Some s) o → Flowed (edge_if (Some t) o) steps old (set old t (Some v))
+-- a visit has come to a slot: what stands there now is joined of both
+pub push_flows : (old : Pending) (t : ℕ) (v after : Box Visit Global) (b d z : Option (Box Visit Global)) → b ≡ get_or old t d → ((of : model.AbstractState) → Represents v.value.state of → VisitJoined (visit_in b) of v.value.steps (Some after.value)) → t < length old → (target : Option ℕ) → target ≡ Some t → (visit : Option (Box Visit Global)) → visit ≡ Some v → (of : Option model.AbstractState) (steps : ℕ) → Brings visit of steps → Flowed (edge_if target of) steps old (set (set old t z) t (Some after))
+push_flows old t v after b d z is joins inside target te visit ve of steps r =
+    subst (λ (q : Option ℕ). Flowed (edge_if q of) steps old (set (set old t z) t (Some after))) (sym te) (there of (subst (λ (q : Option (Box Visit Global)). Brings q of steps) ve r)) where
+      there : (o : Option model.AbstractState) → Brings (Some v) o steps → Flowed (edge_if (Some t) o) steps old (set (set old t z) t (Some after))
       there None h = absurd h
       there (Some m) h =
-          (set old t (Some v), pushed old (edge t m) steps v (subst (λ (q : Option Visit). VisitJoined q m steps (Some v)) (is ∙ get_or_default old t b None inside) (joins m h)) inside, refl)
+          (set (set old t z) t (Some after), pushed old (edge t m) steps z after (subst (λ (q : Option (Box Visit Global)). VisitJoined (visit_in q) m steps (Some after.value)) (is ∙ get_or_default old t d None inside) (subst (λ (n : ℕ). VisitJoined (visit_in b) m n (Some after.value)) h.1 (joins m h.0))) inside, refl)
 
 -- the edge to the slot behind an instruction that is no jump, no test, no local call and no exit
-pub onward_is : (slot : ℕ) (m : model.AbstractState) (x : Insn) (n steps : ℕ) (old new : List (Option Visit)) → ((offset : ℤ) → x ≡ insn.Jump offset → ⊥) → ((offset : ℤ) → x ≡ insn.JumpLong offset → ⊥) → ((narrow : Bool) (test : Test) (dst : Reg) (src : Source) (offset : ℤ) → x ≡ insn.Test narrow test dst src offset → ⊥) → ((offset : ℤ) → x ≡ insn.CallLocal offset → ⊥) → (x ≡ insn.Exit → ⊥) → n ≡ slots_of x → Flowed (edge_if (Some (slot + n)) (Some (after_insn m x))) steps old new → Flowed (edges slot m x) steps old new
+pub onward_is : (slot : ℕ) (m : model.AbstractState) (x : Insn) (n steps : ℕ) (old new : Pending) → ((offset : ℤ) → x ≡ insn.Jump offset → ⊥) → ((offset : ℤ) → x ≡ insn.JumpLong offset → ⊥) → ((narrow : Bool) (test : Test) (dst : Reg) (src : Source) (offset : ℤ) → x ≡ insn.Test narrow test dst src offset → ⊥) → ((offset : ℤ) → x ≡ insn.CallLocal offset → ⊥) → (x ≡ insn.Exit → ⊥) → n ≡ slots_of x → Flowed (edge_if (Some (slot + n)) (Some (after_insn m x))) steps old new → Flowed (edges slot m x) steps old new
 onward_is slot m x n steps old new nj nl nt nc ne is h = at x nj nl nt nc ne (subst (λ (k : ℕ). Flowed (edge_if (Some (slot + k)) (Some (after_insn m x))) steps old new) is h) where
   at : (y : Insn) → ((offset : ℤ) → y ≡ insn.Jump offset → ⊥) → ((offset : ℤ) → y ≡ insn.JumpLong offset → ⊥) → ((narrow : Bool) (test : Test) (dst : Reg) (src : Source) (offset : ℤ) → y ≡ insn.Test narrow test dst src offset → ⊥) → ((offset : ℤ) → y ≡ insn.CallLocal offset → ⊥) → (y ≡ insn.Exit → ⊥) → Flowed (edge_if (Some (slot + slots_of y)) (Some (after_insn m y))) steps old new → Flowed (edges slot m y) steps old new
   at (insn.Alu width op dst src) nj nl nt nc ne h = h
@@ -370,29 +383,46 @@ onward_is slot m x n steps old new nj nl nt nc ne is h = at x nj nl nt nc ne (su
   at (insn.CallLocal offset) nj nl nt nc ne h = absurd (nc offset refl)
   at insn.Exit nj nl nt nc ne h = absurd (ne refl)
 
-pub pending_is : (pending : List (Option Visit)) (slot : ℕ) (r o : Option Visit) → r ≡ get_or pending slot r → slot < length pending → r ≡ o → pending_at pending slot ≡ o
-pending_is pending slot r o is inside e = sym (get_or_default pending slot r None inside) ∙ sym is ∙ e
+pub pending_is : (pending : Pending) (slot : ℕ) (r d o : Option (Box Visit Global)) → r ≡ get_or pending slot d → slot < length pending → r ≡ o → pending_at pending slot ≡ visit_in o
+pending_is pending slot r d o is inside e = ap visit_in (sym (get_or_default pending slot d None inside) ∙ sym is ∙ e)
 
-at_next : (code : List Insn) (slot : ℕ) (pending : List (Option Visit)) (bound : ℕ) → SweepAt code (suc slot) pending bound → SweepAt code (slot + 1) pending bound
+-- the same of visits that are the same
+pub joined_same : (b v before visit after : Visit) → b ≡ before → v ≡ visit → ((of : model.AbstractState) → Represents v.state of → VisitJoined (Some b) of v.steps (Some after)) → (of : model.AbstractState) → Represents visit.state of → VisitJoined (Some before) of visit.steps (Some after)
+joined_same b v before visit after be ve joins =
+    subst (λ (x : Visit). (of : model.AbstractState) → Represents visit.state of → VisitJoined (Some x) of visit.steps (Some after)) be
+    (subst (λ (x : Visit). (of : model.AbstractState) → Represents x.state of → VisitJoined (Some b) of x.steps (Some after)) ve joins)
+
+pub onward_same : (v visit : Visit) (x : Insn) (after : AbstractState) → v ≡ visit → ((marked : ℕ → Bool) → Marks v.state.initialized.words marked → Represents after (after_insn (state_of v.state.ranges marked) x)) → (marked : ℕ → Bool) → Marks visit.state.initialized.words marked → Represents after (after_insn (state_of visit.state.ranges marked) x) × (v.steps ≡ visit.steps)
+onward_same v visit x after e is marked marks =
+    (subst (λ (w : Visit). (marked : ℕ → Bool) → Marks w.state.initialized.words marked → Represents after (after_insn (state_of w.state.ranges marked) x)) e is marked marks, ap (λ (w : Visit). w.steps) e)
+
+at_next : (code : List Insn) (slot : ℕ) (pending : Pending) (bound : ℕ) → SweepAt code (suc slot) pending bound → SweepAt code (slot + 1) pending bound
 at_next code slot pending bound h = let same : suc slot ≡ slot + 1 = omega arith in subst (λ (k : ℕ). SweepAt code k pending bound) same h
 
+-- what is pending once the visit of a slot is taken out
+abbrev pub taken : Pending → ℕ → Pending
+taken old slot = set old slot None
+
+taken_others : (old : Pending) (slot t : ℕ) → slot < t → pending_at (taken old slot) t ≡ pending_at old t
+taken_others old slot t less = ap visit_in (get_or-set_other old slot t None None (λ e. absurd (omega (arith, less, e))))
+
 -- a slot that nothing has reached
-pub sweep_none : (code : List Insn) (slot : ℕ) (old : List (Option Visit)) (bound : ℕ) → SweepAt code slot old bound → IsStructured code → slot < length old → pending_at old slot ≡ None → SweepAt code (slot + 1) old bound
+pub sweep_none : (code : List Insn) (slot : ℕ) (old : Pending) (bound : ℕ) → SweepAt code slot old bound → IsStructured code → slot < length old → pending_at old slot ≡ None → SweepAt code (slot + 1) (taken old slot) bound
 sweep_none code slot old bound p structured inside e =
     let none = none_here code slot old bound p structured inside e in
     let out : edges_at code slot ≡ [] = ap (λ (o : Option model.AbstractState). edges_of slot o (insn_at code slot)) none.0 in
     let right : dataflow_fault code slot ≡ None = ap (λ (o : Option model.AbstractState). slot_dataflow_fault o (insn_at code slot)) none.0 in
-    let flowed : Flowed (edges_at code slot) 0 old old = subst (λ (es : List Edge). Flowed es 0 old old) (sym out) refl in
-    at_next code slot old bound (sweep_idle code slot old bound p structured inside old 0 bound flowed right (record { no_edges = out; no_path = none.1; more_is = refl }))
+    let flowed : Flowed (edges_at code slot) 0 (taken old slot) (taken old slot) = subst (λ (es : List Edge). Flowed es 0 (taken old slot) (taken old slot)) (sym out) refl in
+    at_next code slot (taken old slot) bound (sweep_idle code slot old bound p structured inside (taken old slot) (taken old slot) 0 bound (length-set old slot None) (taken_others old slot) flowed right (record { no_edges = out; no_path = none.1; more_is = refl }))
 
 -- a slot at which no instruction begins
-pub sweep_gap : (code : List Insn) (slot : ℕ) (old : List (Option Visit)) (bound : ℕ) → SweepAt code slot old bound → IsStructured code → slot < length old → insn_at code slot ≡ None → SweepAt code (slot + 1) old bound
+pub sweep_gap : (code : List Insn) (slot : ℕ) (old : Pending) (bound : ℕ) → SweepAt code slot old bound → IsStructured code → slot < length old → insn_at code slot ≡ None → SweepAt code (slot + 1) (taken old slot) bound
 sweep_gap code slot old bound p structured inside e =
     let some : 0 < length (insns_by_slot code) = let long = p.long in omega (arith, long, inside) in
     let out : edges_at code slot ≡ [] = ap (edges_of slot (state_at code slot)) e ∙ no_edges (state_at code slot) in
     let right : dataflow_fault code slot ≡ None = ap (slot_dataflow_fault (state_at code slot)) e ∙ no_fault (state_at code slot) in
-    let flowed : Flowed (edges_at code slot) 0 old old = subst (λ (es : List Edge). Flowed es 0 old old) (sym out) refl in
-    at_next code slot old bound (sweep_idle code slot old bound p structured inside old 0 bound flowed right (record { no_edges = out; no_path = no_insn_here code slot old bound p structured inside e some; more_is = refl })) where
+    let flowed : Flowed (edges_at code slot) 0 (taken old slot) (taken old slot) = subst (λ (es : List Edge). Flowed es 0 (taken old slot) (taken old slot)) (sym out) refl in
+    at_next code slot (taken old slot) bound (sweep_idle code slot old bound p structured inside (taken old slot) (taken old slot) 0 bound (length-set old slot None) (taken_others old slot) flowed right (record { no_edges = out; no_path = no_insn_here code slot old bound p structured inside e some; more_is = refl })) where
       no_edges : (o : Option model.AbstractState) → edges_of slot o None ≡ []
       no_edges None = refl
       no_edges (Some m) = refl
@@ -402,12 +432,19 @@ sweep_gap code slot old bound p structured inside e =
       no_fault (Some m) = refl
 
 -- a slot that has been visited
-pub sweep_visited : (code : List Insn) (slot : ℕ) (old new : List (Option Visit)) (bound more : ℕ) → SweepAt code slot old bound → IsStructured code → slot < length old → (v : Visit) (x : Insn) → pending_at old slot ≡ Some v → insn_at code slot ≡ Some x → ((marked : ℕ → Bool) → Marks v.state.initialized.words marked → None ≡ insn_dataflow_fault (state_of v.state.ranges marked) x) → ((marked : ℕ → Bool) → Marks v.state.initialized.words marked → Flowed (edges slot (state_of v.state.ranges marked) x) (v.steps + 1) old new) → more ≡ max bound (v.steps + 1) → SweepAt code (slot + 1) new more
+pub sweep_visited : (code : List Insn) (slot : ℕ) (old new : Pending) (bound more : ℕ) → SweepAt code slot old bound → IsStructured code → slot < length old → (v : Visit) (x : Insn) → pending_at old slot ≡ Some v → insn_at code slot ≡ Some x → ((marked : ℕ → Bool) → Marks v.state.initialized.words marked → None ≡ insn_dataflow_fault (state_of v.state.ranges marked) x) → ((marked : ℕ → Bool) → Marks v.state.initialized.words marked → Flowed (edges slot (state_of v.state.ranges marked) x) (v.steps + 1) (taken old slot) new) → more ≡ max bound (v.steps + 1) → SweepAt code (slot + 1) new more
 sweep_visited code slot old new bound more p structured inside v x e is right flows most =
-    at_next code slot new more (sweep_reached code slot old bound p structured inside new (v.steps + 1) more
-    (flowed_here code slot old bound p structured inside v x (v.steps + 1) new e is flows)
+    at_next code slot new more (sweep_reached code slot old bound p structured inside (taken old slot) new (v.steps + 1) more (length-set old slot None) (taken_others old slot)
+    (flowed_here code slot old bound p structured inside v x (v.steps + 1) (taken old slot) new e is flows)
     (fault_here code slot old bound p structured inside v x None e is right)
     (reached_here code slot old bound p structured inside v e more most))
+
+-- the same of visits that are the same
+pub flowed_same : (slot : ℕ) (old new : Pending) (x : Insn) (v w visit : Visit) (z : Option (Box Visit Global)) → v ≡ visit → w ≡ visit → z ≡ None → ((marked : ℕ → Bool) → Marks v.state.initialized.words marked → Flowed (edges slot (state_of v.state.ranges marked) x) (w.steps + 1) (set old slot z) new) → (marked : ℕ → Bool) → Marks visit.state.initialized.words marked → Flowed (edges slot (state_of visit.state.ranges marked) x) (visit.steps + 1) (taken old slot) new
+flowed_same slot old new x v w visit z ve we ze flows =
+    subst (λ (u : Visit). (marked : ℕ → Bool) → Marks u.state.initialized.words marked → Flowed (edges slot (state_of u.state.ranges marked) x) (visit.steps + 1) (taken old slot) new) ve
+    (subst (λ (u : Visit). (marked : ℕ → Bool) → Marks v.state.initialized.words marked → Flowed (edges slot (state_of v.state.ranges marked) x) (u.steps + 1) (taken old slot) new) we
+    (subst (λ (q : Option (Box Visit Global)). (marked : ℕ → Bool) → Marks v.state.initialized.words marked → Flowed (edges slot (state_of v.state.ranges marked) x) (w.steps + 1) (set old slot q) new) ze flows))
 
 -- the marks that the words have
 unfoldable pub own_marks : List ℕ → ℕ → Bool
@@ -417,13 +454,29 @@ pub own_marks_are : (words : List ℕ) → Marks words (own_marks words)
 unfolding own_marks
 own_marks_are words i h = let same : i ≡ frame_start 0 + i - frame_start 0 = omega arith in ap (has_byte words) same
 
-pub steps_few : (slot : ℕ) (pending : List (Option Visit)) (v : Visit) → AreFew pending slot → pending_at pending slot ≡ Some v → v.steps ≤ slot
+pub steps_few : (slot : ℕ) (pending : Pending) (v : Visit) → AreFew pending slot → pending_at pending slot ≡ Some v → v.steps ≤ slot
 steps_few slot pending v few e = subst (OfSteps (λ n. n ≤ slot)) e (few slot)
 
-pub few_visited : (slot : ℕ) (old new : List (Option Visit)) (v : Visit) (x : Insn) → AreFew old slot → pending_at old slot ≡ Some v → ((marked : ℕ → Bool) → Marks v.state.initialized.words marked → Flowed (edges slot (state_of v.state.ranges marked) x) (v.steps + 1) old new) → AreFew new (slot + 1)
+pub few_taken : (slot : ℕ) (old : Pending) → AreFew old slot → AreFew (taken old slot) slot
+few_taken slot old few t =
+    elim (eqb_tells t slot) [
+      | inl (is, same) ↦ subst (OfSteps (λ n. n ≤ slot)) (sym (ap visit_in (nothing (cases_lt slot (length old)) t same))) tt
+      | inr (is, apart) ↦ subst (OfSteps (λ n. n ≤ slot)) (sym (ap visit_in (get_or-set_other old slot t None None apart))) (few t)
+    ] where
+      nothing : (slot < length old) ⊎ (length old ≤ slot) → (t : ℕ) → t ≡ slot → get_or (set old slot None) t None ≡ None
+      nothing (inl inside) t same = ap (λ (k : ℕ). get_or (set old slot None) k None) same ∙ get_or-set_same old slot None None inside
+      nothing (inr past) t same =
+          let long = length-set old slot None in
+          get_or_past (set old slot None) t None (omega (arith, past, long, same))
+
+pub few_visited : (slot : ℕ) (old new : Pending) (v : Visit) (x : Insn) → AreFew old slot → pending_at old slot ≡ Some v → ((marked : ℕ → Bool) → Marks v.state.initialized.words marked → Flowed (edges slot (state_of v.state.ranges marked) x) (v.steps + 1) (taken old slot) new) → AreFew new (slot + 1)
 few_visited slot old new v x few e flows =
     let short : v.steps ≤ slot = steps_few slot old v few e in
-    few_flow (edges slot (state_of v.state.ranges (own_marks v.state.initialized.words)) x) (v.steps + 1) slot old new (flows (own_marks v.state.initialized.words) (own_marks_are v.state.initialized.words)) (omega (arith, short)) few
+    few_flow (edges slot (state_of v.state.ranges (own_marks v.state.initialized.words)) x) (v.steps + 1) slot (taken old slot) new (flows (own_marks v.state.initialized.words) (own_marks_are v.state.initialized.words)) (omega (arith, short)) (few_taken slot old few)
+
+pub length_visited : (slot : ℕ) (old new : Pending) (v : Visit) (x : Insn) → ((marked : ℕ → Bool) → Marks v.state.initialized.words marked → Flowed (edges slot (state_of v.state.ranges marked) x) (v.steps + 1) (taken old slot) new) → length new ≡ length old
+length_visited slot old new v x flows =
+    length_flow (edges slot (state_of v.state.ranges (own_marks v.state.initialized.words)) x) (v.steps + 1) (taken old slot) new (flows (own_marks v.state.initialized.words) (own_marks_are v.state.initialized.words)) ∙ length-set old slot None
 
 -- ---- the whole sweep
 
@@ -433,7 +486,7 @@ insn_there code slots slot r same inside is =
     ap (λ (l : List (Option Insn)). option_and_then (λ (insn : Option Insn). insn) (slice_get l slot)) (sym same)
     ∙ ap (option_and_then (λ (insn : Option Insn). insn)) (slice_get-get_or slots slot r inside) ∙ sym is
 
-abbrev nones : ℕ → List (Option Visit)
+abbrev nones : ℕ → Pending
 nones n = replicate n None
 
 nothing_pending : (k t : ℕ) → pending_at (replicate k None) t ≡ None
@@ -441,29 +494,29 @@ nothing_pending zero t = refl
 nothing_pending (suc k) zero = refl
 nothing_pending (suc k) (suc t) = nothing_pending k t
 
-pub one_more_none : (v : Option Visit) (k : ℕ) → (v ∷ replicate k None) ++ None ∷ [] ≡ v ∷ replicate (suc k) None
-one_more_none v k = ap (λ (l : List (Option Visit)). v ∷ l) (more k) where
+pub one_more_none : (v : Option (Box Visit Global)) (k : ℕ) → (v ∷ replicate k None) ++ None ∷ [] ≡ v ∷ replicate (suc k) None
+one_more_none v k = ap (λ (l : Pending). v ∷ l) (more k) where
   more : (n : ℕ) → nones n ++ None ∷ [] ≡ nones (suc n)
   more zero = refl
-  more (suc n) = ap (λ (l : List (Option Visit)). None ∷ l) (more n)
+  more (suc n) = ap (λ (l : Pending). None ∷ l) (more n)
 
-pub few_start : (pending : List (Option Visit)) (n : ℕ) → IsStart pending n → AreFew pending 0
-few_start pending n s t = subst (λ (l : List (Option Visit)). OfSteps (λ k. k ≤ 0) (pending_at l t)) (sym s.pending_is) (at t) where
+pub few_start : (pending : Pending) (n : ℕ) → IsStart pending n → AreFew pending 0
+few_start pending n s t = subst (λ (l : Pending). OfSteps (λ k. k ≤ 0) (pending_at l t)) (sym s.pending_is) (at t) where
   at : (t : ℕ) → OfSteps (λ k. k ≤ 0) (pending_at (Some s.visit ∷ replicate (n - 1) None) t)
   at zero = let is = s.steps in omega (arith, is)
   at (suc t) = subst (OfSteps (λ k. k ≤ 0)) (sym (nothing_pending (n - 1) t)) tt
 
-pub long_start : (pending : List (Option Visit)) (n : ℕ) → 0 < n → IsStart pending n → length pending ≡ n
+pub long_start : (pending : Pending) (n : ℕ) → 0 < n → IsStart pending n → length pending ≡ n
 long_start pending n some s =
     let one : length pending ≡ suc (length (nones (n - 1))) = ap length s.pending_is in
     let more : length (nones (n - 1)) ≡ n - 1 = length-replicate (n - 1) None in omega (arith, one, more, some)
 
-pub sweep_start : (code : List Insn) (pending : List (Option Visit)) (n : ℕ) → n ≡ length (insns_by_slot code) → 0 < n → IsStart pending n → SweepAt code 0 pending 0
+pub sweep_start : (code : List Insn) (pending : Pending) (n : ℕ) → n ≡ length (insns_by_slot code) → 0 < n → IsStart pending n → SweepAt code 0 pending 0
 sweep_start code pending n is some s = record {
   long = long_start pending n some s ∙ is;
-  states = λ t low high. subst (λ (l : List (Option Visit)). RepresentsOption (state_in (pending_at l t)) (join_all (incoming code 0 t))) (sym s.pending_is) (states t);
+  states = λ t low high. subst (λ (l : Pending). RepresentsOption (state_in (pending_at l t)) (join_all (incoming code 0 t))) (sym s.pending_is) (states t);
   longest = λ t low high m k e less path one same. absurd (omega (arith, less));
-  met = λ t low high. subst (λ (l : List (Option Visit)). OfSteps (λ m. Path code m t) (pending_at l t)) (sym s.pending_is) (met t);
+  met = λ t low high. subst (λ (l : Pending). OfSteps (λ m. Path code m t) (pending_at l t)) (sym s.pending_is) (met t);
   right = λ k h. absurd (omega (arith, h));
   enough = λ m k less path. absurd (omega (arith, less));
   reached = inl (refl, refl);
@@ -479,7 +532,7 @@ sweep_start code pending n is some s = record {
   met zero = subst (λ (m : ℕ). Path code m 0) (sym s.steps) refl
   met (suc t) = subst (OfSteps (λ m. Path code m (suc t))) (sym (nothing_pending (n - 1) t)) tt
 
-module _ (code : List Insn) (slot : ℕ) (pending : List (Option Visit)) (bound : ℕ) (p : SweepAt code slot pending bound) (structured : IsStructured code) (all : length (insns_by_slot code) ≤ slot) (some : 0 < length (insns_by_slot code)) where
+module _ (code : List Insn) (slot : ℕ) (pending : Pending) (bound : ℕ) (p : SweepAt code slot pending bound) (structured : IsStructured code) (all : length (insns_by_slot code) ≤ slot) (some : 0 < length (insns_by_slot code)) where
   pub all_right : (k : ℕ) → dataflow_fault code k ≡ None
   all_right k =
       elim (cases_lt k slot) [
@@ -507,7 +560,7 @@ module _ (code : List Insn) (slot : ℕ) (pending : List (Option Visit)) (bound 
     met (inr h) = h
 
 -- what the sweep finds, from the start
-module _ (r : Result ℕ Refusal) (slots : List (Option Insn)) (pending new : List (Option Visit)) (some : 0 < length slots) (start : IsStart pending (length slots)) where
+module _ (r : Result ℕ Refusal) (slots : List (Option Insn)) (pending new : Pending) (some : 0 < length slots) (start : IsStart pending (length slots)) where
   swept : (code : List Insn) → slots ≡ insns_by_slot code → SweepAt code 0 pending 0
   swept code same = sweep_start code pending (length slots) (ap length same) some start
 
@@ -530,21 +583,22 @@ module _ (r : Result ℕ Refusal) (slots : List (Option Insn)) (pending new : Li
         all_right code (length slots) new bound (k code same structured (swept code same)) structured (omega (arith, n)) (omega (arith, n, some))
     at (Err e) k = tt
 
-  pub found_fault : IfErr r (λ e. (code : List Insn) → slots ≡ insns_by_slot code → IsStructured code → SweepAt code 0 pending 0 → IsFirst (dataflow_fault code) e.fault e.slot) → IfErr r (λ e. (e.fault ≡ Memory) ⊎ ((code : List Insn) → slots ≡ insns_by_slot code → IsStructured code → IsFirst (dataflow_fault code) e.fault e.slot))
+  pub found_fault : IfErr r (λ e. (e.fault ≡ Memory) ⊎ ((code : List Insn) → slots ≡ insns_by_slot code → IsStructured code → SweepAt code 0 pending 0 → IsFirst (dataflow_fault code) e.fault e.slot)) → IfErr r (λ e. (e.fault ≡ Memory) ⊎ ((code : List Insn) → slots ≡ insns_by_slot code → IsStructured code → IsFirst (dataflow_fault code) e.fault e.slot))
   found_fault h = at r h where
-    at : (q : Result ℕ Refusal) → IfErr q (λ e. (code : List Insn) → slots ≡ insns_by_slot code → IsStructured code → SweepAt code 0 pending 0 → IsFirst (dataflow_fault code) e.fault e.slot) → IfErr q (λ e. (e.fault ≡ Memory) ⊎ ((code : List Insn) → slots ≡ insns_by_slot code → IsStructured code → IsFirst (dataflow_fault code) e.fault e.slot))
+    at : (q : Result ℕ Refusal) → IfErr q (λ e. (e.fault ≡ Memory) ⊎ ((code : List Insn) → slots ≡ insns_by_slot code → IsStructured code → SweepAt code 0 pending 0 → IsFirst (dataflow_fault code) e.fault e.slot)) → IfErr q (λ e. (e.fault ≡ Memory) ⊎ ((code : List Insn) → slots ≡ insns_by_slot code → IsStructured code → IsFirst (dataflow_fault code) e.fault e.slot))
     at (Ok bound) k = tt
-    at (Err e) k = inr (λ code same structured. k code same structured (swept code same))
+    at (Err e) (inl memory) = inl memory
+    at (Err e) (inr k) = inr (λ code same structured. k code same structured (swept code same))
 
-pub start_one : (pending : List (Option Visit)) (v : Visit) → pending ≡ Some v ∷ [] → Represents v.state start_state → v.steps ≡ 0 → IsStart pending 1
+pub start_one : (pending : Pending) (v : Box Visit Global) → pending ≡ Some v ∷ [] → Represents v.value.state start_state → v.value.steps ≡ 0 → IsStart pending 1
 start_one pending v is start none = record { visit = v; pending_is = is; state = start; steps = none }
 
-pub start_more : (pending next : List (Option Visit)) (n : ℕ) → IsStart pending n → 0 < n → next ≡ pending ++ None ∷ [] → IsStart next (n + 1)
+pub start_more : (pending next : Pending) (n : ℕ) → IsStart pending n → 0 < n → next ≡ pending ++ None ∷ [] → IsStart next (n + 1)
 start_more pending next n s some is =
     let same : suc (n - 1) ≡ n + 1 - 1 = omega (arith, some) in
     record {
       visit = s.visit;
-      pending_is = is ∙ ap (λ (l : List (Option Visit)). l ++ None ∷ []) s.pending_is ∙ one_more_none (Some s.visit) (n - 1) ∙ ap (λ (k : ℕ). Some s.visit ∷ nones k) same;
+      pending_is = is ∙ ap (λ (l : Pending). l ++ None ∷ []) s.pending_is ∙ one_more_none (Some s.visit) (n - 1) ∙ ap (λ (k : ℕ). Some s.visit ∷ nones k) same;
       state = s.state;
       steps = s.steps;
     }

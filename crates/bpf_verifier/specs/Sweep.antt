@@ -1,6 +1,7 @@
 -- Internal: what the pending states say as the sweep comes to a slot.
-use Rattle.std.specs.Prelude.{◌≡◌, ◌≢◌, ◌⊎◌, ℕ, suc, ◌+◌, ◌-◌, ◌<◌, ◌≤◌, max, replicate, List, [], ◌∷◌, length, slice_index_or, Option, Some, None}
+use Rattle.std.specs.Prelude.{◌≡◌, ◌≢◌, ◌⊎◌, ℕ, suc, ◌+◌, ◌-◌, ◌<◌, ◌≤◌, max, replicate, List, [], ◌∷◌, length, slice_index_or, Option, Some, None, Box}
 use Rattle.std.specs.Option.{option_map}
+use Rattle.std.specs.declared.alloc.Global.{Global}
 use Rattle.bpf_decode.specs.declared.insn.Insn.{Insn}
 use Rattle.bpf_model.specs.Code.{insns_by_slot}
 use Rattle.bpf_model.specs.AbstractState as model
@@ -10,9 +11,13 @@ use Rattle.bpf_model.specs.Verdict.{structure_fault, dataflow_fault}
 use Rattle.bpf_verifier.specs.declared.dataflow.Visit.{Visit}
 use Rattle.bpf_verifier.specs.Represents.{Represents, RepresentsOption, join_with}
 
+-- What is pending for each slot.
+abbrev pub Pending : Type 0
+Pending = List (Option (Box Visit Global))
+
 -- What is pending for a slot.
-abbrev pub pending_at : List (Option Visit) → ℕ → Option Visit
-pending_at pending t = slice_index_or pending t None
+abbrev pub pending_at : Pending → ℕ → Option Visit
+pending_at pending t = option_map (λ (b : Box Visit Global). b.value) (slice_index_or pending t None)
 
 -- The greater count of steps.
 abbrev pub StepsJoined : Option Visit → ℕ → ℕ → Type 0
@@ -27,16 +32,23 @@ VisitJoined before state steps (Some after) =
     Represents after.state (join_with of state))
     × StepsJoined before steps after.steps
 
+-- A visit brings this state and so many steps, where there is one.
+abbrev pub Brings : Option (Box Visit Global) → Option model.AbstractState → ℕ → Type 0
+Brings None None steps = Unit {0}
+Brings None (Some of) steps = ⊥
+Brings (Some visit) None steps = ⊥
+Brings (Some visit) (Some of) steps = Represents visit.value.state of × (visit.value.steps ≡ steps)
+
 -- An edge has brought its state to its target, and nowhere else.
-pub record Pushed (e : Edge) (steps : ℕ) (old new : List (Option Visit)) : Type 0 where
+pub record Pushed (e : Edge) (steps : ℕ) (old new : Pending) : Type 0 where
   pub length_is : length new ≡ length old
   pub others : (t : ℕ) → t ≢ e.target → pending_at new t ≡ pending_at old t
   pub joined : e.target < length old → VisitJoined (pending_at old e.target) e.state steps (pending_at new e.target)
 
 -- These edges have, one after the other.
-abbrev pub Flowed : List Edge → ℕ → List (Option Visit) → List (Option Visit) → Type 0
+abbrev pub Flowed : List Edge → ℕ → Pending → Pending → Type 0
 Flowed [] steps old new = old ≡ new
-Flowed (e ∷ es) steps old new = (mid : List (Option Visit)) × Pushed e steps old mid × Flowed es steps mid new
+Flowed (e ∷ es) steps old new = (mid : Pending) × Pushed e steps old mid × Flowed es steps mid new
 
 -- A visit takes no fewer steps.
 abbrev pub HasAtLeast : Option Visit → ℕ → Type 0
@@ -49,12 +61,12 @@ OfSteps P None = Unit {0}
 OfSteps P (Some visit) = P visit.steps
 
 -- No visit that is pending takes more steps than there were slots.
-abbrev pub AreFew : List (Option Visit) → ℕ → Type 0
+abbrev pub AreFew : Pending → ℕ → Type 0
 AreFew pending slot = (t : ℕ) → OfSteps (λ n. n ≤ slot) (pending_at pending t)
 
 -- As the sweep comes to a slot: for it and each later one the state that all edges out of the slots before have
 -- brought, and the length of the longest path; no slot before has a fault, and the bound is that of their paths.
-pub record SweepAt (code : List Insn) (slot : ℕ) (pending : List (Option Visit)) (bound : ℕ) : Type 0 where
+pub record SweepAt (code : List Insn) (slot : ℕ) (pending : Pending) (bound : ℕ) : Type 0 where
   pub long : length pending ≡ length (insns_by_slot code)
   pub states : (t : ℕ) → slot ≤ t → t < length pending →
       RepresentsOption (option_map (λ (v : Visit). v.state) (pending_at pending t)) (join_all (incoming code slot t))
@@ -70,8 +82,8 @@ abbrev pub IsStructured : List Insn → Type 0
 IsStructured code = (slot : ℕ) → structure_fault code slot ≡ None
 
 -- What is pending as a call begins, for so many slots: the start at the first.
-pub record IsStart (pending : List (Option Visit)) (slots : ℕ) : Type 0 where
-  pub visit : Visit
+pub record IsStart (pending : Pending) (slots : ℕ) : Type 0 where
+  pub visit : Box Visit Global
   pub pending_is : pending ≡ Some visit ∷ replicate (slots - 1) None
-  pub state : Represents visit.state start_state
-  pub steps : visit.steps ≡ 0
+  pub state : Represents visit.value.state start_state
+  pub steps : visit.value.steps ≡ 0

@@ -15,13 +15,13 @@ use reg_ranges::{Range, refine, swap_range, transfer32, transfer64};
 impl AbstractState {
     ghost use Rattle.std.specs.Prelude.{◌≡◌, ℕ, ◌+◌, ◌<◌, ◌||◌, Bool};
     ghost use Rattle.std.specs.Option.{option_map};
-    ghost use Rattle.reg_ranges.specs.RangeOf.{range_of};
+    ghost use Rattle.reg_ranges.specs.RangeOf.{range_of, ranges_of as pair_of};
     ghost use Rattle.bpf_model.specs.Helpers.{writes};
     ghost use Rattle.bpf_model.specs.Machine.{frame_start};
     ghost use Rattle.bpf_model.specs.Access.{bytes_of};
-    ghost use Rattle.bpf_model.specs.AbstractState.{after_insn, after_store, address_range, after_helper, after_test, alu_range, source_range, tested_range, is_written};
+    ghost use Rattle.bpf_model.specs.AbstractState.{after_insn, after_store, address_range, after_helper, after_test, with_ranges, alu_range, source_range, tested_range, is_written};
     ghost use Rattle.bpf_verifier.specs.FrameBytes.{has_byte, Marks};
-    ghost use Rattle.bpf_verifier.specs.Represents.{Represents, RepresentsOption, state_of};
+    ghost use Rattle.bpf_verifier.specs.Represents.{Represents, state_of};
 
     /// Goes over an instruction, by the edge to the slot behind it.
     pub fn after_insn(&mut self, insn: &Insn)
@@ -156,33 +156,40 @@ impl AbstractState {
             .insert_all((from - FRAME_START) as usize, (to - FRAME_START) as usize);
     }
 
-    /// The state behind a test that is taken, or isn't; none where that can't be.
-    pub fn after_test(
+    /// The ranges of a test's operands where it is taken, or isn't; none where that can't be.
+    pub fn tested(
         &self,
         narrow: bool,
         test: Test,
         dst: Reg,
         src: Source,
         taken: bool,
-    ) -> Option<AbstractState>
-        ensures { (marked : ℕ → Bool) → Marks self.now.initialized.words marked →
-            RepresentsOption result
-            (after_test (state_of self.now.ranges marked) narrow test dst.number src taken) }
+    ) -> Option<(Range, Range)>
+        ensures { (marked : ℕ → Bool) →
+            option_map (λ r. with_ranges (state_of self.now.ranges marked) dst.number src (pair_of r)) result ≡
+            after_test (state_of self.now.ranges marked) narrow test dst.number src taken }
     {
         let b = self.tested_range(narrow, src)?;
         let a = self.range_of(dst.number)?;
-        let (a, b) = refine(test, narrow, a, b, taken)?;
-        let mut state = *self;
+        refine(test, narrow, a, b, taken)
+    }
+
+    /// Gives the operands of a test these ranges. Where both are one register, it keeps its own.
+    pub fn set_tested(&mut self, dst: Reg, src: Source, ranges: (Range, Range))
+        ensures { (marked : ℕ → Bool) → Marks self.old.initialized.words marked →
+            Represents self.new
+            (with_ranges (state_of self.old.ranges marked) dst.number src (pair_of ranges)) }
+    {
+        let (a, b) = ranges;
         match src {
-            Source::Imm(_) => state.set(dst, Some(a)),
+            Source::Imm(_) => self.set(dst, Some(a)),
             Source::Reg(src) => {
                 if dst.number != src.number {
-                    state.set(dst, Some(a));
-                    state.set(src, Some(b));
+                    self.set(dst, Some(a));
+                    self.set(src, Some(b));
                 }
             }
         }
-        Some(state)
     }
 
     /// What a test compares with.

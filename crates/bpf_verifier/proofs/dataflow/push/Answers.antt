@@ -2,6 +2,6 @@ use Rattle.bpf_verifier.proofs.Sweeps.{push_flows}
 use Rattle.bpf_verifier.proofs.dataflow.push.Goals as goal
 
 pub returns-then-target-pending : goal.returns-then-target-pending
-returns-then-target-pending c = λ of r.
+returns-then-target-pending c =
     let x = c.in-Some-Some in
-    push_flows c.args.pending.now x.target x.state c.args.steps c.joined.result c.index-pending-target.result c.index-pending-target.is c.joined.ensures c.if-target-pending.true c.args.target x.is-0 c.args.state x.is-1 of r
+    push_flows c.args.pending.now x.target x.visit c.joined.result c.take-before.result c.index-pending-target.result c.take-before.new.self c.take-before.ensures.value c.joined.ensures c.if-target-pending.true c.args.target x.is-0 c.args.visit x.is-1

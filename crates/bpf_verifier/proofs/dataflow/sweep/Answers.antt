@@ -6,7 +6,7 @@ pub loop-slot-preserved : goal.loop-slot-preserved
 loop-slot-preserved c =
     let i = c.loop-slot.invariant in
     record {
-      long = c.visit_slot.ensures.length ∙ i.long;
+      long = c.in-Ok.ensures.length ∙ i.long;
       few = c.in-Ok.ensures.few;
       sweep = λ code same structured start.
           c.in-Ok.ensures.right code structured (insn_there code c.args.slots.now c.loop-slot.slot c.index-slots-slot.result same c.loop-slot-test.true c.index-slots-slot.is) (i.sweep code same structured start);
