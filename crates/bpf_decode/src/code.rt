@@ -42,7 +42,7 @@ fn read_code(alloc: Global, bytes: &[u8]) -> Result<Vec<Insn>, Refusal>
         return Err(Refusal { fault, slot: 0 });
     }
     let slots = bytes.len() / SLOT;
-    let mut code = Vec::new(alloc);
+    let mut code = Vec::with_capacity(alloc, slots)?;
     let mut slot = 0;
     while slot < slots {
         let insn = read_insn(bytes, slot)?;

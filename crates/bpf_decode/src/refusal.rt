@@ -3,7 +3,7 @@
 ghost use Rattle.std.specs.Prelude.{◌≡◌};
 ghost use Rattle.bpf_decode.specs.Faults.{number_of};
 
-use std::alloc::AllocFailed;
+use std::alloc::{AllocError, AllocFailed};
 use thiserror::Error;
 
 /// Why bytes are no code. Of several faults the first one is reported: first those of the
@@ -68,6 +68,20 @@ impl<T: Drop> From<AllocFailed<T>> for Refusal {
     ghost from_gives = { λ _ refusal. refusal.fault ≡ Memory };
 
     fn from(_: AllocFailed<T>) -> Refusal {
+        Refusal {
+            fault: DecodeFault::Memory,
+            slot: 0,
+        }
+    }
+}
+
+impl From<AllocError> for Refusal {
+    ghost use Rattle.std.specs.Prelude.{◌≡◌};
+    ghost use Rattle.bpf_decode.specs.declared.refusal.DecodeFault.TheVariants.{Memory};
+
+    ghost from_gives = { λ _ refusal. refusal.fault ≡ Memory };
+
+    fn from(_: AllocError) -> Refusal {
         Refusal {
             fault: DecodeFault::Memory,
             slot: 0,

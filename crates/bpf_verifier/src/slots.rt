@@ -12,7 +12,7 @@ use std::alloc::{AllocError, Global};
 pub fn insns_by_slot(alloc: Global, code: &[Insn]) -> Result<Vec<Option<Insn>>, AllocError>
     ensures { IfOk result (λ slots. slots.items ≡ insns_by_slot code.now) }
 {
-    let mut slots = Vec::new(alloc);
+    let mut slots = Vec::with_capacity(alloc, code.len())?;
     for insn in code {
         slots.push(Some(*insn))?;
         if insn.slots() > 1 {

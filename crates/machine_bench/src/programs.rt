@@ -148,10 +148,9 @@ fn accesses(alloc: Global, count: u32) -> Result<Program, AllocError> {
     ended_program("loads_and_stores", code)
 }
 
-/// Tests that jump over an addition, some of them of low halves.
-pub fn tests(alloc: Global, name: &'static str, count: u32) -> Result<Program, AllocError> {
+/// Appends tests that jump over an addition, some of them of low halves.
+fn push_tests(code: &mut Vec<u8>, count: u32) -> Result<(), AllocError> {
     let mut numbers = Numbers(3);
-    let mut code = with_registers(alloc)?;
     for _ in 0..count {
         let class = if numbers.below(4) == 0 { 1 } else { 0 };
         let opcode = one_of(&mut numbers, &TESTS).wrapping_add(class);
@@ -165,6 +164,25 @@ pub fn tests(alloc: Global, name: &'static str, count: u32) -> Result<Program, A
         let dst = register(&mut numbers);
         code.extend_from_slice(&slot(0x07, dst, 0, 0, 41))?;
     }
+    Ok(())
+}
+
+/// Tests of constants: the verifier knows of each which edge is taken.
+pub fn tests(alloc: Global, name: &'static str, count: u32) -> Result<Program, AllocError> {
+    let mut code = with_registers(alloc)?;
+    push_tests(&mut code, count)?;
+    ended_program(name, code)
+}
+
+/// Tests of numbers that are loaded: nearly each can be taken or not, and its edges join behind the
+/// addition.
+pub fn joins(alloc: Global, name: &'static str, count: u32) -> Result<Program, AllocError> {
+    let mut code = Vec::new(alloc);
+    for register in [0u8, 3, 4, 5, 6, 7, 8, 9] {
+        let offset = i16::from(register).wrapping_mul(4);
+        code.extend_from_slice(&slot(0x61, register, 1, offset, 0))?;
+    }
+    push_tests(&mut code, count)?;
     ended_program(name, code)
 }
 

@@ -1,6 +1,6 @@
 //! Runs of the programs, and their times.
 
-use crate::programs::{Program, all, tests};
+use crate::programs::{Program, all, joins, tests};
 use anyhow::{Result, anyhow};
 use bpf_machine::{Finished, run};
 use bpf_verifier::{Procedure, verify};
@@ -106,12 +106,26 @@ fn picoseconds_of_slot(rt: &HostRuntime, program: &Program) -> Result<u128> {
     Ok(least.saturating_mul(10) / u128::from(slots))
 }
 
-/// Prints what the verifier takes for a slot of code of tests and joins; an error where it is too much.
+/// Prints what the verifier takes for a slot of two programs, the second one four times as long as the
+/// first. Whether both limits are kept.
+fn keeps_limits(rt: &HostRuntime, name: &str, short: &Program, long: &Program) -> Result<bool> {
+    let short = picoseconds_of_slot(rt, short)?;
+    let long = picoseconds_of_slot(rt, long)?;
+    println!(rt;
+        "verify, {name}: {short} ps a slot of 255, {long} ps a slot of 1,023, limit {SLOT} ps"
+    )?;
+    Ok(long <= SLOT && long.saturating_mul(1000) <= short.saturating_mul(LINEAR))
+}
+
+/// Prints what the verifier takes for a slot of tests that it decides, and of tests whose edges join; an
+/// error where it is too much.
 pub fn print_verification(rt: &HostRuntime) -> Result<()> {
-    let short = picoseconds_of_slot(rt, &tests(rt.alloc(), "short", 123)?)?;
-    let long = picoseconds_of_slot(rt, &tests(rt.alloc(), "long", 507)?)?;
-    println!(rt; "verify: {short} ps a slot of 255, {long} ps a slot of 1,023, limit {SLOT} ps")?;
-    if long <= SLOT && long.saturating_mul(1000) <= short.saturating_mul(LINEAR) {
+    let alloc = rt.alloc();
+    let (short, long) = (tests(alloc, "short", 123)?, tests(alloc, "long", 507)?);
+    let decided = keeps_limits(rt, "decided tests", &short, &long)?;
+    let (short, long) = (joins(alloc, "short", 123)?, joins(alloc, "long", 507)?);
+    let joined = keeps_limits(rt, "tests with joins", &short, &long)?;
+    if decided && joined {
         Ok(())
     } else {
         Err(anyhow!("a limit is passed"))
