@@ -1,10 +1,10 @@
 -- The verifier's arrays, and the abstract states that they represent.
-use Rattle.std.proofs.Common.{◌≡◌, ℕ, zero, suc, ◌+◌, ◌-◌, ◌<◌, ◌≤◌, Bool, true, false, ◌&&◌, ◌||◌, cond, eqb, leb, List, [], ◌∷◌, length, get_or, Option, Some, None, refl, sym, ap, subst, ◌∙◌, arith, inl, inr}
+use Rattle.std.proofs.Common.{◌≡◌, ℕ, zero, suc, ◌+◌, ◌-◌, ◌<◌, ◌≤◌, Bool, true, false, ◌&&◌, ◌||◌, cond, eqb, leb, List, [], ◌∷◌, length, get_or, set, Option, Some, None, refl, sym, ap, subst, ◌∙◌, arith, inl, inr}
 use Rattle.std.specs.Option.{option_map}
 use Rattle.std.specs.List.{list_any}
-use Rattle.std.proofs.lemmas.Bool.{le-leb}
-use Rattle.std.proofs.lemmas.Bool.Decides.{leb_tells}
-use Rattle.std.proofs.lemmas.List.{get_or_default, get_or_past}
+use Rattle.std.proofs.lemmas.Bool.{le-leb, cases_lt}
+use Rattle.std.proofs.lemmas.Bool.Decides.{leb_tells, eqb_tells}
+use Rattle.std.proofs.lemmas.List.{get_or_default, get_or_past, get_or-set_same, get_or-set_other, length-set}
 use Rattle.reg_ranges.specs.Ranges as reg
 use Rattle.reg_ranges.specs.RangeOf.{range_of}
 use Rattle.reg_ranges.specs.declared.range.Range.{Range}
@@ -57,33 +57,51 @@ module _ (words : List ℕ) (range : reg.Range) (size : ℕ) (ordered : range.lo
 
 -- ---- joins
 
-module _ (a b : List (Option Range)) (la : length a ≡ 11) (lb : length b ≡ 11) where
-  abbrev pub Joined : ℕ → Option Range → Type 0
-  Joined k x = option_map range_of x ≡ join_option (ranges_of a k) (ranges_of b k)
+-- the ranges of the first k registers are joined
+pub record AreJoined (k : ℕ) (now old other : List (Option Range)) : Type 0 where
+  pub long : length now ≡ 11
+  pub joined : (r : ℕ) → r < k → ranges_of now r ≡ join_option (ranges_of old r) (ranges_of other r)
+  pub rest : (r : ℕ) → k ≤ r → ranges_of now r ≡ ranges_of old r
 
-  pub joined_at : (k : ℕ) (x d e : Option Range) → k < 11 → option_map range_of x ≡ join_option (option_map range_of (get_or a k d)) (option_map range_of (get_or b k e)) → Joined k x
-  joined_at k x d e h is =
-      let p : k < length a = omega (arith, h, la) in
-      let q : k < length b = omega (arith, h, lb) in
-      is ∙ ap (λ (o : Option Range). join_option (option_map range_of o) (option_map range_of (get_or b k e))) (get_or_default a k d None p)
-      ∙ ap (λ (o : Option Range). join_option (ranges_of a k) (option_map range_of o)) (get_or_default b k e None q)
+pub joined_none : (old other : List (Option Range)) → length old ≡ 11 → AreJoined 0 old old other
+joined_none old other long = record {
+  long = long;
+  joined = λ r h. absurd (omega (arith, h));
+  rest = λ r h. refl;
+}
 
-  pub joined_ranges : (x0 x1 x2 x3 x4 x5 x6 x7 x8 x9 x10 : Option Range) → Joined 0 x0 → Joined 1 x1 → Joined 2 x2 → Joined 3 x3 → Joined 4 x4 → Joined 5 x5 → Joined 6 x6 → Joined 7 x7 → Joined 8 x8 → Joined 9 x9 → Joined 10 x10 → (r : ℕ) → ranges_of (x0 ∷ x1 ∷ x2 ∷ x3 ∷ x4 ∷ x5 ∷ x6 ∷ x7 ∷ x8 ∷ x9 ∷ x10 ∷ []) r ≡ join_option (ranges_of a r) (ranges_of b r)
-  joined_ranges x0 x1 x2 x3 x4 x5 x6 x7 x8 x9 x10 e0 e1 e2 e3 e4 e5 e6 e7 e8 e9 e10 zero = e0
-  joined_ranges x0 x1 x2 x3 x4 x5 x6 x7 x8 x9 x10 e0 e1 e2 e3 e4 e5 e6 e7 e8 e9 e10 (suc zero) = e1
-  joined_ranges x0 x1 x2 x3 x4 x5 x6 x7 x8 x9 x10 e0 e1 e2 e3 e4 e5 e6 e7 e8 e9 e10 (suc (suc zero)) = e2
-  joined_ranges x0 x1 x2 x3 x4 x5 x6 x7 x8 x9 x10 e0 e1 e2 e3 e4 e5 e6 e7 e8 e9 e10 (suc (suc (suc zero))) = e3
-  joined_ranges x0 x1 x2 x3 x4 x5 x6 x7 x8 x9 x10 e0 e1 e2 e3 e4 e5 e6 e7 e8 e9 e10 (suc (suc (suc (suc zero)))) = e4
-  joined_ranges x0 x1 x2 x3 x4 x5 x6 x7 x8 x9 x10 e0 e1 e2 e3 e4 e5 e6 e7 e8 e9 e10 (suc (suc (suc (suc (suc zero))))) = e5
-  joined_ranges x0 x1 x2 x3 x4 x5 x6 x7 x8 x9 x10 e0 e1 e2 e3 e4 e5 e6 e7 e8 e9 e10 (suc (suc (suc (suc (suc (suc zero)))))) = e6
-  joined_ranges x0 x1 x2 x3 x4 x5 x6 x7 x8 x9 x10 e0 e1 e2 e3 e4 e5 e6 e7 e8 e9 e10 (suc (suc (suc (suc (suc (suc (suc zero))))))) = e7
-  joined_ranges x0 x1 x2 x3 x4 x5 x6 x7 x8 x9 x10 e0 e1 e2 e3 e4 e5 e6 e7 e8 e9 e10 (suc (suc (suc (suc (suc (suc (suc (suc zero)))))))) = e8
-  joined_ranges x0 x1 x2 x3 x4 x5 x6 x7 x8 x9 x10 e0 e1 e2 e3 e4 e5 e6 e7 e8 e9 e10 (suc (suc (suc (suc (suc (suc (suc (suc (suc zero))))))))) = e9
-  joined_ranges x0 x1 x2 x3 x4 x5 x6 x7 x8 x9 x10 e0 e1 e2 e3 e4 e5 e6 e7 e8 e9 e10 (suc (suc (suc (suc (suc (suc (suc (suc (suc (suc zero)))))))))) = e10
-  joined_ranges x0 x1 x2 x3 x4 x5 x6 x7 x8 x9 x10 e0 e1 e2 e3 e4 e5 e6 e7 e8 e9 e10 (suc (suc (suc (suc (suc (suc (suc (suc (suc (suc (suc r))))))))))) =
-      let n : ℕ = suc (suc (suc (suc (suc (suc (suc (suc (suc (suc (suc r)))))))))) in
-      let none : get_or a n None ≡ None = get_or_past a n None (omega (arith, la)) in
-      sym (ap (λ (o : Option Range). join_option (option_map range_of o) (ranges_of b n)) none)
+pub joined_more : (k : ℕ) (now old other : List (Option Range)) (x d e : Option Range) → AreJoined k now old other → k < 11 → length other ≡ 11 → option_map range_of x ≡ join_option (option_map range_of (get_or now k d)) (option_map range_of (get_or other k e)) → AreJoined (k + 1) (set now k x) old other
+joined_more k now old other x d e j h long is = record {
+  long = length-set now k x ∙ j.long;
+  joined = λ r less. elim (eqb_tells r k) [
+    | inl (_, same) ↦ subst (λ (i : ℕ). ranges_of (set now k x) i ≡ join_option (ranges_of old i) (ranges_of other i)) (sym same) here
+    | inr (_, apart) ↦ ap (option_map range_of) (get_or-set_other now k r x None apart) ∙ j.joined r (below r less apart)
+  ];
+  rest = λ r past. ap (option_map range_of) (get_or-set_other now k r x None (λ (same : r ≡ k). absurd (omega (arith, past, same)))) ∙ j.rest r (omega (arith, past));
+} where
+  inside : k < length now
+  inside = let n = j.long in omega (arith, h, n)
+
+  below : (r : ℕ) → r < k + 1 → (r ≡ k → ⊥) → r < k
+  below r less apart = elim (cases_lt r k) [ inl lt ↦ lt | inr le ↦ absurd (apart (omega (arith, less, le))) ]
+
+  here : ranges_of (set now k x) k ≡ join_option (ranges_of old k) (ranges_of other k)
+  here =
+      ap (option_map range_of) (get_or-set_same now k x None inside) ∙ is
+      ∙ ap (λ (o : Option Range). join_option (option_map range_of o) (option_map range_of (get_or other k e))) (get_or_default now k d None inside)
+      ∙ ap (λ (o : Option Range). join_option (ranges_of now k) (option_map range_of o)) (get_or_default other k e None (omega (arith, h, long)))
+      ∙ ap (λ (o : Option reg.Range). join_option o (ranges_of other k)) (j.rest k (omega arith))
+
+pub joined_all : (now old other : List (Option Range)) → AreJoined 11 now old other → length old ≡ 11 → (r : ℕ) → ranges_of now r ≡ join_option (ranges_of old r) (ranges_of other r)
+joined_all now old other j long r =
+    elim (cases_lt r 11) [
+      | inl less ↦ j.joined r less
+      | inr past ↦
+          let n = j.long in
+          let gone : get_or now r None ≡ None = get_or_past now r None (omega (arith, past, n)) in
+          let none : get_or old r None ≡ None = get_or_past old r None (omega (arith, past, long)) in
+          ap (option_map range_of) gone ∙ sym (ap (λ (o : Option Range). join_option (option_map range_of o) (ranges_of other r)) none)
+    ]
 
 pub joined_is : (x y z : AbstractState) → ((r : ℕ) → ranges_of z.ranges r ≡ join_option (ranges_of x.ranges r) (ranges_of y.ranges r)) → ((i : ℕ) → i < 512 → has_byte z.initialized.words i ≡ (has_byte x.initialized.words i && has_byte y.initialized.words i)) → (a b : model.AbstractState) → Represents x a → Represents y b → Represents z (model.join a b)
 joined_is x y z ranges bytes a b ra rb = record {

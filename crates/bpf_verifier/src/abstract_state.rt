@@ -102,21 +102,9 @@ impl AbstractState {
         ensures { (a b : ModelState) → Represents self.old a → Represents other.now b →
             Represents self.new (join_with (Some a) b) }
     {
-        let a = self.ranges;
-        let b = other.ranges;
-        self.ranges = [
-            joined_range(a[0], b[0]),
-            joined_range(a[1], b[1]),
-            joined_range(a[2], b[2]),
-            joined_range(a[3], b[3]),
-            joined_range(a[4], b[4]),
-            joined_range(a[5], b[5]),
-            joined_range(a[6], b[6]),
-            joined_range(a[7], b[7]),
-            joined_range(a[8], b[8]),
-            joined_range(a[9], b[9]),
-            joined_range(a[10], b[10]),
-        ];
+        for register in 0..REGISTERS {
+            self.ranges[register] = joined_range(self.ranges[register], other.ranges[register]);
+        }
         self.initialized = self.initialized.intersection(&other.initialized);
     }
 }

@@ -232,22 +232,26 @@ fn split(
 {
     let onward = visit.state.tested(narrow, test, dst, src, false);
     let taken = visit.state.tested(narrow, test, dst, src, true);
-    match (onward, taken) {
-        (Some(onward), Some(taken)) => {
-            let mut other = spare.copied(&visit)?;
+    match onward {
+        Some(onward) => {
+            let other = match taken {
+                Some(taken) => {
+                    let mut other = spare.copied(&visit)?;
+                    other.state.set_tested(dst, src, taken);
+                    Some(other)
+                }
+                None => None,
+            };
             visit.state.set_tested(dst, src, onward);
-            other.state.set_tested(dst, src, taken);
-            Ok((Some(visit), Some(other)))
+            Ok((Some(visit), other))
         }
-        (Some(onward), None) => {
-            visit.state.set_tested(dst, src, onward);
-            Ok((Some(visit), None))
-        }
-        (None, Some(taken)) => {
-            visit.state.set_tested(dst, src, taken);
-            Ok((None, Some(visit)))
-        }
-        (None, None) => Ok((None, None)),
+        None => match taken {
+            Some(taken) => {
+                visit.state.set_tested(dst, src, taken);
+                Ok((None, Some(visit)))
+            }
+            None => Ok((None, None)),
+        },
     }
 }
 

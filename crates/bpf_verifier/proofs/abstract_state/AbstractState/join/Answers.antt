@@ -1,10 +1,27 @@
-use Rattle.std.proofs.Common.{◌≡◌, rules, arith, length}
-use Rattle.bpf_verifier.proofs.States.{joined_is, joined_at, joined_ranges}
+use Rattle.std.proofs.Common.{◌≡◌, ◌∙◌, ◌&&◌, ℕ, ap, subst, rules, refl, arith, length, List, Option}
+use Rattle.reg_ranges.specs.declared.range.Range.{Range}
+use Rattle.bpf_verifier.specs.declared.frame_bytes.FrameBytes.{FrameBytes}
+use Rattle.bpf_verifier.specs.FrameBytes.{has_byte}
+use Rattle.bpf_verifier.proofs.States.{AreJoined, joined_is, joined_none, joined_more, joined_all}
 use Rattle.bpf_verifier.proofs.abstract_state.AbstractState.join.Goals as goal
+
+pub loop-register-init : goal.loop-register-init
+loop-register-init c = record { joined = joined_none _ _ (search rules); marks = refl }
+
+pub loop-register-preserved : goal.loop-register-preserved
+loop-register-preserved c =
+    let i = c.loop-register.invariant in
+    let long : length c.args.other.now.ranges ≡ 11 = search rules in
+    record {
+      joined = joined_more c.loop-register.register c.loop-register.self.ranges c.args.self.now.ranges c.args.other.now.ranges c.joined_range.result _ _ i.joined c.loop-register-test.true long c.joined_range.ensures;
+      marks = i.marks;
+    }
 
 pub returns : goal.returns
 returns c =
-    let a : length c.args.self.now.ranges ≡ 11 = search rules in
-    let b : length c.args.other.now.ranges ≡ 11 = search rules in
-    let j = joined_at c.args.self.now.ranges c.args.other.now.ranges a b in
-    joined_is c.args.self.now c.args.other.now _ (joined_ranges c.args.self.now.ranges c.args.other.now.ranges a b _ _ _ _ _ _ _ _ _ _ _ (j 0 _ _ _ (omega arith) c.joined_range.ensures) (j 1 _ _ _ (omega arith) c.joined_range-2.ensures) (j 2 _ _ _ (omega arith) c.joined_range-3.ensures) (j 3 _ _ _ (omega arith) c.joined_range-4.ensures) (j 4 _ _ _ (omega arith) c.joined_range-5.ensures) (j 5 _ _ _ (omega arith) c.joined_range-6.ensures) (j 6 _ _ _ (omega arith) c.joined_range-7.ensures) (j 7 _ _ _ (omega arith) c.joined_range-8.ensures) (j 8 _ _ _ (omega arith) c.joined_range-9.ensures) (j 9 _ _ _ (omega arith) c.joined_range-10.ensures) (j 10 _ _ _ (omega arith) c.joined_range-11.ensures)) c.intersection-self.ensures
+    let i = c.loop-register.invariant in
+    let end : c.loop-register.register ≡ 11 = omega (arith, c.loop-register-test.false, c.loop-register.auto.register-end) in
+    let long : length c.args.self.now.ranges ≡ 11 = search rules in
+    let all : AreJoined 11 c.loop-register.self.ranges c.args.self.now.ranges c.args.other.now.ranges = subst (λ (k : ℕ). AreJoined k c.loop-register.self.ranges c.args.self.now.ranges c.args.other.now.ranges) end i.joined in
+    joined_is c.args.self.now c.args.other.now _ (joined_all c.loop-register.self.ranges c.args.self.now.ranges c.args.other.now.ranges all long)
+    (λ k h. c.intersection-self.ensures k h ∙ ap (λ (f : FrameBytes). has_byte f.words k && has_byte c.args.other.now.initialized.words k) i.marks)
