@@ -256,6 +256,7 @@ fn split(
 }
 
 /// Takes a visit over an edge, where there are such a slot and such a visit.
+#[inline(always)]
 fn push(
     pending: &mut [Option<Box<Visit>>],
     spare: &mut Spare,

@@ -157,6 +157,7 @@ impl AbstractState {
     }
 
     /// The ranges of a test's operands where it is taken, or isn't; none where that can't be.
+    #[inline(always)]
     pub fn tested(
         &self,
         narrow: bool,
