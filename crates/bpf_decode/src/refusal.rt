@@ -2,6 +2,7 @@
 
 ghost use Rattle.std.specs.Prelude.{◌≡◌};
 ghost use Rattle.bpf_decode.specs.Faults.{number_of};
+ghost use Rattle.bpf_decode.specs.declared.refusal.DecodeFault.TheVariants.{Memory};
 
 use std::alloc::{AllocError, AllocFailed};
 use thiserror::Error;
@@ -68,10 +69,7 @@ impl<T: Drop> From<AllocFailed<T>> for Refusal {
     ghost from_gives = { λ _ refusal. refusal.fault ≡ Memory };
 
     fn from(_: AllocFailed<T>) -> Refusal {
-        Refusal {
-            fault: DecodeFault::Memory,
-            slot: 0,
-        }
+        memory()
     }
 }
 
@@ -82,9 +80,16 @@ impl From<AllocError> for Refusal {
     ghost from_gives = { λ _ refusal. refusal.fault ≡ Memory };
 
     fn from(_: AllocError) -> Refusal {
-        Refusal {
-            fault: DecodeFault::Memory,
-            slot: 0,
-        }
+        memory()
+    }
+}
+
+/// The refusal where memory ran out.
+fn memory() -> Refusal
+    ensures { result.fault ≡ Memory }
+{
+    Refusal {
+        fault: DecodeFault::Memory,
+        slot: 0,
     }
 }

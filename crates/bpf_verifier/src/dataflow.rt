@@ -185,7 +185,12 @@ fn flow(
 {
     match insn {
         Insn::Jump { offset } => {
-            push(pending, spare, target_of(slot, i32::from(*offset)), Some(visit));
+            push(
+                pending,
+                spare,
+                target_of(slot, i32::from(*offset)),
+                Some(visit),
+            );
         }
         Insn::JumpLong { offset } => {
             push(pending, spare, target_of(slot, *offset), Some(visit));

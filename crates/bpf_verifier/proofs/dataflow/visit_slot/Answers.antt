@@ -20,9 +20,11 @@ returns-in_default-clause-right c = λ code structured is p.
 pub returns-in-Some-clause-refused : goal.returns-in-Some-clause-refused
 returns-in-Some-clause-refused c = inr (λ code structured is p.
     let x = c.in-Some-Some in
-    let e = pending_is c.args.pending.now c.args.slot c.take.result c.index-pending-slot.result (Some x.visit) c.take.ensures.value c.requires.inside x.is-1 in
-    (fault_here code c.args.slot c.args.pending.now c.args.bound p structured c.requires.inside x.visit.value x.insn c.insn_dataflow_fault.result e (is ∙ x.is-0)
-    (subst (λ (v : Visit). (marked : ℕ → Bool) → Marks v.state.initialized.words marked → c.insn_dataflow_fault.result ≡ insn_dataflow_fault (state_of v.state.ranges marked) x.insn) c.deref.ensures c.insn_dataflow_fault.ensures) ∙ c.in-Some.is, p.right))
+    let e = pending_is c.args.pending.now c.args.slot c.take.result c.index-pending-slot.result (Some x.visit) c.take.ensures.value c.requires.inside x.is-1 in (
+      fault_here code c.args.slot c.args.pending.now c.args.bound p structured c.requires.inside x.visit.value x.insn c.insn_dataflow_fault.result e (is ∙ x.is-0)
+          (subst (λ (v : Visit). (marked : ℕ → Bool) → Marks v.state.initialized.words marked → c.insn_dataflow_fault.result ≡ insn_dataflow_fault (state_of v.state.ranges marked) x.insn) c.deref.ensures c.insn_dataflow_fault.ensures) ∙ c.in-Some.is,
+      p.right,
+    ))
 
 pub overflow_add-steps : goal.overflow_add-steps
 overflow_add-steps c =
