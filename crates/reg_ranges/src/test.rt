@@ -12,6 +12,7 @@ use bpf_num::{AluWidth, Test, jump_test};
 
 /// The new ranges of the operands of a test that is taken, or isn't; none where the edge can't be taken.
 /// The numbers at which the test has that outcome stay; so one of the two edges can always be taken.
+#[inline(always)]
 pub fn refine(test: Test, narrow: bool, a: Range, b: Range, taken: bool) -> Option<(Range, Range)>
     ensures exact { option_map ranges_of result ≡ refine_of test narrow (range_of a) (range_of b) taken }
     ensures sound { (x y : ℕ) → In x (range_of a) → In y (range_of b) → jump_test_of test narrow x y ≡ taken →
@@ -21,6 +22,7 @@ pub fn refine(test: Test, narrow: bool, a: Range, b: Range, taken: bool) -> Opti
     refined(test, narrow, a, b, taken)
 }
 
+#[inline(always)]
 fn refined(test: Test, narrow: bool, a: Range, b: Range, taken: bool) -> Option<(Range, Range)>
     ensures { option_map ranges_of result ≡ refine_of test narrow (range_of a) (range_of b) taken }
 {
