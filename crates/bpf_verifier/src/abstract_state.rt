@@ -98,6 +98,7 @@ impl AbstractState {
     }
 
     /// Keeps what is certain in both states.
+    #[inline(never)]
     pub fn join(&mut self, other: &AbstractState)
         ensures { (a b : ModelState) → Represents self.old a → Represents other.now b →
             Represents self.new (join_with (Some a) b) }

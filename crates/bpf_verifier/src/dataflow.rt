@@ -280,6 +280,7 @@ fn push(
 }
 
 /// What is pending after one more edge.
+#[inline(always)]
 fn joined(before: Option<Box<Visit>>, visit: Box<Visit>, spare: &mut Spare) -> Box<Visit>
     ensures { (of : ModelState) → Represents visit.value.state of →
         VisitJoined (option_map (λ b. b.value) before) of visit.value.steps (Some result.value) }

@@ -42,6 +42,7 @@ fn refined(test: Test, narrow: bool, a: Range, b: Range, taken: bool) -> Option<
 }
 
 /// The edge of a test on numbers of a width.
+#[inline(always)]
 fn edge(width: AluWidth, test: Test, a: Range, b: Range, taken: bool) -> Option<(Range, Range)>
     requires { is_single (range_of a) ≡ true → is_single (range_of b) ≡ false }
     ensures { option_map ranges_of result ≡ wide_edge width test (range_of a) (range_of b) taken }
