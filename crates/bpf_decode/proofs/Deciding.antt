@@ -1,6 +1,6 @@
 -- All bytes are code, or are refused for a first fault.
-use Rattle.std.proofs.Common.{◌≡◌, ◌⊎◌, ℕ, zero, suc, ◌+◌, ◌-◌, ◌*◌, ◌/◌, ◌%◌, ◌^◌, ◌<◌, ◌≤◌, Bool, true, false, not, ◌&&◌, ◌||◌, cond, List, [], ◌∷◌, ◌++◌, length, take, drop, get_or, find, Option, Some, None, ℤ, pos, FitsSigned, bit_and, refl, sym, ap, subst, ◌∙◌, arith, rules, inl, inr}
-use Rattle.std.specs.Prelude.{nat_lt, ◌==◌, is_some, All}
+use Rattle.std.proofs.Common.{◌≡◌, ◌⊎◌, ℕ, zero, suc, ◌+◌, ◌*◌, ◌/◌, ◌%◌, ◌^◌, ◌<◌, ◌≤◌, Bool, true, false, not, ◌&&◌, ◌||◌, cond, List, [], ◌∷◌, ◌++◌, length, take, drop, get_or, find, Option, Some, None, ℤ, pos, bit_and, refl, sym, ap, subst, ◌∙◌, arith, inl, inr}
+use Rattle.std.specs.Prelude.{nat_lt, ◌==◌, is_some}
 use Rattle.std.specs.Int.{w16, w32, cast_signed, cast_unsigned}
 use Rattle.std.specs.List.{AllByRecursion}
 use Rattle.std.specs.Option.{option_map, option_or}
@@ -14,9 +14,7 @@ use Rattle.std.proofs.lemmas.Nat.{and_mask}
 use Rattle.std.proofs.lemmas.List.{get_or_past, get_or-take, get_or-drop, length-take-le, length-drop}
 use Rattle.bpf_num.specs.Bind.{◌>>=◌}
 use Rattle.bpf_num.specs.declared.AluOp.{AluOp}
-use Rattle.bpf_num.specs.declared.AluOp.TheVariants as op
 use Rattle.bpf_num.specs.declared.AluWidth.{AluWidth}
-use Rattle.bpf_num.specs.declared.AluWidth.TheVariants.{W32, W64}
 use Rattle.bpf_num.specs.declared.swap.SwapKind.{SwapKind}
 use Rattle.bpf_num.specs.ByteSwap.{swap_bits}
 use Rattle.bpf_num.specs.declared.swap.Width.{Width}
@@ -25,7 +23,6 @@ use Rattle.bpf_decode.specs.declared.insn.Insn.{Insn}
 use Rattle.bpf_decode.specs.declared.insn.Insn.TheVariants as insn
 use Rattle.bpf_decode.specs.declared.insn.Reg.{Reg}
 use Rattle.bpf_decode.specs.declared.insn.Size.{Size}
-use Rattle.bpf_decode.specs.declared.insn.Size.TheVariants.{B, H, W, Dw}
 use Rattle.bpf_decode.specs.declared.insn.Source.TheVariants as source
 use Rattle.bpf_decode.specs.declared.opcode.Opcode.{Opcode}
 use Rattle.bpf_decode.specs.declared.opcode.Opcode.TheVariants as opcode

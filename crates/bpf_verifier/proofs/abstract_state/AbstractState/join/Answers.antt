@@ -1,5 +1,4 @@
-use Rattle.std.proofs.Common.{◌≡◌, ◌∙◌, ◌&&◌, ℕ, ap, subst, rules, refl, arith, length, List, Option}
-use Rattle.reg_ranges.specs.declared.range.Range.{Range}
+use Rattle.std.proofs.Common.{◌≡◌, ◌∙◌, ◌&&◌, ℕ, ap, subst, rules, refl, arith, length}
 use Rattle.bpf_verifier.specs.declared.frame_bytes.FrameBytes.{FrameBytes}
 use Rattle.bpf_verifier.specs.FrameBytes.{has_byte}
 use Rattle.bpf_verifier.proofs.States.{AreJoined, joined_is, joined_none, joined_more, joined_all}
