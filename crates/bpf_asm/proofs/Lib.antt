@@ -1,0 +1,6 @@
+pub mod Stepping
+pub mod Places
+pub mod Numerals
+pub mod Statements
+pub mod Registers
+pub mod Tables

@@ -1,0 +1,7 @@
+pub mod Text
+pub mod Words
+pub mod Operands
+pub mod Lines
+pub mod Assembly
+pub mod Printing
+pub mod Rounds

@@ -1,0 +1,18 @@
+//! An assembler of BPF code (RFC 9669), and the text of instructions: `exit` is the one instruction
+//! `Insn::Exit`, and is printed so.
+#![tactic(auto)]
+
+mod fault;
+mod form;
+mod line;
+mod number;
+mod operand;
+mod rounds;
+mod spelling;
+#[cfg(test)]
+mod tests;
+mod text;
+
+pub use fault::{AsmFault, AsmKind};
+pub use rounds::assemble;
+pub use spelling::print;
