@@ -4,3 +4,4 @@ pub mod Numerals
 pub mod Statements
 pub mod Registers
 pub mod Tables
+pub mod Inverse

@@ -6,7 +6,7 @@ use Rattle.std.specs.Str.{bytes_eq}
 use Rattle.bpf_decode.specs.declared.insn.Reg.{Reg}
 use Rattle.bpf_asm.specs.Operands.{register_text, number_text}
 
-same_reg : (a b : Reg) → a.number ≡ b.number → a ≡ b
+pub same_reg : (a b : Reg) → a.number ≡ b.number → a ≡ b
 same_reg a b e =
     let P : ℕ → Type 0 = λ n. (q : n ≤ 10) → a ≡ record { number = n; in_range = q } in
     let base : P a.number = λ q. ap (λ (h : a.number ≤ 10). let r : Reg = record { number = a.number; in_range = h } in r) (le_prop a.in_range q) in

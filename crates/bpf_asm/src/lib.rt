@@ -4,6 +4,7 @@
 
 mod fault;
 mod form;
+mod law;
 mod line;
 mod number;
 mod operand;
@@ -14,5 +15,6 @@ mod tests;
 mod text;
 
 pub use fault::{AsmFault, AsmKind};
+pub use law::words_are_read_back;
 pub use rounds::assemble;
 pub use spelling::print;

@@ -144,8 +144,8 @@ fn push_constant(alloc: Global, text: &mut String, value: u64) -> Result<(), All
     ensures { OnOk result (string_bytes text.new ≡ string_bytes text.old ++ (44 ∷ 32 ∷ decimal value)) }
 {
     text.push_str(", ")?;
-    let digits = value.to_string(alloc)?;
-    text.push_str(&digits)
+    let constant = value.to_string(alloc)?;
+    text.push_str(&constant)
 }
 
 /// Adds `between` and a number with its sign.

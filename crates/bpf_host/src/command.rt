@@ -2,6 +2,8 @@
 
 use crate::failure::Failure;
 use crate::input::{read_hex, read_input};
+use bpf_asm::{assemble, print};
+use bpf_decode::{decode_all, encode_all};
 use bpf_machine::{Finished, run};
 use bpf_verifier::{Procedure, verify};
 use clap::{Arg, ArgMatches, Command, value_parser};
@@ -18,13 +20,16 @@ const MAX_ARGUMENTS: usize = 256;
 
 /// What `--help` says below the options.
 const EXAMPLES: &str = "\
-Code and --args are hex, of either case; spaces, tabs and line ends are skipped.
+Code and --args are hex, of either case; spaces, tabs and line ends are skipped. asm reads a text,
+one instruction or one label (`name:`) a line, and prints its code; disasm prints such a text.
 No command means exec.
 
 Examples:
   echo 'b700000007000000 9500000000000000' | bpf_host exec
   echo 'bf20000000000000 9500000000000000' | bpf_host exec --args '0a 0b' --client 100
   bpf_host verify < code.hex
+  printf 'mov64 r0, 7\nexit\n' | bpf_host asm
+  echo 'b700000007000000 9500000000000000' | bpf_host disasm
 
 Status: 0 done, 1 refused, 2 a fault of the command line, 3 out of memory, 4 a read or write failed";
 
@@ -65,14 +70,18 @@ fn command_line<'a>(alloc: Global) -> Result<Command<'a>, AllocError> {
         .value_name("N")
         .value_parser(value_parser!(u32))
         .help("the client that calls [default: 16]");
+    let asm = Command::new(alloc, "asm").about("Reads an assembler text and prints its code");
+    let disasm = Command::new(alloc, "disasm").about("Prints the assembler text of code");
     let verify = Command::new(alloc, "verify").about("Verifies code and prints the verdict");
     let exec = Command::new(alloc, "exec")
         .about("Verifies code and runs it over an empty map")
         .arg(arguments)?
         .arg(client)?;
     Command::new(alloc, "bpf_host")
-        .about("Verifies and runs BPF procedures, given as hex on standard input")
+        .about("Assembles, verifies and runs BPF procedures, read on standard input")
         .after_help(EXAMPLES)
+        .subcommand(asm)?
+        .subcommand(disasm)?
         .subcommand(verify)?
         .subcommand(exec)
 }
@@ -85,6 +94,8 @@ fn dispatch<'a, I: Read, O: Write>(
 ) -> Result<(), Failure> {
     let matches = command_line(alloc)?.try_get_matches_from(words)?;
     match matches.subcommand() {
+        Some(("asm", _)) => asm(alloc, reader, writer),
+        Some(("disasm", _)) => disasm(alloc, reader, writer),
         Some(("verify", _)) => {
             let code = read_code(alloc, reader)?;
             write_verdict(alloc, &code, writer)?;
@@ -93,6 +104,22 @@ fn dispatch<'a, I: Read, O: Write>(
         Some((_, options)) => exec(alloc, options, reader, writer),
         None => exec(alloc, &matches, reader, writer),
     }
+}
+
+/// Reads an assembler text and writes its code in hex.
+fn asm<I: Read, O: Write>(alloc: Global, reader: &mut I, writer: &mut O) -> Result<(), Failure> {
+    let text = read_input(alloc, reader)?;
+    let code = assemble(alloc, &text)?;
+    let bytes = encode_all(alloc, &code)?;
+    let digits = hex::encode(alloc, bytes.as_slice())?;
+    write_line(writer, format!(in alloc; "{digits}\n")?)
+}
+
+/// Reads code and writes its assembler text.
+fn disasm<I: Read, O: Write>(alloc: Global, reader: &mut I, writer: &mut O) -> Result<(), Failure> {
+    let bytes = read_code(alloc, reader)?;
+    let code = decode_all(alloc, &bytes)?;
+    write_line(writer, print(alloc, &code)?)
 }
 
 /// The code that the input has in hex.

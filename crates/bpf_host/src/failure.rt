@@ -1,5 +1,7 @@
 //! Why a command ends early, and with which status.
 
+use bpf_asm::{AsmFault, AsmKind};
+use bpf_decode::DecodeFault;
 use bpf_verifier::{Refusal, VerifyFault};
 use std::alloc::{AllocError, AllocFailed};
 use std::io;
@@ -20,6 +22,12 @@ pub enum Failure {
     /// The code was refused.
     #[error("refused {} {} at {}", .0.fault.number(), .0.fault, .0.slot)]
     Refused(Refusal),
+    /// The bytes are no code.
+    #[error("refused {} {} at {}", .0.fault.number(), .0.fault, .0.slot)]
+    NoCode(bpf_decode::Refusal),
+    /// The assembler text has a fault.
+    #[error("{0}")]
+    Assembler(AsmFault),
     /// The words of the command line are wrong, or ask for help.
     #[error("{0}")]
     CommandLine(clap::Error),
@@ -38,8 +46,12 @@ impl Failure {
     /// The status with which the program ends.
     pub(crate) fn status(&self) -> u8 {
         match self {
-            Failure::InputTooLong | Failure::NotHex | Failure::ArgsTooLong | Failure::Refused(_) =>
-                1,
+            Failure::InputTooLong
+            | Failure::NotHex
+            | Failure::ArgsTooLong
+            | Failure::Refused(_)
+            | Failure::NoCode(_)
+            | Failure::Assembler(_) => 1,
             Failure::CommandLine(_) | Failure::WordNotUtf8 => 2,
             Failure::Memory => 3,
             Failure::Stream(_) => 4,
@@ -84,6 +96,24 @@ impl From<Refusal> for Failure {
         match refusal.fault {
             VerifyFault::Memory => Failure::Memory,
             _ => Failure::Refused(refusal),
+        }
+    }
+}
+
+impl From<bpf_decode::Refusal> for Failure {
+    fn from(refusal: bpf_decode::Refusal) -> Failure {
+        match refusal.fault {
+            DecodeFault::Memory => Failure::Memory,
+            _ => Failure::NoCode(refusal),
+        }
+    }
+}
+
+impl From<AsmFault> for Failure {
+    fn from(fault: AsmFault) -> Failure {
+        match fault.kind {
+            AsmKind::Memory => Failure::Memory,
+            _ => Failure::Assembler(fault),
         }
     }
 }

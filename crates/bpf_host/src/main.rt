@@ -1,4 +1,4 @@
-//! The program: verifies and runs BPF code that it reads as hex.
+//! The program: assembles BPF code, and verifies and runs code that it reads as hex.
 //!
 //! ```sh
 //! echo 'b700000007000000 9500000000000000' | bpf_host exec

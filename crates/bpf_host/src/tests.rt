@@ -6,6 +6,7 @@ use std::test::Fail;
 
 mod instructions;
 mod rows;
+mod texts;
 
 /// Words, input, status and output of a run.
 type Case = (&'static [&'static str], &'static str, u8, &'static str);
@@ -352,4 +353,92 @@ fn code_is_written_as_it_was_read(rt: HostRuntime) -> Result<(), Fail> {
     let written = encode_all(rt.alloc(), &code)?;
     assert_eq!(rt; written.as_slice(), bytes.as_slice());
     Ok(())
+}
+
+/// Runs a command on an input and compares status and output.
+fn run_text<R: Abort + AllocGlobal>(
+    rt: &R,
+    command: &str,
+    input: &[u8],
+    status: u8,
+    output: &str,
+) -> Result<(), Fail> {
+    let mut written = Vec::new(rt.alloc());
+    let mut reader = input;
+    let got = run_command(rt, &["bpf_host", command], &mut reader, &mut written);
+    assert_eq!(rt; got, status, "{command} on {input:?}");
+    assert_eq!(rt; str::from_utf8(&written)?, output, "{command} on {input:?}");
+    Ok(())
+}
+
+#[test]
+fn texts_of_the_assembler(rt: HostRuntime) -> Result<(), Fail> {
+    for (text, status, output) in texts::TEXTS {
+        let line = format!(in rt.alloc(); "{output}\n")?;
+        run_text(&rt, "asm", text.as_bytes(), status, line.as_str())?;
+    }
+    Ok(())
+}
+
+#[test]
+fn runs_of_asm_and_disasm(rt: HostRuntime) -> Result<(), Fail> {
+    let cases: [(&str, &[u8], u8, &str); 11] = [
+        (
+            "asm",
+            b"mov64 r1, 5\ncallf f\nexit\nf:\nmov64 r0, r1\nadd64 r0, 1\nexit\n",
+            0,
+            "b70100000500000085100000010000009500000000000000bf1000000000000007000000010000009500000000000000\n",
+        ),
+        (
+            "disasm",
+            b"b701000005000000 8510000001000000 9500000000000000 bf10000000000000 0700000001000000 9500000000000000",
+            0,
+            "mov64 r1, 5\ncallf +1\nexit\nmov64 r0, r1\nadd64 r0, 1\nexit\n",
+        ),
+        ("asm", b"exit\nmov9 r0, 1", 1, "line 2 fault 1 Word\n"),
+        ("asm", b"", 0, "\n"),
+        ("asm", b"exit ;\x80", 1, "line 1 fault 1 Word\n"),
+        ("asm", b"f:\nf:\n", 1, "line 2 fault 4 Label\n"),
+        ("disasm", b"", 1, "refused 1 Empty at 0\n"),
+        ("disasm", b"b7000", 1, "input not hex\n"),
+        (
+            "disasm",
+            b"9500000000000000 ff00000000000000",
+            1,
+            "refused 4 BadOpcode at 1\n",
+        ),
+        (
+            "disasm",
+            b"1800000000000000",
+            1,
+            "refused 7 TruncatedWide at 0\n",
+        ),
+        (
+            "disasm",
+            b"18000000ffffffff 00000000 FFFFFFFF",
+            0,
+            "lddw r0, 18446744073709551615\n",
+        ),
+    ];
+    for (command, input, status, output) in cases {
+        run_text(&rt, command, input, status, output)?;
+    }
+    Ok(())
+}
+
+#[test]
+fn every_word_there_and_back(rt: HostRuntime) -> Result<(), Fail> {
+    let text = texts::EVERY_WORD;
+    let mut code = Vec::new(rt.alloc());
+    let got = run_command(&rt, &["bpf_host", "asm"], &mut text.as_bytes(), &mut code);
+    assert_eq!(rt; got, 0);
+    run_text(&rt, "disasm", code.as_slice(), 0, text)
+}
+
+#[test]
+fn lengths_of_a_text(rt: HostRuntime) -> Result<(), Fail> {
+    let most = " ".repeat(rt.alloc(), 1_048_576)?;
+    run_text(&rt, "asm", most.as_bytes(), 0, "\n")?;
+    let more = "x".repeat(rt.alloc(), 1_048_577)?;
+    run_text(&rt, "asm", more.as_bytes(), 1, "input too long\n")
 }
