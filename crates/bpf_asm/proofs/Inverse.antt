@@ -1,15 +1,5 @@
 -- What is printed is read back: words, registers, numbers and targets.
-use Rattle.std.proofs.Common.{◌≡◌, ℕ, zero, suc, ◌<◌, ◌≤◌, ◌+◌, ◌^◌, ◌==◌, Bool, true, false, cond, not, ◌&&◌, ◌||◌, nat_le, nat_lt, List, [], ◌∷◌, length, drop, take, get_or, Some, None, Option, Ok, Err, Result, ap, sym, subst, ◌∙◌, refl, arith, lit≤, ℤ, pos, negsuc, FitsSigned, slice_index}
-use Rattle.std.specs.Int.{w16, w32, cast_signed}
-use Rattle.std.specs.List.{list_all}
-use Rattle.std.specs.Option.{ok_or, option_map}
-use Rattle.std.specs.Str.{bytes_eq}
-use Rattle.std.specs.Str.Parse.{AllDigits, digits_value}
-use Rattle.std.specs.Char.{digit_value}
-use Rattle.std.specs.Fmt.{decimal, signed_decimal}
-use Rattle.std.proofs.lemmas.Fmt.{decimal_is_IsNumeral}
-use Rattle.std.proofs.lemmas.Str.Parse.{digit_at}
-use borrow.Author.Tests.{lt-true, le-true, apart_eqb}
+use Rattle.std.proofs.Common.{◌≡◌, Bool, true, false, Some, refl}
 use Rattle.bpf_num.specs.declared.AluOp.{AluOp}
 use Rattle.bpf_num.specs.declared.AluOp.TheVariants as op
 use Rattle.bpf_num.specs.declared.AluWidth.{AluWidth}
@@ -25,22 +15,13 @@ use Rattle.bpf_decode.specs.declared.insn.Insn.TheVariants as insn
 use Rattle.bpf_decode.specs.declared.insn.Size.{Size}
 use Rattle.bpf_decode.specs.declared.insn.Size.TheVariants as size
 use Rattle.bpf_decode.specs.declared.insn.Source.TheVariants as source
-use Rattle.bpf_decode.specs.declared.insn.Reg.{Reg}
 use Rattle.bpf_decode.specs.declared.opcode.SourceKind.{SourceKind}
 use Rattle.bpf_decode.specs.Opcodes.{has_form}
 use Rattle.bpf_decode.specs.Encoding.{IsInsn, IsLoad}
-use Rattle.bpf_asm.specs.declared.fault.AsmKind.{AsmKind}
-use Rattle.bpf_asm.specs.declared.fault.AsmKind.TheVariants.{Operand, Number}
-use Rattle.bpf_asm.specs.declared.form.Form.{Form}
 use Rattle.bpf_asm.specs.declared.form.Form.TheVariants as form
-use Rattle.bpf_asm.specs.declared.operand.Target.{Target}
-use Rattle.bpf_asm.specs.declared.operand.Target.TheVariants as target
-use Rattle.bpf_asm.specs.Text.{is_digit}
 use Rattle.bpf_asm.specs.Words.{word_of, form_of_word}
-use Rattle.bpf_asm.specs.Operands.{register, register_text, number_text, numeral, unsigned, signed, begins_number, is_sign, immediate, constant, immediate_of, constant_of, within_half, target_of, ◌>>=◌, ◌>>?◌}
-use Rattle.bpf_asm.specs.Printing.{form_of, alu_form, with_sign}
-use Rattle.bpf_asm.proofs.Numerals.{numeral_is}
-use Rattle.bpf_asm.proofs.Registers.{same_reg}
+use Rattle.bpf_asm.specs.Operands.{signed}
+use Rattle.bpf_asm.specs.Printing.{form_of, alu_form}
 
 -- Each word names its form.
 alu_found : (o : AluOp) (w : AluWidth) (k : SourceKind) → has_form w o k ≡ true → form_of_word (word_of (alu_form o w)) ≡ Some (alu_form o w)

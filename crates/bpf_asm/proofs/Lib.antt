@@ -5,3 +5,7 @@ pub mod Statements
 pub mod Registers
 pub mod Tables
 pub mod Inverse
+pub mod Numbers
+pub mod Plain
+pub mod Lined
+pub mod Whole

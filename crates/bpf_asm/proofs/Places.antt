@@ -1,16 +1,16 @@
 -- The place where a test first passes, as `position` tells it, and the parts of a text that is cut there.
-use Rattle.std.proofs.Common.{◌≡◌, ℕ, ◌<◌, ◌≤◌, ◌+◌, ◌-◌, length-drop, Bool, true, false, cond, not, List, [], ◌∷◌, ◌++◌, length, drop, take, get_or, map, Some, None, Option, ap, sym, ◌∙◌, add-one, refl, suc, arith, nat_lt, ◌==◌}
-use Rattle.std.specs.List.{position, position_or_len, prefix_len, slice_split, onto_first, before_first, after_first}
+use Rattle.std.proofs.Common.{◌≡◌, ℕ, ◌<◌, ◌≤◌, ◌+◌, ◌-◌, length-drop, Bool, true, false, cond, not, List, [], ◌∷◌, length, drop, take, map, Some, None, ap, sym, ◌∙◌, refl, suc, arith, nat_lt, ◌==◌}
+use Rattle.std.specs.List.{position, position_or_len, slice_split, onto_first, before_first}
 use Rattle.std.proofs.lemmas.List.Splits.{slice_split_first}
 use Rattle.std.proofs.lemmas.List.Sums.{prefix_len-le-length}
 use Rattle.std.specs.Str.Lines.{lines, lines_of_parts, strip_carriage_return}
 use Rattle.std.proofs.Math.Seq.{take_all}
 use borrow.Author.Tests.{ltb-true, ltb-false, eqb-true}
 use Rattle.std.proofs.lemmas.List.Folds.{length-prefix_len}
-use Rattle.std.proofs.Common.{Err, Ok}
+use Rattle.std.proofs.Common.{Err}
 use Rattle.bpf_asm.specs.declared.fault.AsmKind.TheVariants.{Operand}
 use Rattle.bpf_asm.specs.Operands.{as_none, as_one, as_two, as_three}
-use Rattle.bpf_asm.specs.Text.{trim, pieces, is_blank, trim_start, operand_texts, last_text, first_word, behind_word, ends_word}
+use Rattle.bpf_asm.specs.Text.{trim, pieces, operand_texts, last_text, first_word, behind_word, ends_word}
 
 some_of_test : (b : Bool) (m n k : ℕ) → (b ≡ true → m < n) → cond b (Some m) None ≡ Some k → (m ≡ k) × (m < n)
 some_of_test true m n k t h = (cc, t refl)

@@ -1,10 +1,10 @@
 -- What a line says, from what its parts say.
-use Rattle.std.proofs.Common.{◌≡◌, ℕ, zero, suc, ◌<◌, ◌≤◌, ◌+◌, ◌-◌, ◌^◌, ◌==◌, Bool, true, false, cond, ◌&&◌, nat_le, nat_lt, List, [], ◌∷◌, length, drop, take, get_or, Some, None, Option, Ok, Err, Result, ap, sym, subst, ◌∙◌, refl, arith, lit<, IfOk, ℤ, pos, negsuc, FitsSigned, slice_index}
+use Rattle.std.proofs.Common.{◌≡◌, ℕ, zero, suc, ◌<◌, ◌≤◌, ◌-◌, ◌^◌, ◌==◌, Bool, true, false, cond, ◌&&◌, nat_le, nat_lt, List, length, drop, take, get_or, Some, None, Option, Ok, Err, Result, ap, sym, subst, ◌∙◌, refl, arith, lit<, IfOk, ℤ, pos, FitsSigned, slice_index}
 use Rattle.std.specs.Prelude.{neg_ℤ}
 use Rattle.std.specs.Int.{w16}
 use Rattle.std.specs.List.{list_all}
 use Rattle.std.specs.Option.{ok_or}
-use borrow.Author.Tests.{lt-true, le-true, eq-true, ltb-true, leb-true}
+use borrow.Author.Tests.{le-true, eq-true, ltb-true, leb-true}
 use Rattle.bpf_asm.specs.declared.fault.AsmKind.{AsmKind}
 use Rattle.bpf_asm.specs.declared.fault.AsmKind.TheVariants.{Word, Operand, Number}
 use Rattle.bpf_asm.specs.declared.form.Form.{Form}
@@ -12,7 +12,7 @@ use Rattle.bpf_asm.specs.declared.operand.Target.{Target}
 use Rattle.bpf_asm.specs.declared.operand.Target.TheVariants as target
 use Rattle.bpf_asm.specs.Text.{trim, body_of, first_word, behind_word, operand_texts, is_letter, is_name}
 use Rattle.bpf_asm.specs.Words.{form_of_word}
-use Rattle.bpf_asm.specs.Operands.{◌>>=◌, ◌>>?◌, numeral, within_half, target_of, is_sign, place, place_within, in_brackets}
+use Rattle.bpf_asm.specs.Operands.{◌>>=◌, ◌>>?◌, numeral, within_half, target_of, is_sign, place, place_within}
 use Rattle.bpf_asm.specs.Lines.{line_statement, body_statement, instruction, statement_of}
 use Rattle.bpf_asm.specs.Rounds.{IsNear}
 

@@ -1,5 +1,5 @@
 -- The two rounds, line by line: what holds of the lines that were read, and what of one more.
-use Rattle.std.proofs.Common.{◌≡◌, ℕ, ◌<◌, ◌≤◌, ◌+◌, ◌-◌, ◌^◌, min, Bool, true, false, cond, List, [], ◌∷◌, ◌++◌, length, take, drop, map, get_or, find, Option, Some, None, Result, Ok, Err, ap, sym, subst, ◌∙◌, refl, arith, add_assoc, append_assoc, suc, add-one, Bor, ◌==◌, length-take-le, nat_le, zero}
+use Rattle.std.proofs.Common.{◌≡◌, ℕ, ◌<◌, ◌≤◌, ◌+◌, ◌-◌, ◌^◌, min, Bool, true, false, cond, List, [], ◌∷◌, ◌++◌, length, take, drop, get_or, find, Option, Some, None, Result, Ok, Err, ap, sym, subst, ◌∙◌, refl, arith, add_assoc, append_assoc, suc, add-one, Bor, ◌==◌, length-take-le, nat_le, zero}
 use Rattle.std.specs.Option.{option_map, is_some}
 use Rattle.std.specs.List.{list_all}
 use Rattle.std.specs.Str.{bytes_eq}
@@ -15,10 +15,10 @@ use Rattle.bpf_asm.specs.declared.line.Statement.{Statement}
 use Rattle.bpf_asm.specs.declared.line.Statement.TheVariants as says
 use Rattle.bpf_asm.specs.declared.rounds.Label.{Label}
 use Rattle.bpf_asm.specs.Text.{label_name, body_of}
-use Rattle.bpf_asm.specs.Lines.{line_statement, body_statement, label_or, instruction, defined_name, target_name}
+use Rattle.bpf_asm.specs.Lines.{line_statement, label_or, instruction, defined_name, target_name}
 use Rattle.bpf_asm.specs.Assembly.{slots, line_slots, statement_slots, label_slot, is_named, is_defined, first_round, first_fault, told_or, line_number, second_round, code_then, code_from, listed, aimed}
 use Rattle.bpf_asm.specs.Operands.{◌>>?◌}
-use Rattle.std.proofs.Common.{ℤ, pos, ◌-ℤ◌, append-nil}
+use Rattle.std.proofs.Common.{pos, ◌-ℤ◌, append-nil}
 use Rattle.bpf_asm.specs.Rounds.{texts, table_slot, IsTable}
 
 -- The first of two slots.

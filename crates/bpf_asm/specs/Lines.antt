@@ -1,6 +1,6 @@
 -- Statement: what a line says: nothing, a label, or an instruction. Where an instruction's target is a label, its offset
 -- stands as 0 here.
-use Rattle.std.specs.Prelude.{ℕ, ◌==◌, ◌^◌, Bool, true, false, nat_le, if◌then◌else◌, List, [], ◌∷◌, length, slice_index, Option, Some, None, Result, Ok, Err, ℤ, pos}
+use Rattle.std.specs.Prelude.{ℕ, ◌==◌, ◌^◌, Bool, nat_le, if◌then◌else◌, List, length, Option, Some, None, Result, Ok, Err, ℤ, pos}
 use Rattle.std.specs.List.{list_all}
 use Rattle.std.specs.Option.{ok_or}
 use Rattle.bpf_num.specs.declared.AluOp.{AluOp}
@@ -9,12 +9,10 @@ use Rattle.bpf_num.specs.declared.AluWidth.{AluWidth}
 use Rattle.bpf_num.specs.declared.jump.Test.{Test as Tests}
 use Rattle.bpf_decode.specs.declared.insn.Insn.{Insn}
 use Rattle.bpf_decode.specs.declared.insn.Insn.TheVariants as insn
-use Rattle.bpf_decode.specs.declared.insn.Reg.{Reg}
 use Rattle.bpf_decode.specs.declared.insn.Size.{Size}
-use Rattle.bpf_decode.specs.declared.insn.Source.{Source}
 use Rattle.bpf_decode.specs.declared.insn.Source.TheVariants as source
 use Rattle.bpf_asm.specs.declared.fault.AsmKind.{AsmKind}
-use Rattle.bpf_asm.specs.declared.fault.AsmKind.TheVariants.{Word, Operand}
+use Rattle.bpf_asm.specs.declared.fault.AsmKind.TheVariants.{Word}
 use Rattle.bpf_asm.specs.declared.form.Form.{Form}
 use Rattle.bpf_asm.specs.declared.form.Form.TheVariants as form
 use Rattle.bpf_asm.specs.declared.operand.Target.{Target}

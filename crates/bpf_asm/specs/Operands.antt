@@ -1,6 +1,6 @@
 -- Statement: what the text of an operand says: a register, a number, a place in memory or a target. Of two faults in
 -- a line `Operand` comes before `Number`.
-use Rattle.std.specs.Prelude.{◌≡◌, ℕ, ◌+◌, ◌-◌, ◌<◌, ◌≤◌, ◌^◌, ◌==◌, Bool, true, false, ◌&&◌, ◌||◌, nat_le, nat_lt, if◌then◌else◌, List, [], ◌∷◌, length, take, drop, slice_index, Option, Some, None, Result, Ok, Err, ℤ, pos, neg_ℤ, codes, find}
+use Rattle.std.specs.Prelude.{ℕ, ◌+◌, ◌-◌, ◌≤◌, ◌^◌, ◌==◌, Bool, true, false, ◌&&◌, ◌||◌, nat_le, nat_lt, if◌then◌else◌, List, [], ◌∷◌, length, take, drop, slice_index, Option, Some, None, Result, Ok, Err, ℤ, pos, neg_ℤ, codes, find}
 use Rattle.std.proofs.Common.{lit≤}
 use Rattle.std.specs.List.{list_all, position_or_len, before_first}
 use Rattle.std.specs.Option.{ok_or, option_map}
@@ -17,7 +17,7 @@ use Rattle.bpf_asm.specs.declared.fault.AsmKind.TheVariants as kind
 use Rattle.bpf_asm.specs.declared.operand.Target.{Target}
 use Rattle.bpf_asm.specs.declared.operand.Target.TheVariants as target
 use Rattle.bpf_asm.specs.declared.operand.Place.{Place}
-use Rattle.bpf_asm.specs.Text.{trim, is_blank, is_digit, is_letter, is_name}
+use Rattle.bpf_asm.specs.Text.{trim, is_digit, is_letter, is_name}
 
 -- First r, then k of what it gives; the first fault is the fault of both.
 infixl 10 ◌>>=◌

@@ -1,6 +1,6 @@
 -- Statement: the text of instructions: a line for each, ended by LF. Numbers are decimal, targets have a sign, and a
 -- place has its offset always.
-use Rattle.std.specs.Prelude.{ℕ, suc, ◌+◌, List, [], ◌∷◌, ◌++◌, ℤ, pos, negsuc}
+use Rattle.std.specs.Prelude.{ℕ, suc, List, [], ◌∷◌, ◌++◌, ℤ, pos, negsuc}
 use Rattle.std.specs.Fmt.{decimal, signed_decimal}
 use Rattle.std.specs.List.{flat_map}
 use Rattle.bpf_num.specs.declared.AluOp.{AluOp}

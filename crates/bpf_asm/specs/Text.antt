@@ -1,6 +1,6 @@
 -- Statement: the parts of an assembler text: blanks, comments, words, names and the texts of operands. A text is its
 -- bytes; its lines are those of `Rattle.std.specs.Str.Lines`: each ends at LF or CR LF, the last also at the text's end.
-use Rattle.std.specs.Prelude.{◌≡◌, ℕ, ◌+◌, ◌-◌, ◌==◌, Bool, true, false, ◌&&◌, ◌||◌, nat_le, if◌then◌else◌, List, [], ◌∷◌, length, take, drop, slice_index, map, reverse, Option, Some, None}
+use Rattle.std.specs.Prelude.{ℕ, ◌-◌, ◌==◌, Bool, ◌&&◌, ◌||◌, nat_le, if◌then◌else◌, List, [], ◌∷◌, length, take, drop, slice_index, map, reverse, Option, Some, None}
 use Rattle.std.specs.List.{list_all, before_first, slice_split}
 
 -- Space or tab.

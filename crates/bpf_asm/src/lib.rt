@@ -15,6 +15,6 @@ mod tests;
 mod text;
 
 pub use fault::{AsmFault, AsmKind};
-pub use law::words_are_read_back;
+pub use law::printed_code_assembles_to_itself;
 pub use rounds::assemble;
 pub use spelling::print;

@@ -1,4 +1,4 @@
-use Rattle.std.proofs.Common.{rules, arith, ◌≡◌, ◌<◌, length, zero}
+use Rattle.std.proofs.Common.{rules, arith, ◌≡◌, ◌<◌, length}
 use borrow.Author.Tests.{tests}
 use Rattle.bpf_asm.proofs.Numerals.{numeral_end}
 use Rattle.bpf_asm.proofs.number.numeral.Goals as goal

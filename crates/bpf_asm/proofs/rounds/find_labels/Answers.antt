@@ -1,12 +1,11 @@
-use Rattle.std.proofs.Common.{◌≡◌, ◌<◌, ◌+◌, length, List, [], ◌∷◌, ◌++◌, Ok, Some, None, refl, sym, ap, ◌∙◌, rules, arith, Bor, ℕ, false, is_some, is_ok, cond, take, Option, Vec, Global}
-use Rattle.std.specs.Option.{option_map}
+use Rattle.std.proofs.Common.{◌≡◌, ◌<◌, length, List, [], ◌∷◌, ◌++◌, Ok, Some, None, refl, sym, ap, ◌∙◌, rules, arith, Bor, ℕ, false, is_some, is_ok, cond, take, Option, Vec, Global}
 use Rattle.bpf_asm.specs.declared.rounds.Label.{Label}
 use Rattle.bpf_asm.specs.declared.line.Statement.TheVariants as says
 use Rattle.bpf_asm.specs.Lines.{line_statement, defined_name}
 use Rattle.bpf_asm.specs.declared.fault.AsmKind.TheVariants as kind
 use Rattle.bpf_asm.specs.Assembly.{first_round, is_defined}
 use Rattle.bpf_asm.specs.Rounds.{texts, table_slot}
-use Rattle.bpf_asm.proofs.Tables.{Surveyed, line_at, read_again, survey_quiet, survey_label, names_none}
+use Rattle.bpf_asm.proofs.Tables.{line_at, read_again, survey_quiet, survey_label, names_none}
 use Rattle.bpf_asm.proofs.rounds.find_labels.Goals as goal
 use Rattle.bpf_asm.proofs.rounds.find_labels.Goals.{in-Blank, in-Label+in-Some+else-is_some+in_ok-push-in-Label, in-Label+in_default, in-Insn+in_ok-slot-in-Insn, in-Aimed+in_ok-slot-in-Aimed}
 

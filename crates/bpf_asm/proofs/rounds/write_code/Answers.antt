@@ -1,4 +1,4 @@
-use Rattle.std.proofs.Common.{◌≡◌, ◌<◌, ◌+◌, length, List, [], ◌∷◌, ◌++◌, Ok, Err, Some, None, refl, sym, ap, ◌∙◌, rules, arith, Bor, ℕ, append-nil, inr, cond, is_ok, Option, take, Vec, Global, pos, ◌-ℤ◌}
+use Rattle.std.proofs.Common.{◌≡◌, ◌<◌, ◌+◌, length, List, [], ◌∷◌, ◌++◌, Ok, Err, Some, None, refl, sym, ap, ◌∙◌, arith, Bor, ℕ, append-nil, inr, cond, is_ok, Option, take, Vec, Global, pos, ◌-ℤ◌}
 use Rattle.bpf_decode.specs.declared.insn.Insn.{Insn}
 use Rattle.bpf_asm.specs.declared.fault.AsmKind.TheVariants as kind
 use Rattle.bpf_asm.specs.declared.line.Statement.TheVariants as says
@@ -6,7 +6,7 @@ use Rattle.bpf_asm.specs.Lines.{line_statement, target_name}
 use Rattle.bpf_asm.specs.Operands.{◌>>?◌}
 use Rattle.bpf_asm.specs.Assembly.{second_round, listed, aimed}
 use Rattle.bpf_asm.specs.Rounds.{texts, table_slot}
-use Rattle.bpf_asm.proofs.Tables.{Written, line_at, read_again, write_step, write_fault, aim_is}
+use Rattle.bpf_asm.proofs.Tables.{line_at, read_again, write_step, write_fault, aim_is}
 use Rattle.bpf_asm.proofs.rounds.write_code.Goals as goal
 use Rattle.bpf_asm.proofs.rounds.write_code.Goals.{in-Blank, in-Label, in-Insn+in_ok-slot-in-Insn+in_ok-push-in-Insn, in-Aimed+in_ok-slot-in-Aimed+in-Some+in_ok-push-in-Some}
 
