@@ -1,4 +1,4 @@
--- What is printed is read back: words, registers, numbers and targets.
+-- The word of each instruction names its form again.
 use Rattle.std.proofs.Common.{◌≡◌, Bool, true, false, Some, refl}
 use Rattle.bpf_num.specs.declared.AluOp.{AluOp}
 use Rattle.bpf_num.specs.declared.AluOp.TheVariants as op

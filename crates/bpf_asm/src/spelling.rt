@@ -1,6 +1,6 @@
 //! The text of instructions.
 
-ghost use Rattle.std.specs.Prelude.{◌≡◌, ◌++◌, ◌∷◌, IfOk, OnOk};
+ghost use Rattle.std.specs.Prelude.{◌≡◌, ◌++◌, [], ◌∷◌, IfOk, OnOk};
 ghost use Rattle.std.specs.String.{string_bytes};
 ghost use Rattle.std.specs.Fmt.{decimal, signed_decimal};
 ghost use Rattle.bpf_asm.specs.Operands.{register_text};
@@ -46,28 +46,19 @@ fn push_operands(alloc: Global, text: &mut String, insn: Insn) -> Result<(), All
             base,
             offset,
             ..
-        } => {
-            push_register(text, " ", dst)?;
-            push_place(alloc, text, ", ", base, offset)
-        }
+        } => push_load(alloc, text, dst, base, offset),
         Insn::StoreImm {
             base,
             offset,
             imm,
             ..
-        } => {
-            push_place(alloc, text, " ", base, offset)?;
-            push_number(alloc, text, ", ", imm)
-        }
+        } => push_store_number(alloc, text, base, offset, imm),
         Insn::Store {
             base,
             offset,
             src,
             ..
-        } => {
-            push_place(alloc, text, " ", base, offset)?;
-            push_register(text, ", ", src)
-        }
+        } => push_store(alloc, text, base, offset, src),
         Insn::Jump { offset } => push_target(alloc, text, " ", i32::from(offset)),
         Insn::JumpLong { offset } => push_target(alloc, text, " ", offset),
         Insn::CallLocal { offset } => push_target(alloc, text, " ", offset),
@@ -76,14 +67,63 @@ fn push_operands(alloc: Global, text: &mut String, insn: Insn) -> Result<(), All
             src,
             offset,
             ..
-        } => {
-            push_register(text, " ", dst)?;
-            push_source(alloc, text, src)?;
-            push_target(alloc, text, ", ", i32::from(offset))
-        }
+        } => push_test(alloc, text, dst, src, offset),
         Insn::CallHelper { helper } => push_number(alloc, text, " ", helper),
         Insn::Exit => Ok(()),
     }
+}
+
+fn push_load(
+    alloc: Global,
+    text: &mut String,
+    dst: Reg,
+    base: Reg,
+    offset: i16,
+) -> Result<(), AllocError>
+    ensures { OnOk result (string_bytes text.new ≡ string_bytes text.old ++ behind_word_text (register_text dst ∷ place_text base offset ∷ [])) }
+{
+    push_register(text, " ", dst)?;
+    push_place(alloc, text, ", ", base, offset)
+}
+
+fn push_store_number(
+    alloc: Global,
+    text: &mut String,
+    base: Reg,
+    offset: i16,
+    imm: i32,
+) -> Result<(), AllocError>
+    ensures { OnOk result (string_bytes text.new ≡ string_bytes text.old ++ behind_word_text (place_text base offset ∷ signed_decimal imm ∷ [])) }
+{
+    push_place(alloc, text, " ", base, offset)?;
+    push_number(alloc, text, ", ", imm)
+}
+
+fn push_store(
+    alloc: Global,
+    text: &mut String,
+    base: Reg,
+    offset: i16,
+    src: Reg,
+) -> Result<(), AllocError>
+    ensures { OnOk result (string_bytes text.new ≡ string_bytes text.old ++ behind_word_text (place_text base offset ∷ register_text src ∷ [])) }
+{
+    push_place(alloc, text, " ", base, offset)?;
+    push_register(text, ", ", src)
+}
+
+fn push_test(
+    alloc: Global,
+    text: &mut String,
+    dst: Reg,
+    src: Source,
+    offset: i16,
+) -> Result<(), AllocError>
+    ensures { OnOk result (string_bytes text.new ≡ string_bytes text.old ++ behind_word_text (register_text dst ∷ source_text src ∷ with_sign offset ∷ [])) }
+{
+    push_register(text, " ", dst)?;
+    push_source(alloc, text, src)?;
+    push_target(alloc, text, ", ", i32::from(offset))
 }
 
 fn push_alu(

@@ -427,15 +427,6 @@ fn runs_of_asm_and_disasm(rt: HostRuntime) -> Result<(), Fail> {
 }
 
 #[test]
-fn every_word_there_and_back(rt: HostRuntime) -> Result<(), Fail> {
-    let text = texts::EVERY_WORD;
-    let mut code = Vec::new(rt.alloc());
-    let got = run_command(&rt, &["bpf_host", "asm"], &mut text.as_bytes(), &mut code);
-    assert_eq!(rt; got, 0);
-    run_text(&rt, "disasm", code.as_slice(), 0, text)
-}
-
-#[test]
 fn lengths_of_a_text(rt: HostRuntime) -> Result<(), Fail> {
     let most = " ".repeat(rt.alloc(), 1_048_576)?;
     run_text(&rt, "asm", most.as_bytes(), 0, "\n")?;
