@@ -5,3 +5,4 @@ pub mod Lines
 pub mod Assembly
 pub mod Printing
 pub mod Rounds
+pub mod Faults

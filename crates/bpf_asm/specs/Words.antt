@@ -37,7 +37,7 @@ wide_word op.Movsx16 = codes "movsx16_64"
 wide_word op.Movsx32 = codes "movsx32_64"
 wide_word op.Arsh = codes "arsh64"
 
--- Arithmetic of 32 bits. (RFC 9669, 4.1)
+-- Arithmetic of 32 bits; there is no move of 32 bits that extends a sign of 32, so that row is no word. (RFC 9669, 4.1)
 abbrev pub narrow_word : AluOp → List ℕ
 narrow_word op.Add = codes "add32"
 narrow_word op.Sub = codes "sub32"

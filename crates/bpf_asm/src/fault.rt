@@ -1,6 +1,7 @@
 //! The faults of an assembler text.
 
 ghost use Rattle.std.specs.Prelude.{◌≡◌};
+ghost use Rattle.bpf_asm.specs.Faults.{number_of};
 
 use std::alloc::{AllocError, AllocFailed};
 use thiserror::Error;
@@ -25,10 +26,19 @@ pub enum AsmKind {
     Memory = 5,
 }
 
+impl AsmKind {
+    /// The fault's number.
+    pub fn number(&self) -> u8
+        ensures { result ≡ number_of self.now }
+    {
+        *self as u8
+    }
+}
+
 /// A fault and its line, counted from 1; lines past 4,294,967,295 are told as that number. Where
 /// memory ran out the line says nothing.
 #[derive(Clone, Copy, Debug, PartialEq, Eq, Error)]
-#[error("line {line} fault {} {kind}", *.kind as u8)]
+#[error("line {line} fault {} {kind}", .kind.number())]
 pub struct AsmFault {
     pub kind: AsmKind,
     pub line: u32,
