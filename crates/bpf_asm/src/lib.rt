@@ -10,8 +10,6 @@ mod number;
 mod operand;
 mod rounds;
 mod spelling;
-#[cfg(test)]
-mod tests;
 mod text;
 
 pub use fault::{AsmFault, AsmKind};

@@ -1,7 +1,9 @@
-//! Tests of decoding, verifying and running code and of the service, over the public calls of their
+//! Tests of assembling, decoding, verifying and running code and of the service, over the public calls of their
 //! crates. They stand apart, so that those crates are proved once and not again beside their tests.
 #![tactic(auto)]
 
+#[cfg(test)]
+mod assembling;
 #[cfg(test)]
 mod decoding;
 #[cfg(test)]

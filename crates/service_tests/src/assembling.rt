@@ -1,6 +1,6 @@
 //! Texts and their instructions or faults, at values.
 
-use crate::{assemble, print};
+use bpf_asm::{assemble, print};
 use bpf_decode::encode_all;
 use std::alloc::Global;
 use std::test::Fail;
