@@ -45,7 +45,7 @@ both (Ok a) (Err f) = Err f
 both (Err e) (Ok b) = Err e
 both (Err e) (Err f) = Err (first_kind e f)
 
--- Exactly one, two or three operands.
+-- Exactly none, one, two or three operands.
 abbrev pub as_none : List (List ℕ) → Result (Unit {0}) AsmKind
 as_none [] = Ok tt
 as_none (a ∷ more) = Err Operand

@@ -24,7 +24,7 @@ pub struct Label<'a> {
 
 /// Reads an assembler text, or tells its first fault: of the first round over the lines words,
 /// operands, numbers and labels that are defined twice; only if it finds none, of the second labels
-/// that aren't defined or stand too far away.
+/// that aren't defined or stand too far away. `Memory` says that memory ran out, and nothing of the text.
 pub fn assemble(alloc: Global, text: &[u8]) -> Result<Vec<Insn>, AsmFault>
     ensures found { IfOk result (λ code. assembly text.now ≡ Ok code.items) }
     ensures refused { IfErr result (λ fault.

@@ -12,7 +12,7 @@ use bpf_num::AluOp;
 use std::alloc::{AllocError, Global};
 
 /// The text of instructions: a line for each, ended by LF. Numbers are in decimal, targets have a
-/// sign, and places their offset.
+/// sign, and places their offset. It is refused only where memory ran out.
 pub fn print(alloc: Global, code: &[Insn]) -> Result<String, AllocError>
     ensures { IfOk result (λ text. string_bytes text ≡ printed code.now) }
 {

@@ -51,6 +51,49 @@ const TEXTS: [(&[u8], &str); 30] = [
     (b"ja far\nfar2:\nja far2", "line 1 fault 4 Label"),
 ];
 
+/// Faults of lines before others, labels behind and ahead, and forms that are nearly right.
+const MORE_TEXTS: [(&[u8], &str); 33] = [
+    (b"mov64 r0, 1x\nmov9", "line 1 fault 3 Number"),
+    (b"\n;c\nstb [r1+99999], x", "line 3 fault 2 Operand"),
+    (
+        b"f:\nexit\njeq r1, 0xab, f",
+        "95000000000000001501feffab000000",
+    ),
+    (
+        b"exit:\nja r1\nja exit\nr1:",
+        "05000100000000000500feff00000000",
+    ),
+    (b"stb[r1],5", "7201000005000000"),
+    (b"movsx8_64 r1, 5", "line 1 fault 2 Operand"),
+    (b"exit r0", "line 1 fault 2 Operand"),
+    (b"neg64 r1, r2", "line 1 fault 2 Operand"),
+    (b"le16 r1, r2", "line 1 fault 2 Operand"),
+    (b"ldxb r0, r1", "line 1 fault 2 Operand"),
+    (b"ldxb r0, [r1", "line 1 fault 2 Operand"),
+    (b"mov64 r00, 1", "line 1 fault 2 Operand"),
+    (b"mov64 R0, 1", "line 1 fault 2 Operand"),
+    (b"movsx32_32 r1, r2", "line 1 fault 1 Word"),
+    (b"ldsxdw r1, [r2]", "line 1 fault 1 Word"),
+    (b"MOV64 r0, 1", "line 1 fault 1 Word"),
+    (b"f :", "line 1 fault 1 Word"),
+    (b"_f:", "line 1 fault 1 Word"),
+    (b"exit\r\r\n", "line 1 fault 1 Word"),
+    (b"lddw r0, -1", "line 1 fault 3 Number"),
+    (b"lddw r0, -0", "18000000000000000000000000000000"),
+    (b"ldxb r0, [r1+32768]", "line 1 fault 3 Number"),
+    (b"ldxb r0, [r1+-5]", "line 1 fault 3 Number"),
+    (b"mov64 r0, -0x1", "line 1 fault 3 Number"),
+    (b"mov64 r0, 0x", "line 1 fault 3 Number"),
+    (b"mov64 r0, 0X1", "line 1 fault 3 Number"),
+    (b"mov64 r0, +5", "line 1 fault 3 Number"),
+    (b"ja +0x1", "line 1 fault 3 Number"),
+    (b"ja -32769", "line 1 fault 3 Number"),
+    (b"call 4294967295", "85000000ffffffff"),
+    (b"exit;\x7f", "9500000000000000"),
+    (b"mov64 r0, 1 2", "line 1 fault 3 Number"),
+    (b"f: ; a label\nja f", "0500ffff00000000"),
+];
+
 /// Each word at least once, as it is printed.
 const EVERY_WORD: &str = "\
 add64 r0, -1\n\
@@ -190,9 +233,47 @@ fn outcome(alloc: Global, text: &[u8]) -> Result<String, Fail> {
 
 #[test]
 fn texts_say_instructions_or_faults(rt: HostRuntime) -> Result<(), Fail> {
-    let alloc = rt.alloc();
     for (text, wanted) in TEXTS {
-        assert_eq!(rt; outcome(alloc, text)?.as_str(), wanted);
+        assert!(rt; outcome(rt.alloc(), text)?.as_str() == wanted);
+    }
+    Ok(())
+}
+
+#[test]
+fn more_texts(rt: HostRuntime) -> Result<(), Fail> {
+    for (text, wanted) in MORE_TEXTS {
+        assert!(rt; outcome(rt.alloc(), text)?.as_str() == wanted);
+    }
+    Ok(())
+}
+
+/// A text of so many exits between a first and a last line.
+fn around_exits(alloc: Global, first: &str, count: u32, last: &str) -> Result<String, Fail> {
+    let mut text = String::from_str(alloc, first)?;
+    for _ in 0..count {
+        text.push_str("exit\n")?;
+    }
+    text.push_str(last)?;
+    Ok(text)
+}
+
+/// Labels that 16 bits just reach, and that they don't.
+#[test]
+fn far_labels(rt: HostRuntime) -> Result<(), Fail> {
+    let alloc = rt.alloc();
+    let rows = [
+        ("ja f\n", 32_767, "f:", ""),
+        ("ja f\n", 32_768, "f:", "line 1 fault 4 Label"),
+        ("f:\n", 32_767, "ja f", ""),
+        ("f:\n", 32_768, "ja f", "line 32770 fault 4 Label"),
+    ];
+    for (first, count, last, fault) in rows {
+        let text = around_exits(alloc, first, count, last)?;
+        let found = match assemble(alloc, text.as_bytes()) {
+            Ok(_) => String::new(alloc),
+            Err(fault) => fault.to_string(alloc)?,
+        };
+        assert!(rt; found.as_str() == fault, "{first} {count}");
     }
     Ok(())
 }
