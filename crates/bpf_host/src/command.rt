@@ -61,6 +61,19 @@ pub(crate) fn report<O: Write>(failure: &Failure, writer: &mut O) -> u8 {
 
 /// The commands and their options.
 fn command_line<'a>(alloc: Global) -> Result<Command<'a>, AllocError> {
+    Command::new(alloc, "bpf_host")
+        .about("Assembles, verifies and runs BPF procedures, read on standard input")
+        .after_help(EXAMPLES)
+        .subcommand(Command::new(alloc, "asm").about(
+            "Reads an assembler text and prints its code",
+        ))?
+        .subcommand(Command::new(alloc, "disasm").about("Prints the assembler text of code"))?
+        .subcommand(Command::new(alloc, "verify").about("Verifies code and prints the verdict"))?
+        .subcommand(exec_command(alloc)?)
+}
+
+/// `exec` and its options.
+fn exec_command<'a>(alloc: Global) -> Result<Command<'a>, AllocError> {
     let arguments = Arg::new(alloc, "args")
         .long("args")
         .value_name("HEX")
@@ -70,20 +83,10 @@ fn command_line<'a>(alloc: Global) -> Result<Command<'a>, AllocError> {
         .value_name("N")
         .value_parser(value_parser!(u32))
         .help("the client that calls [default: 16]");
-    let asm = Command::new(alloc, "asm").about("Reads an assembler text and prints its code");
-    let disasm = Command::new(alloc, "disasm").about("Prints the assembler text of code");
-    let verify = Command::new(alloc, "verify").about("Verifies code and prints the verdict");
-    let exec = Command::new(alloc, "exec")
+    Command::new(alloc, "exec")
         .about("Verifies code and runs it over an empty map")
         .arg(arguments)?
-        .arg(client)?;
-    Command::new(alloc, "bpf_host")
-        .about("Assembles, verifies and runs BPF procedures, read on standard input")
-        .after_help(EXAMPLES)
-        .subcommand(asm)?
-        .subcommand(disasm)?
-        .subcommand(verify)?
-        .subcommand(exec)
+        .arg(client)
 }
 
 fn dispatch<'a, I: Read, O: Write>(

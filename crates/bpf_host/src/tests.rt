@@ -1,5 +1,6 @@
 use crate::command::run_command;
 use bpf_decode::{decode_all, encode_all};
+use std::alloc::Global;
 use std::io::{self, Read, Write};
 use std::process::Abort;
 use std::test::Fail;
@@ -11,29 +12,48 @@ mod texts;
 /// Words, input, status and output of a run.
 type Case = (&'static [&'static str], &'static str, u8, &'static str);
 
+/// The fields of a row: words, input, status and output.
+fn fields_of(row: &str) -> Option<(&str, &str, &str, &str)> {
+    let mut fields = row.split(" | ");
+    Some((
+        fields.next()?,
+        fields.next()?,
+        fields.next()?,
+        fields.next()?,
+    ))
+}
+
+/// The words of a command line; `-` stands for an empty one.
+fn words_of<'a>(alloc: Global, words: &'a str) -> Result<Vec<&'a str>, Fail> {
+    let mut all = vec![in alloc; "bpf_host"]?;
+    for word in words.split(' ') {
+        all.push(if word == "-" { "" } else { word })?;
+    }
+    Ok(all)
+}
+
+/// Whether a run ends with this status and writes this output, line ends at its end left out.
+fn ends_so<R: AllocGlobal>(
+    rt: &R,
+    words: &[&str],
+    input: &str,
+    status: u8,
+    output: &str,
+) -> Result<bool, Fail> {
+    let mut written = Vec::new(rt.alloc());
+    let mut reader = input.as_bytes();
+    let got = run_command(rt, words, &mut reader, &mut written);
+    Ok(got == status && str::from_utf8(&written)?.trim_end() == output)
+}
+
 /// Runs each row of a table and compares status and output.
 fn run_rows<R: Abort + AllocGlobal>(rt: &R, rows: &str) -> Result<(), Fail> {
-    let alloc = rt.alloc();
     for row in rows.lines() {
-        let mut fields = row.split(" | ");
-        let words = fields.next().ok_or("no words")?;
-        let input = fields.next().ok_or("no input")?;
-        let status = fields.next().ok_or("no status")?;
-        let output = fields.next().ok_or("no output")?;
-        let mut all = vec![in alloc; "bpf_host"]?;
-        for word in words.split(' ') {
-            all.push(if word == "-" { "" } else { word })?;
-        }
-        let mut reader = input.as_bytes();
-        let mut written = Vec::new(alloc);
-        let got = run_command(rt, &all, &mut reader, &mut written);
-        let wanted = output.replace(alloc, "/", "\n")?;
-        assert_eq!(rt; got, status.parse::<u8>()?, "{row}");
-        assert_eq!(rt;
-            str::from_utf8(&written)?.trim_end(),
-            wanted.as_str(),
-            "{row}"
-        );
+        let (words, input, status, output) = fields_of(row).ok_or("a field is missing")?;
+        let words = words_of(rt.alloc(), words)?;
+        let wanted = output.replace(rt.alloc(), "/", "\n")?;
+        let status = status.parse::<u8>()?;
+        assert!(rt; ends_so(rt, &words, input, status, &wanted)?, "{row}");
     }
     Ok(())
 }
