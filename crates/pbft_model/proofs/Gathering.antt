@@ -22,7 +22,7 @@ pub count_least : (m : ℕ) (p : ℕ → Bool) (n : ℕ) → count (is_least m p
 count_least m p zero = omega arith
 count_least m p (suc n) = least_step m (p n) (count p n) (count (is_least m p) n) (count_least m p n)
 
-numbers_last : (many first : ℕ) → numbers_from first (suc many) ≡ numbers_from first many ++ (first + many) ∷ []
+pub numbers_last : (many first : ℕ) → numbers_from first (suc many) ≡ numbers_from first many ++ (first + many) ∷ []
 numbers_last zero first = λ i. zeros i ∷ [] where
   zeros : first ≡ first + 0
   zeros = omega arith
@@ -31,7 +31,7 @@ numbers_last (suc many) first =
       moved : (first + 1) + many ≡ first + suc many
       moved = omega arith
 
-filter_append : {X : Type 0} (g : ℕ → Option X) (ns ms : List ℕ) → filter_map g (ns ++ ms) ≡ filter_map g ns ++ filter_map g ms
+pub filter_append : {X : Type 0} (g : ℕ → Option X) (ns ms : List ℕ) → filter_map g (ns ++ ms) ≡ filter_map g ns ++ filter_map g ms
 filter_append g [] ms = refl
 filter_append {X} g (n ∷ ns) ms = ap (cons_option (g n)) (filter_append g ns ms) ∙ cases (g n) where
   cases : (o : Option X) → cons_option o (filter_map g ns ++ filter_map g ms) ≡ cons_option o (filter_map g ns) ++ filter_map g ms

@@ -82,8 +82,9 @@ pub fn an_execution_has_a_step()
 {}
 
 /// No duty is stuck: at each point of a history in which messages came as lists of bytes, and whose signer
-/// is not past its last leaf, nothing is due, or an act does what is due, or it halts the replica. So it
-/// is at each point of what an input leads to behind the rows of a journal.
+/// has used no more leaves than it has, nothing is due, or an act does what is due and has its leaves, or
+/// what is due halts the replica. So it is at each point of what an input leads to behind the rows of a
+/// journal, if the rows' messages and the input's came so.
 pub fn a_duty_is_done_or_halts()
     ensures acts { (c : Setup) (me : ℕ) (signer : SigningState) → IsConfiguration c.config → (acts : List Act) → IsHistory c me signer acts → TakesBytes acts
         → (core_after c signer acts).signer.next_leaf ≤ leaf_count (core_after c signer acts).signer → GoesOn c me (core_after c signer acts) }

@@ -3,3 +3,5 @@ pub mod Openings
 pub mod EncodingLaws
 pub mod Children
 pub mod Wholes
+mod Voting
+mod Listing

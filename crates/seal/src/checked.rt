@@ -1,6 +1,6 @@
 //! Messages whose signatures were verified, as values.
 
-ghost use Rattle.std.specs.Prelude.{◌≡◌, ◌≤◌, length, IfOk};
+ghost use Rattle.std.specs.Prelude.{◌≡◌, ◌≤◌, ◌<◌, ◌^◌, length, IfOk, IfSome, IsSome};
 ghost use Rattle.std.specs.List.{AllByRecursion};
 ghost use Rattle.pbft_codec.specs.Bodies.{BodyWellFormed};
 ghost use Rattle.pbft_codec.specs.WellFormed.{Encodes};
@@ -8,8 +8,10 @@ ghost use Rattle.pbft_codec.specs.Encoding.{max_bytes, encoding};
 ghost use Rattle.seal.specs.Opening.{CheckedMessage, IsChecked};
 ghost use Rattle.seal.specs.Parts.{messages_in};
 ghost use Rattle.seal.specs.Signers.{IsAuthentic};
+ghost use Rattle.seal.specs.Votes.{vote_of, vote_in, IsVoteOf};
 
-use host_types::{Bytes, Config};
+use crate::vote::{Vote, VoteKind};
+use host_types::{Bytes, Config, ReplicaId};
 use pbft_codec::{Body, CodecFault, Role, Signed, encode};
 use std::alloc::{AllocError, Global};
 use std::marker::Model;
@@ -138,4 +140,34 @@ impl Checked {
         let inner: &Inner = &self.inner;
         &inner.message
     }
+
+    /// The message as a vote, or none where it is none. The primary of its view signed a `PrePrepare`,
+    /// another replica a `Prepare`. It takes no memory.
+    pub fn vote(&self) -> Option<Vote>
+        ensures value { result ≡ vote_of self.now.message }
+        ensures proper { IfSome result (λ v. IsVoteOf self.now v) }
+    {
+        let _ = self.config().f();
+        vote_in(self.body(), self.signer().1)
+    }
+}
+
+/// What a body says as a vote of this replica.
+fn vote_in(body: &Body, signer: u32) -> Option<Vote>
+    requires { IsSome (vote_in signer body.now) → signer < 2 ^ 8 }
+    ensures { result ≡ vote_in signer body.now }
+{
+    let (kind, view, number, digest) = match body {
+        Body::PrePrepare(said) => (VoteKind::PrePrepare, said.view, said.number, said.digest),
+        Body::Prepare(said) => (VoteKind::Prepare, said.view, said.number, said.digest),
+        Body::Commit(said) => (VoteKind::Commit, said.view, said.number, said.digest),
+        _ => return None,
+    };
+    Some(Vote {
+        kind,
+        view,
+        number,
+        digest,
+        signer: ReplicaId(signer as u8),
+    })
 }

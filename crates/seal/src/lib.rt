@@ -8,15 +8,19 @@
 #![tactic(auto)]
 
 mod checked;
+mod checked_list;
 mod fault;
 mod nested_messages;
 mod opening;
 mod part;
 mod sealing;
 mod verify_parts;
+mod vote;
 
 pub use checked::Checked;
+pub use checked_list::CheckedList;
 pub use fault::SealFault;
 pub use opening::{nested, open, parts, request_digest};
 pub use part::Part;
 pub use sealing::seal;
+pub use vote::{Vote, VoteKind};

@@ -18,7 +18,6 @@ use Rattle.tenant_maps.specs.Entries.{Entries, has_room, put}
 use Rattle.tenant_maps.proofs.EntriesLemmas.{All-keys-put, All-values-put, count_stays}
 use Rattle.bpf_num.specs.Bind.{◌>>=◌}
 use Rattle.bpf_decode.specs.declared.insn.Insn.{Insn}
-use Rattle.bpf_decode.specs.Faults.{IsCode, length_fault}
 use Rattle.bpf_model.specs.declared.helper.Helper.{Helper}
 use Rattle.bpf_model.specs.declared.helper.Helper.TheVariants.{Get, Put}
 use Rattle.bpf_model.specs.Machine.{Machine, Memory, Call, start, bytes_at, is_in_bounds}
@@ -29,9 +28,9 @@ use Rattle.bpf_model.proofs.Effects.{Keeps, step_keeps}
 use Rattle.bpf_model.proofs.Options.{bind_some, no_fault, some_is}
 use Rattle.service_core.specs.declared.outcome.Outcome.{Outcome}
 use Rattle.service_core.specs.Words.{four_bytes, eight_bytes}
-use Rattle.service_core.specs.Operations.{Operation, Install, Call as CallOf, Bad, operation_of, Installs, Calls, Runs, Does, installed, called, refused, no_procedure, too_many_procedures, arguments_too_long, bad_operation}
+use Rattle.service_core.specs.Operations.{Operation, Install, Call as CallOf, Bad, operation_of, Installs, Runs, Does, installed, called, refused, no_procedure, too_many_procedures, arguments_too_long, bad_operation}
 use Rattle.service_core.specs.TenantStates.{Replies, TenantState, Service, tenant_at, with_tenant, empty_tenant, genesis_of, last_reply_of}
-use Rattle.service_core.specs.Steps.{reply_to, Executes, IsTenantStep, TakesRequest, IsStep}
+use Rattle.service_core.specs.Steps.{reply_to, Executes, IsTenantStep, IsStep}
 use Rattle.service_core.specs.Bounded.{IsSizedMap, IsBoundedReply, IsBoundedTenant, IsBounded}
 use Rattle.service_core.proofs.Soundness.{one_of_bool, one_of_option, found_one, all_with_tenant}
 use Rattle.service_core.proofs.TenantIndexes.{empty_tenants}

@@ -1,5 +1,5 @@
 -- The clients of a configuration by id, each once, and the last replies to them.
-use Rattle.std.proofs.Common.{◌≡◌, ℕ, ◌<◌, Bool, true, false, ◌||◌, eqb, List, [], ◌∷◌, Option, Some, None, refl, sym, ap, subst, ◌∙◌, true≢false, arith, inl, inr}
+use Rattle.std.proofs.Common.{◌≡◌, ℕ, ◌<◌, Bool, true, false, ◌||◌, eqb, List, [], ◌∷◌, Option, Some, None, refl, sym, ap, subst, true≢false, arith, inl, inr}
 use Rattle.std.specs.Prelude.{fold, find, cond, IsSome}
 use Rattle.std.specs.Prelude.{IfSome}
 use Rattle.std.specs.List.{list_any, filter_map, cons_option}
@@ -49,15 +49,15 @@ module _ {X : Type 0} (number : X → ℕ) where
   Has q xs = list_any (λ x. eqb (number x) q) xs ≡ true
 
 module _ where
-  or_left : (a b : Bool) → a ≡ true → (a || b) ≡ true
+  pub or_left : (a b : Bool) → a ≡ true → (a || b) ≡ true
   or_left true b e = refl
   or_left false b e = absurd (true≢false (sym e))
 
-  or_right : (a b : Bool) → b ≡ true → (a || b) ≡ true
+  pub or_right : (a b : Bool) → b ≡ true → (a || b) ≡ true
   or_right true b e = refl
   or_right false b e = e
 
-  or_cases : (a b : Bool) (C : Type 0) → (a ≡ true → C) → (b ≡ true → C) → (a || b) ≡ true → C
+  pub or_cases : (a b : Bool) (C : Type 0) → (a ≡ true → C) → (b ≡ true → C) → (a || b) ≡ true → C
   or_cases true b C one two e = one refl
   or_cases false b C one two e = two e
 
@@ -116,7 +116,7 @@ abbrev pub OwnReplies : (ℕ → Option Reply) → Type 0
 OwnReplies f = (q : ℕ) → IfSome (f q) (λ reply. reply.client.0 ≡ q)
 
 -- the first reply that is found is one to a client whose id is above
-above_first : (f : ℕ → Option Reply) → OwnReplies f → (n : ℕ) (ids : List ClientId) (reply : Reply) (replies : List Reply) → Each (λ id. n < id.0) ids
+pub above_first : (f : ℕ → Option Reply) → OwnReplies f → (n : ℕ) (ids : List ClientId) (reply : Reply) (replies : List Reply) → Each (λ id. n < id.0) ids
     → filter_map (λ id. f id.0) ids ≡ reply ∷ replies → n < reply.client.0
 above_first f own n [] reply replies up e = absurd (cc)
 above_first f own n (id ∷ ids) reply replies up e = cases (f id.0) (own id.0) (above_first f own n ids reply replies up.1) e where

@@ -2,12 +2,11 @@
 use Rattle.std.proofs.Common.{◌≡◌, ℕ, suc, ◌+◌, ◌^◌, ◌<◌, ◌≤◌, Bool, true, false, eqb, List, [], ◌∷◌, ◌++◌, length, map, Option, Some, None, refl, sym, ap, subst, ◌∙◌, append_assoc, arith}
 use Rattle.std.specs.Prelude.{flat_map, find, fold, cond, nat_lt, option_and_then, All, IsSome, IsSomeAnd}
 use Rattle.std.specs.Prelude.{IfSome}
-use Rattle.std.specs.Ordering.{nat_cmp}
 use Rattle.std.specs.Cmp.{nat_cmp_total}
-use Rattle.std.specs.Cmp.Lexicographic.{slice_cmp, nat_list_cmp_total}
+use Rattle.std.specs.Cmp.Lexicographic.{nat_list_cmp_total}
 use Rattle.std.specs.List.{filter_map, cons_option}
 use Rattle.std.specs.FinMap as finite
-use Rattle.std.proofs.lemmas.Bool.{eq-eqb, eqb-true, ne_eqb}
+use Rattle.std.proofs.lemmas.Bool.{eq-eqb, ne_eqb}
 use Rattle.std.proofs.lemmas.List.{length-map}
 use Rattle.std.proofs.lemmas.List.Elements.{All-head, All-tail, All-cons, All-nil}
 use Rattle.host_types.specs.declared.TenantId.{TenantId}
@@ -23,12 +22,12 @@ use Rattle.service_core.specs.TenantStates.{Replies, TenantState, Service, tenan
 use Rattle.service_core.specs.Encoding.{encoded, encoded_reply, encoded_replies, encoded_tenant, encoded_procedures, encoded_entries, length_prefixed, last_replies_of}
 use Rattle.service_core.specs.Sound.{IsSoundTenant, IsSound}
 use Rattle.service_core.specs.Bounded.{IsSizedMap, IsBoundedReply, IsBoundedTenant, IsBounded}
-use Rattle.service_core.proofs.PrefixFree.{InRange, same_length, free_bytes, free_four, free_eight, free_length_prefixed, free_items, free_list, free_reply}
-use Rattle.service_core.proofs.Clients.{Each, Ascends, OwnReplies, has, listed, client_ids_ascend, same_found}
+use Rattle.service_core.proofs.PrefixFree.{InRange, same_length, free_bytes, free_eight, free_length_prefixed, free_list, free_reply}
+use Rattle.service_core.proofs.Clients.{Each, Ascends, OwnReplies, listed, client_ids_ascend, same_found}
 
 -- ---- a tenant's procedures and entries
 
-free_entry : (x y : List ℕ × List ℕ) (r t : List ℕ) → (length x.0 ≡ 16) × (length x.1 ≡ 32) → (length y.0 ≡ 16) × (length y.1 ≡ 32)
+pub free_entry : (x y : List ℕ × List ℕ) (r t : List ℕ) → (length x.0 ≡ 16) × (length x.1 ≡ 32) → (length y.0 ≡ 16) × (length y.1 ≡ 32)
     → (x.0 ++ x.1) ++ r ≡ (y.0 ++ y.1) ++ t → (x ≡ y) × (r ≡ t)
 free_entry x y r t p q h =
     let key = free_bytes 16 x.0 y.0 (x.1 ++ r) (y.1 ++ t) p.0 q.0 (sym (append_assoc x.0 x.1 r) ∙ h ∙ append_assoc y.0 y.1 t) in
@@ -53,12 +52,12 @@ small n m le lt = omega (arith, le, lt)
 codes_short : (codes : List (List ℕ)) → All (λ code. length code ≤ 8192) codes → All (λ code. length code < 2 ^ 32) codes
 codes_short codes all = λ k d h. small _ 8192 (all k d h) (omega arith)
 
-procedures_free : (xs ys : List (List ℕ)) (r t : List ℕ) → length xs ≤ 64 → length ys ≤ 64 → All (λ code. length code ≤ 8192) xs → All (λ code. length code ≤ 8192) ys
+pub procedures_free : (xs ys : List (List ℕ)) (r t : List ℕ) → length xs ≤ 64 → length ys ≤ 64 → All (λ code. length code ≤ 8192) xs → All (λ code. length code ≤ 8192) ys
     → encoded_procedures xs ++ r ≡ encoded_procedures ys ++ t → (xs ≡ ys) × (r ≡ t)
 procedures_free xs ys r t fx fy cx cy h =
     free_list length_prefixed (λ code. length code < 2 ^ 32) free_length_prefixed xs ys r t (small _ 64 fx (omega arith), codes_short xs cx) (small _ 64 fy (omega arith), codes_short ys cy) h
 
-entries_free : (a b : Entries) (r t : List ℕ) → IsSizedMap a → IsSizedMap b → encoded_entries a ++ r ≡ encoded_entries b ++ t → (a ≡ b) × (r ≡ t)
+pub entries_free : (a b : Entries) (r t : List ℕ) → IsSizedMap a → IsSizedMap b → encoded_entries a ++ r ≡ encoded_entries b ++ t → (a ≡ b) × (r ≡ t)
 entries_free a b r t fa fb h =
     let count : (m : Entries) → four_bytes (finite.len m) ≡ four_bytes (length (finite.entries m)) = λ m. ap four_bytes (finite.len-entries m) in
     let spread : (m : Entries) → List ℕ = λ m. flat_map (λ entry. entry.0 ++ entry.1) (finite.entries m) in
@@ -79,7 +78,7 @@ SameTenants (x ∷ xs) (y ∷ ys) = (x.tenant ≡ y.tenant) × (x.procedures ≡
 regrouped : (a b c r : List ℕ) → ((a ++ b) ++ c) ++ r ≡ a ++ (b ++ (c ++ r))
 regrouped a b c r = simp append_assoc
 
-four_long : (n m : ℕ) → length (four_bytes n) ≡ length (four_bytes m)
+pub four_long : (n m : ℕ) → length (four_bytes n) ≡ length (four_bytes m)
 unfolding four_bytes
 four_long n m = refl
 
@@ -117,7 +116,7 @@ each_after n (u ∷ us) (x ∷ xs) all e =
     let rest : map (λ z. z.tenant) xs ≡ map (λ v. v.0) us = cc in
     (subst (λ (k : ℕ). n < k) (sym one) (all 0 u (omega arith)), each_after n us xs (λ k d h. all (suc k) d (omega (arith, h))) rest)
 
-ascends_like : (us : List TenantId) (xs : List TenantState) → IsAscending us → map (λ x. x.tenant) xs ≡ map (λ u. u.0) us → Ascends id_of xs
+pub ascends_like : (us : List TenantId) (xs : List TenantState) → IsAscending us → map (λ x. x.tenant) xs ≡ map (λ u. u.0) us → Ascends id_of xs
 ascends_like [] [] up e = tt
 ascends_like [] (x ∷ xs) up e = absurd (cc)
 ascends_like (u ∷ us) [] up e = absurd (cc)
@@ -222,14 +221,14 @@ last_bounded s bounded q = entry (entry_of s.config.clients q) where
   entry None = tt
   entry (Some e) = part (tenant_at s.tenants e.tenant.0) (found_has (IsBoundedTenant s.number) (λ p. eqb p.tenant e.tenant.0) s.tenants bounded.tenants_in_range)
 
-own_of : (s : Service) → IsBounded s → OwnReplies (last_reply_of s)
+pub own_of : (s : Service) → IsBounded s → OwnReplies (last_reply_of s)
 own_of s bounded q = cases (last_reply_of s q) (last_bounded s bounded q) where
   cases : (o : Option Reply) → IfSome o (IsBoundedReply s.number q) → IfSome o (λ reply. reply.client.0 ≡ q)
   cases None h = tt
   cases (Some reply) h = h.own
 
 -- the replies that stand in a state's bytes are in range
-replies_in_range : (s : Service) → IsBounded s → (ids : List ClientId) → All InRange (filter_map (λ id. last_reply_of s id.0) ids)
+pub replies_in_range : (s : Service) → IsBounded s → (ids : List ClientId) → All InRange (filter_map (λ id. last_reply_of s id.0) ids)
 replies_in_range s bounded [] = All-nil InRange
 replies_in_range s bounded (id ∷ ids) = cases (last_reply_of s id.0) (last_bounded s bounded id.0) (replies_in_range s bounded ids) where
   in_range : (reply : Reply) → IsBoundedReply s.number id.0 reply → InRange reply
@@ -270,7 +269,7 @@ pub few_replies_found : (s : Service) → IsBounded s → length (last_replies_o
 few_replies_found s bounded =
     omega (arith, found_at_most (λ (id : ClientId). last_reply_of s id.0) (client_ids_of s.config.clients), ids_at_most s.config.clients [], bounded.is_configuration.clients)
 
-few_replies : (s : Service) → IsBounded s → length (last_replies_of s) < 2 ^ 32
+pub few_replies : (s : Service) → IsBounded s → length (last_replies_of s) < 2 ^ 32
 few_replies s bounded = omega (arith, few_replies_found s bounded)
 
 short_found : (s : Service) → IsBounded s → (ids : List ClientId) → All (λ reply. length reply.result ≤ 265) (filter_map (λ id. last_reply_of s id.0) ids)

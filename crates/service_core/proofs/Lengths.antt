@@ -1,17 +1,15 @@
 -- How long a bounded state's bytes are at most.
-use Rattle.std.proofs.Common.{◌≡◌, ℕ, suc, ◌+◌, ◌*◌, ◌≤◌, List, [], ◌∷◌, ◌++◌, length, map, refl, sym, ap, ◌∙◌, arith}
+use Rattle.std.proofs.Common.{◌≡◌, ℕ, ◌+◌, ◌*◌, ◌≤◌, List, [], ◌∷◌, ◌++◌, length, refl, sym, ap, ◌∙◌, arith}
 use Rattle.std.specs.Prelude.{flat_map, All}
-use Rattle.std.specs.List.{filter_map}
 use Rattle.std.specs.FinMap as finite
 use Rattle.std.proofs.lemmas.List.{length-append, length-map}
-use Rattle.std.proofs.lemmas.List.Elements.{All-head, All-tail, All-cons, All-nil}
-use Rattle.host_types.specs.declared.ClientId.{ClientId}
+use Rattle.std.proofs.lemmas.List.Elements.{All-head, All-tail}
 use Rattle.host_types.specs.declared.request.Reply.{Reply}
-use Rattle.host_types.specs.Configuration.{client_ids_of, tenants_of}
+use Rattle.host_types.specs.Configuration.{tenants_of}
 use Rattle.service_core.specs.Words.{four_bytes, eight_bytes}
-use Rattle.service_core.specs.TenantStates.{TenantState, Service, last_reply_of}
+use Rattle.service_core.specs.TenantStates.{TenantState, Service}
 use Rattle.service_core.specs.Encoding.{encoded, encoded_reply, encoded_replies, encoded_tenant, encoded_procedures, encoded_entries, length_prefixed, last_replies_of}
-use Rattle.service_core.specs.Bounded.{IsSizedMap, IsBoundedTenant, IsBounded}
+use Rattle.service_core.specs.Bounded.{IsBoundedTenant, IsBounded}
 use Rattle.service_core.proofs.Injective.{entry_lengths, replies_are_short, few_replies_found}
 use Rattle.service_core.proofs.Bounds.{four_short, eight_short}
 

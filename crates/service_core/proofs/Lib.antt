@@ -16,3 +16,11 @@ pub mod Lengths
 pub mod Bytes
 pub mod Existing
 pub mod Reading
+pub mod Spelled
+pub mod Replies
+pub mod Turns
+pub mod KeysInOrder
+pub mod Codes
+pub mod Parts
+pub mod RepliesInTurn
+pub mod StateRead

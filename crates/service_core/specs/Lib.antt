@@ -9,3 +9,6 @@ pub mod Sinks
 pub mod Sound
 pub mod Bounded
 pub mod Asked
+pub mod Spelling
+pub mod StateFaults
+pub mod Readings

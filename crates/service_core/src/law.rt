@@ -75,8 +75,8 @@ pub fn maps_stay_maps()
     ensures read { (state : Service) → IsBounded state → All (λ byte. byte < 256) (encoded state) → HasTenantMaps state }
 {}
 
-/// A step exists, and so the service never stops for want of one: from each state that it reaches, for
-/// the null request and for every request that a client of the configuration can make. Hence a list of
+/// A step exists, and so the service never stops for want of one: from each bounded and sound state with
+/// tenants' maps, for the null request and for every request that a client of the configuration can make. Hence a list of
 /// such requests, taken from the beginning, has an outcome.
 pub fn a_step_exists()
     ensures one { (state : Service) (request : Option Request) →

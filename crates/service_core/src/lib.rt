@@ -7,9 +7,12 @@ mod encoding;
 mod law;
 mod operation;
 mod outcome;
+mod reader;
 mod sink;
 mod state;
+mod state_fault;
 mod tenant_part;
+mod tenant_reader;
 
 pub use law::{
     a_step_exists, a_step_has_one_outcome, equal_bytes_are_equal_states,
@@ -18,3 +21,4 @@ pub use law::{
 };
 pub use outcome::Outcome;
 pub use state::State;
+pub use state_fault::StateFault;

@@ -1,21 +1,26 @@
 //! The state of the service, and what the next request makes of it.
 
-ghost use Rattle.std.specs.Prelude.{◌≡◌, ◌+◌, ◌^◌, ◌<◌, ◌≤◌, ◌++◌, flat_map, IfOk, IsSome, is_some, OnOk, IfSome, length, map};
+ghost use Rattle.std.specs.Prelude.{◌≡◌, ◌+◌, ◌^◌, ◌<◌, ◌≤◌, ◌++◌, flat_map, IfOk, IfErr, IsSome, is_some, OnOk, IfSome, length, map};
 ghost use Rattle.std.specs.List.{filter_map};
 ghost use Rattle.std.specs.Option.{option_copied, option_map};
 ghost use Rattle.std.specs.Arc.{arc_value};
 ghost use Rattle.sha2.specs.Sha256.{sha256};
 ghost use Rattle.host_types.specs.Configuration.{entry_of};
 ghost use Rattle.service_core.specs.Words.{four_bytes};
-ghost use Rattle.service_core.specs.TenantStates.{genesis_of, tenant_index, client_index, last_reply_of};
+ghost use Rattle.service_core.specs.Spelling.{Spells};
+ghost use Rattle.service_core.specs.declared.state_fault.StateFault.TheVariants.{BadState};
+ghost use Rattle.service_core.specs.TenantStates.{Service, genesis_of, tenant_index, client_index, last_reply_of};
 ghost use Rattle.service_core.specs.Steps.{IsStep};
 ghost use Rattle.service_core.specs.Sinks.{Feeds};
 ghost use Rattle.service_core.specs.Encoding.{encoded, encoded_reply, encoded_tenant};
 
 use crate::encoding::{put_reply, put_tenant, put_u32, put_u64};
 use crate::outcome::Outcome;
+use crate::reader::{read_head, read_replies};
 use crate::sink::Sink;
+use crate::state_fault::StateFault;
 use crate::tenant_part::TenantPart;
+use crate::tenant_reader::read_tenants;
 use host_types::{ClientId, Config, Digest, Reply, Request, SeqNo, TenantId};
 use sha2::Sha256;
 use std::alloc::{AllocError, Global};
@@ -67,6 +72,30 @@ impl State {
             alloc,
             config,
             number: 0,
+            tenants,
+        })
+    }
+
+    /// The state whose canonical encoding under the configuration these bytes are: the one that
+    /// `to_bytes` gives them for. `BadState` comes exactly where there is no such state: for another
+    /// version or spelling, a number of 2^48 or more, a reply to a client that is not listed, of a
+    /// number that is 0 or above the state's, or with a result over 265 bytes, tenants other than the
+    /// configuration's, code that the verifier refuses, or a passed limit. `Memory` comes where memory
+    /// ran out. The state takes its memory from `alloc`.
+    pub fn from_bytes(alloc: Global, config: Arc<Config>, bytes: &[u8]) -> Result<State, StateFault>
+        ensures state { IfOk result (λ state. Spells (arc_value config) bytes.now state) }
+        ensures none { IfErr result (λ fault. fault ≡ BadState → (state : Service) → Spells (arc_value config) bytes.now state → ⊥) }
+    {
+        let (number, rest) = read_head(bytes)?;
+        let (replies, rest) = read_replies(alloc, &config, number, rest)?;
+        let (tenants, rest) = read_tenants(alloc, &config, &replies, rest)?;
+        if !rest.is_empty() {
+            return Err(StateFault::BadState);
+        }
+        Ok(State {
+            alloc,
+            config,
+            number,
             tenants,
         })
     }

@@ -1,6 +1,6 @@
 //! A tenant's part of the state, and what a request does to it.
 
-ghost use Rattle.std.specs.Prelude.{◌≡◌, ◌==◌, ◌≤◌, IfOk, OnOk, IfSome, All, find, position, length};
+ghost use Rattle.std.specs.Prelude.{◌≡◌, ◌==◌, ◌≤◌, IfOk, OnOk, IfSome, All, find, position, length, map};
 ghost use Rattle.std.specs.Option.{option_copied};
 ghost use Rattle.std.specs.FinMap as finite;
 ghost use Rattle.service_core.specs.TenantStates.{replies_of, empty_tenant};
@@ -49,6 +49,30 @@ impl TenantPart {
             procedures: Vec::new(alloc),
             entries: TenantMap::new(alloc),
             last_replies: Vec::new(alloc),
+        }
+    }
+
+    /// The part of a tenant with these procedures, entries and last replies.
+    pub(crate) fn with(
+        alloc: Global,
+        tenant: TenantId,
+        procedures: Vec<Procedure>,
+        entries: TenantMap,
+        last_replies: Vec<Reply>,
+    ) -> TenantPart
+        requires procedures { length procedures.items ≤ 64 }
+        requires replies { All (λ reply. length reply.result ≤ 265) last_replies.items }
+        ensures tenant { result.tenant ≡ tenant.0 }
+        ensures procedures { result.procedures ≡ map (λ p. p.bytes) procedures.items }
+        ensures entries { result.entries ≡ entries.entries }
+        ensures replies { result.last_replies ≡ replies_of last_replies.items }
+    {
+        TenantPart {
+            alloc,
+            tenant,
+            procedures,
+            entries,
+            last_replies,
         }
     }
 
@@ -133,7 +157,7 @@ fn reply_index(replies: &[Reply], client: ClientId) -> Option<usize>
 }
 
 /// A copy of a reply.
-fn copy_of(alloc: Global, reply: &Reply) -> Result<Reply, AllocError>
+pub(crate) fn copy_of(alloc: Global, reply: &Reply) -> Result<Reply, AllocError>
     ensures { IfOk result (λ copy. copy ≡ reply.now) }
 {
     Ok(Reply {

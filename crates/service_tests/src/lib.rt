@@ -11,4 +11,6 @@ mod running;
 #[cfg(test)]
 mod service;
 #[cfg(test)]
+mod state_bytes;
+#[cfg(test)]
 mod verifying;

@@ -10,10 +10,10 @@ use std::sync::Arc;
 use std::test::Fail;
 
 /// Code that puts 7 into r0 and exits.
-const SEVEN: &[u8] = &[0xb7, 0, 0, 0, 7, 0, 0, 0, 0x95, 0, 0, 0, 0, 0, 0, 0];
+pub(crate) const SEVEN: &[u8] = &[0xb7, 0, 0, 0, 7, 0, 0, 0, 0x95, 0, 0, 0, 0, 0, 0, 0];
 
 /// A configuration of four replicas, with a client for each pair of an id and a tenant.
-fn config(alloc: Global, pairs: &[(u32, u32)]) -> Result<Arc<Config>, Fail> {
+pub(crate) fn config(alloc: Global, pairs: &[(u32, u32)]) -> Result<Arc<Config>, Fail> {
     let mut keys = Vec::new(alloc);
     for index in 0..4u8 {
         keys.push([index; 56])?;
@@ -31,14 +31,14 @@ fn config(alloc: Global, pairs: &[(u32, u32)]) -> Result<Arc<Config>, Fail> {
 }
 
 /// The bytes of an installation of `code`.
-fn install(alloc: Global, code: &[u8]) -> Result<Bytes, AllocError> {
+pub(crate) fn install(alloc: Global, code: &[u8]) -> Result<Bytes, AllocError> {
     let mut op = [1].to_vec(alloc)?;
     op.extend_from_slice(code)?;
     Ok(Bytes::from_vec(op))
 }
 
 /// The bytes of a call of a procedure.
-fn call(alloc: Global, procedure: u32, arguments: &[u8]) -> Result<Bytes, AllocError> {
+pub(crate) fn call(alloc: Global, procedure: u32, arguments: &[u8]) -> Result<Bytes, AllocError> {
     let mut op = [2].to_vec(alloc)?;
     op.extend_from_slice(&procedure.to_be_bytes())?;
     op.extend_from_slice(arguments)?;
@@ -46,12 +46,12 @@ fn call(alloc: Global, procedure: u32, arguments: &[u8]) -> Result<Bytes, AllocE
 }
 
 /// An operation of these bytes.
-fn raw(alloc: Global, bytes: &[u8]) -> Result<Bytes, AllocError> {
+pub(crate) fn raw(alloc: Global, bytes: &[u8]) -> Result<Bytes, AllocError> {
     Ok(Bytes::from_vec(bytes.to_vec(alloc)?))
 }
 
 /// A client's request for an operation.
-fn request(client: u32, time: u64, op: Bytes) -> Request {
+pub(crate) fn request(client: u32, time: u64, op: Bytes) -> Request {
     Request {
         client: ClientId(client),
         time,
@@ -60,7 +60,7 @@ fn request(client: u32, time: u64, op: Bytes) -> Request {
 }
 
 /// Applies a request where its conditions hold.
-fn apply(state: &mut State, request: &Request) -> Result<Outcome, Fail> {
+pub(crate) fn apply(state: &mut State, request: &Request) -> Result<Outcome, Fail> {
     if state.number().0 > 10_000 || !state.is_listed(request.client) {
         return Err(Fail::new("can't be applied"));
     }
@@ -94,7 +94,7 @@ fn expect<R: Abort + AllocGlobal>(
 }
 
 /// The state that a configuration begins with.
-fn genesis(alloc: Global, pairs: &[(u32, u32)]) -> Result<State, Fail> {
+pub(crate) fn genesis(alloc: Global, pairs: &[(u32, u32)]) -> Result<State, Fail> {
     Ok(State::genesis(alloc, config(alloc, pairs)?)?)
 }
 
@@ -168,7 +168,7 @@ fn the_first_state_as_bytes(rt: HostRuntime) -> Result<(), Fail> {
     expect_bytes(&rt, &state, wanted)
 }
 
-const SMALL_STATE: &str = "\
+pub(crate) const SMALL_STATE: &str = "\
     0100000000000000020000000100000064000000000000000200000000000000020000000900000000000000\
     000700000001000000010000000100000010b700000007000000950000000000000000000000";
 
@@ -187,14 +187,14 @@ fn a_small_state_as_bytes(rt: HostRuntime) -> Result<(), Fail> {
 }
 
 /// Code that puts the 32 argument bytes after the first 16 at the key that these are.
-const PUT: &[u8] = &[
+pub(crate) const PUT: &[u8] = &[
     0xbf, 0x12, 0, 0, 0, 0, 0, 0, 0x07, 0x02, 0, 0, 0x10, 0, 0, 0, 0x85, 0, 0, 0, 2, 0, 0, 0, 0x95,
     0, 0, 0, 0, 0, 0, 0,
 ];
 
 /// Code that reads the value of the key in the first 16 argument bytes into the 32 behind them, and
 /// puts these at the key that follows: what an absent key reads as ends up in the map.
-const COPY: &[u8] = &[
+pub(crate) const COPY: &[u8] = &[
     0xbf, 0x16, 0, 0, 0, 0, 0, 0, // r6 = r1
     0xbf, 0x12, 0, 0, 0, 0, 0, 0, 0x07, 0x02, 0, 0, 0x10, 0, 0, 0, // r2 = r1 + 16
     0x85, 0, 0, 0, 1, 0, 0, 0, // get
@@ -205,7 +205,7 @@ const COPY: &[u8] = &[
 ];
 
 /// The state of `a_full_state_as_bytes`.
-const FULL_STATE: &str = "\
+pub(crate) const FULL_STATE: &str = "\
     0100000000000000060000000300000064000000000000000600000000000000060000000900000000000000\
     0000000000c8000000000000005c0000000000000005000000090000000000000000000000012c0000000000\
     000046000000000000000100000005000000000000000002000000010000000200000020bf12000000000000\

@@ -1,7 +1,7 @@
 use Rattle.std.proofs.Common.{◌++◌, ap, ◌∙◌}
 use Rattle.std.specs.FinMap as finite
 use Rattle.service_core.specs.Words.{four_bytes}
-use Rattle.service_core.proofs.Fed.{fed_then, fed_same, put_none, put_more, put_all}
+use Rattle.service_core.proofs.Fed.{fed_same, put_none, put_more, put_all}
 use Rattle.service_core.proofs.encoding.put_entries.Goals as goal
 
 pub loop-key-init : goal.loop-key-init

@@ -1,0 +1,9 @@
+pub mod Stable
+pub mod Voting
+pub mod Keys
+pub mod Views
+pub mod Changes
+pub mod Discarding
+pub mod Noting
+pub mod Proving
+pub mod Cores

@@ -1,0 +1,19 @@
+mod Masks
+pub mod Ballots
+pub mod Least
+pub mod Counts
+pub mod Slots
+pub mod Windows
+pub mod Tables
+pub mod Covering
+pub mod Discarding
+pub mod Recording
+pub mod Accepting
+pub mod KindReadings
+pub mod Logging
+pub mod Asking
+pub mod Certificates
+pub mod Dropping
+pub mod EnteringSlots
+pub mod EnteringLog
+pub mod EnteringTable

@@ -1,0 +1,79 @@
+-- Internal: the log that the tables of places stand for.
+use Rattle.std.specs.Prelude.{◌≡◌, ℕ, ◌*◌, List, Option, Some, None, length, not, nat_lt, Result, Ok, Err, if◌then◌else◌}
+use Rattle.std.specs.Option.{option_map}
+use Rattle.host_types.specs.Configuration.{Configuration}
+use Rattle.host_types.specs.declared.SeqNo.{SeqNo}
+use Rattle.pbft_codec.specs.declared.body.Body.{Body}
+use Rattle.pbft_codec.specs.declared.body.Body.TheVariants as bodies
+use Rattle.pbft_model.specs.Words.{Signed, PrePrepare, Prepare, Commit}
+use Rattle.pbft_model.specs.Acts.{with_body}
+use Rattle.pbft_model.specs.Tables.{Table}
+use Rattle.seal.specs.Opening.{CheckedMessage}
+use Rattle.seal.specs.declared.vote.VoteKind.{VoteKind}
+use Rattle.seal.specs.declared.vote.VoteKind.TheVariants as kinds
+use Rattle.seal.specs.declared.vote.Vote.{Vote}
+use Rattle.quorum_log.specs.declared.fault.LogFault.{LogFault}
+use Rattle.quorum_log.specs.declared.fault.LogFault.TheVariants as faults
+use Rattle.quorum_log.specs.declared.place.Place.{Place}
+pub use Rattle.quorum_log.specs.Log.{as_pre_prepare}
+use Rattle.quorum_log.specs.Log.{Log, is_within}
+use Rattle.quorum_log.specs.Slots.{IsSlotAt}
+use Rattle.quorum_log.specs.Windows.{slot_of, table_by, vote_at_key, keys_by_number}
+
+abbrev pub as_prepare : Signed Body → Body → Option (Signed Prepare)
+as_prepare m (bodies.Prepare b) = Some (with_body m b)
+as_prepare m (bodies.PrePrepare b) = None
+as_prepare m (bodies.Commit b) = None
+as_prepare m (bodies.Request b) = None
+as_prepare m (bodies.Reply b) = None
+as_prepare m (bodies.Checkpoint b) = None
+as_prepare m (bodies.ViewChange b) = None
+as_prepare m (bodies.NewView b) = None
+as_prepare m (bodies.Fetch b) = None
+as_prepare m (bodies.Snapshot b) = None
+
+abbrev pub as_commit : Signed Body → Body → Option (Signed Commit)
+as_commit m (bodies.Commit b) = Some (with_body m b)
+as_commit m (bodies.PrePrepare b) = None
+as_commit m (bodies.Prepare b) = None
+as_commit m (bodies.Request b) = None
+as_commit m (bodies.Reply b) = None
+as_commit m (bodies.Checkpoint b) = None
+as_commit m (bodies.ViewChange b) = None
+as_commit m (bodies.NewView b) = None
+as_commit m (bodies.Fetch b) = None
+as_commit m (bodies.Snapshot b) = None
+
+-- a vote as a message of its kind
+abbrev pub read_by : {B : Type 0} → (Signed Body → Body → Option (Signed B)) → Option CheckedMessage → Option (Signed B)
+read_by pick None = None
+read_by pick (Some m) = pick m.message m.message.body
+
+-- the table of one kind
+abbrev pub table_of : {B : Type 0} → (Signed Body → Body → Option (Signed B)) → VoteKind → ℕ → List Place → Table (Signed B)
+table_of pick kind low ps = table_by (λ q. read_by pick (vote_at_key kind low ps q)) (keys_by_number low ps)
+
+abbrev pub log_in : ℕ → Option SeqNo → ℕ → List Place → Log
+log_in view floor low ps = record {
+  view = view;
+  floor = option_map (λ n. n.0) floor;
+  low = low;
+  pre_prepares = table_of as_pre_prepare kinds.PrePrepare low ps;
+  prepares = table_of as_prepare kinds.Prepare low ps;
+  commits = table_of as_commit kinds.Commit low ps;
+}
+
+-- there is a place for each number between the marks, and each vote stands at its own
+pub record AreKept (c : Configuration) (low : ℕ) (ps : List Place) : Type 0 where
+  pub span : length ps ≡ 2 * c.k
+  pub slots : (number view : ℕ) → IsSlotAt c view number (slot_of low ps number view)
+
+-- why a vote has no place: its view, before its number
+abbrev pub place_fault : Configuration → Log → Vote → Option LogFault
+place_fault c l v =
+    if nat_lt v.view.0 l.view then Some faults.WrongView
+    else (if not (is_within c l v.view.0 v.number.0) then Some faults.OutsideMarks else None)
+
+abbrev pub fault_of : {A : Type 0} → Result A LogFault → Option LogFault
+fault_of (Ok x) = None
+fault_of (Err fault) = Some fault

@@ -1,0 +1,93 @@
+-- Internal: what is recorded between the water marks.
+use Rattle.std.proofs.Common.{zero, suc, ◌≢◌, ◌⊎◌}
+use Rattle.std.specs.Prelude.{◌≡◌, ℕ, ◌+◌, ◌-◌, ◌==◌, ◌&&◌, ◌||◌, Bool, false, nat_lt, nat_le, ◌<◌, ◌≤◌, length, cond, List, [], ◌∷◌, ◌++◌, Option, Some, None}
+use Rattle.std.specs.Ordering.{nat_cmp, eq_by_cmp}
+use Rattle.std.specs.Cmp.Lexicographic.{slice_cmp}
+use Rattle.std.specs.BTreeMap as tree
+use Rattle.seal.specs.Opening.{CheckedMessage}
+use Rattle.seal.specs.declared.vote.VoteKind.{VoteKind}
+use Rattle.seal.specs.declared.vote.VoteKind.TheVariants.{PrePrepare, Prepare, Commit}
+use Rattle.quorum_log.specs.Ballots.{vote_at}
+use Rattle.pbft_model.specs.Tables.{Key, Table, with_entry}
+use Rattle.quorum_log.specs.declared.place.Place.{Place}
+use Rattle.quorum_log.specs.declared.slot.Slot.{Slot}
+use Rattle.quorum_log.specs.Slots.{empty_slot, slot_in}
+
+-- the slot of a view at the place with this index
+abbrev pub slots_at : List Place → ℕ → ℕ → Slot
+slots_at [] index view = empty_slot
+slots_at (p ∷ ps) zero view = slot_in p.slots view
+slots_at (p ∷ ps) (suc index) view = slots_at ps index view
+
+-- a number's index, if it lies between the marks
+abbrev pub index_in : ℕ → ℕ → ℕ → Option ℕ
+index_in low span number = cond (nat_lt low number && nat_le number (low + span)) (Some (number - low - 1)) None
+
+-- The second has the slots of the first, but for this one of this view at this index.
+pub record HasSlotAt (index view : ℕ) (s : Slot) (old new : List Place) : Type 0 where
+  pub here : slots_at new index view ≡ s
+  pub elsewhere : (i v : ℕ) → (i ≢ index) ⊎ (v ≢ view) → slots_at new i v ≡ slots_at old i v
+
+abbrev pub HaveSameWindows : List Place → List Place → Type 0
+HaveSameWindows old new = (i v : ℕ) → slots_at new i v ≡ slots_at old i v
+
+-- The first places were cleared, and no other changed.
+pub record IsCleared (many : ℕ) (old new : List Place) : Type 0 where
+  pub cleared : (i v : ℕ) → i < many → slots_at new i v ≡ empty_slot
+  pub others : (i v : ℕ) → many ≤ i → slots_at new i v ≡ slots_at old i v
+  pub as_long : length new ≡ length old
+
+-- ---- tables read off
+
+abbrev pub and_entry : {X : Type 0} → Key → Option X → Table X → Table X
+and_entry k None table = table
+and_entry k (Some x) table = with_entry table k x
+
+abbrev pub is_among : Key → List Key → Bool
+is_among q [] = false
+is_among q (k ∷ ks) = eq_by_cmp (slice_cmp nat_cmp) q k || is_among q ks
+
+-- the table with these keys, where they have a value
+abbrev pub table_by : {X : Type 0} → (Key → Option X) → List Key → Table X
+table_by value [] = []
+table_by value (k ∷ ks) = and_entry k (value k) (table_by value ks)
+
+-- only these keys have a value
+abbrev pub Covers : {X : Type 0} → (Key → Option X) → List Key → Type 0
+Covers value ks = (q : Key) → is_among q ks ≡ false → value q ≡ None
+
+-- ---- the tables of a log
+
+-- a vote by its signer: a PrePrepare counts at its own alone
+abbrev pub if_by : ℕ → Option CheckedMessage → Option CheckedMessage
+if_by signer None = None
+if_by signer (Some m) = cond (m.message.id == signer) (Some m) None
+
+abbrev pub vote_by : VoteKind → ℕ → Slot → Option CheckedMessage
+vote_by PrePrepare signer s = if_by signer s.pre_prepare
+vote_by Prepare signer s = vote_at s.prepares signer
+vote_by Commit signer s = vote_at s.commits signer
+
+abbrev pub slot_of : ℕ → List Place → ℕ → ℕ → Slot
+slot_of low ps number view = cond (nat_lt low number) (slots_at ps (number - low - 1) view) empty_slot
+
+-- what the places have at a key
+abbrev pub vote_at_key : VoteKind → ℕ → List Place → Key → Option CheckedMessage
+vote_at_key kind low ps [] = None
+vote_at_key kind low ps (number ∷ []) = None
+vote_at_key kind low ps (number ∷ view ∷ []) = None
+vote_at_key kind low ps (number ∷ view ∷ signer ∷ []) = cond (nat_lt signer 10) (vote_by kind signer (slot_of low ps number view)) None
+vote_at_key kind low ps (number ∷ view ∷ signer ∷ more ∷ rest) = None
+
+-- the keys at which there can be a vote
+abbrev pub keys_by_signer : ℕ → ℕ → ℕ → List Key
+keys_by_signer number view zero = []
+keys_by_signer number view (suc n) = (number ∷ view ∷ n ∷ []) ∷ keys_by_signer number view n
+
+abbrev pub keys_by_view : ℕ → List ℕ → List Key
+keys_by_view number [] = []
+keys_by_view number (view ∷ views) = keys_by_signer number view 10 ++ keys_by_view number views
+
+abbrev pub keys_by_number : ℕ → List Place → List Key
+keys_by_number low [] = []
+keys_by_number low (p ∷ ps) = keys_by_view (low + 1) (tree.keys p.slots) ++ keys_by_number (low + 1) ps

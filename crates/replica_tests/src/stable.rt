@@ -1,0 +1,238 @@
+//! Checkpoints: which numbers are stable, their proofs, snapshots, and what is discarded.
+
+ghost use Rattle.std.specs.Prelude.{◌≡◌};
+
+use crate::messages::{checkpoint, config, signers};
+use checkpoints::{CheckpointFault, Checkpoints};
+use host_types::{Bytes, Config, Digest, SeqNo};
+use lms_tree::Signer;
+use pbft_codec::Body;
+use seal::Checked;
+use std::alloc::{AllocError, Global};
+use std::process::Abort;
+use std::sync::Arc;
+use std::test::Fail;
+
+// Notes a Checkpoint of the same configuration.
+fn note(kept: &mut Checkpoints, message: &Checked) -> Option<CheckpointFault>
+    requires { message.now.config ≡ kept.old.config }
+    ensures { kept.new.config ≡ kept.old.config }
+{
+    match message.body() {
+        Body::Checkpoint(_) => kept.note(message).err(),
+        _ => None,
+    }
+}
+
+// The signers of the proof of a number, in order.
+fn provers(alloc: Global, kept: &Checkpoints, number: u64) -> Result<Vec<u32>, Fail> {
+    let proof = kept.proof(SeqNo(number))?;
+    let mut ids = Vec::new(alloc);
+    for message in proof.as_slice() {
+        ids.push(message.signer().1)?;
+    }
+    Ok(ids)
+}
+
+// The first byte of the digest that is stable at a number.
+fn stable(kept: &Checkpoints, number: u64) -> Option<u8> {
+    kept.stable(SeqNo(number)).map(|digest| digest.0[0])
+}
+
+// Signer, number and digest of a Checkpoint, its fault, and the digest that is stable at 2 then.
+type Row = (u8, u64, u8, Option<CheckpointFault>, Option<u8>);
+
+static NOTES: [Row; 8] = [
+    (3, 2, 7, None, None),
+    (1, 2, 8, None, None),
+    (1, 2, 7, Some(CheckpointFault::DigestDiffers), None),
+    (1, 2, 8, None, None),
+    (0, 2, 7, None, None),
+    (2, 4, 7, None, None),
+    (2, 2, 7, None, Some(7)),
+    (0, 0, 7, Some(CheckpointFault::Old), Some(7)),
+];
+
+// Notes these Checkpoints one after another, and tells whether each answer and the stable digest are
+// as they must be.
+fn answers(
+    alloc: Global,
+    config: &Arc<Config>,
+    signers: &mut [Signer],
+    kept: &mut Checkpoints,
+    rows: &[Row],
+) -> Result<bool, Fail>
+    requires { kept.old.config ≡ config.now.value }
+    ensures { kept.new.config ≡ config.now.value }
+{
+    let mut right = true;
+    for (id, number, digest, fault, told) in rows {
+        if *number < 100 {
+            let message = checkpoint(
+                alloc,
+                config,
+                signers,
+                *id,
+                SeqNo(*number),
+                Digest([*digest; 32]),
+            )?;
+            right = right && note(kept, &message) == *fault && stable(kept, 2) == *told;
+        }
+    }
+    Ok(right)
+}
+
+#[test]
+fn a_quorum_makes_a_number_stable(rt: HostRuntime) -> Result<(), Fail> {
+    let alloc = rt.alloc();
+    let mut signers = signers(alloc, 6)?;
+    let config = config(alloc, &signers)?;
+    let mut kept = Checkpoints::new(alloc, &config)?;
+    let right = answers(alloc, &config, &mut signers, &mut kept, &NOTES)?;
+    assert_eq!(rt; right, true);
+    let ids = provers(alloc, &kept, 2)?;
+    let expected: [u32; 3] = [0, 2, 3];
+    assert_eq!(rt; ids.as_slice(), &expected[..]);
+    Ok(())
+}
+
+// Checkpoints at 2, 4 and 6, of which 2 and 4 are stable.
+static THREE_NUMBERS: [Row; 8] = [
+    (0, 2, 7, None, None),
+    (1, 2, 7, None, None),
+    (2, 2, 7, None, Some(7)),
+    (1, 4, 9, None, Some(7)),
+    (2, 4, 9, None, Some(7)),
+    (3, 4, 9, None, Some(7)),
+    (0, 6, 5, None, Some(7)),
+    (1, 6, 5, None, Some(7)),
+];
+
+// At the mark and below it a Checkpoint is old; above it one counts.
+static AFTER_THE_MARK: [Row; 4] = [
+    (0, 4, 9, Some(CheckpointFault::Old), None),
+    (0, 3, 9, Some(CheckpointFault::Old), None),
+    (0, 5, 9, None, None),
+    (2, 6, 5, None, None),
+];
+
+// Keeps one byte at each of these numbers.
+fn keep_each(alloc: Global, kept: &mut Checkpoints, numbers: &[u64]) -> Result<(), Fail>
+    ensures { kept.new.config ≡ kept.old.config }
+{
+    for number in numbers {
+        let mut bytes = Vec::new(alloc);
+        bytes.push(1)?;
+        kept.keep(SeqNo(*number), Bytes::from_vec(bytes))?;
+    }
+    Ok(())
+}
+
+// The numbers up to 8 at which a snapshot is kept.
+fn snapshots(alloc: Global, kept: &Checkpoints) -> Result<Vec<u64>, AllocError> {
+    let mut numbers = Vec::new(alloc);
+    for number in 0..9 {
+        if kept.snapshot_of(SeqNo(number)).is_some() {
+            numbers.push(number)?;
+        }
+    }
+    Ok(numbers)
+}
+
+// What is kept after the mark rose to 4: whether the digest of 4 and its proof stay, and all at or below
+// it is gone but its snapshot.
+fn is_cut(alloc: Global, kept: &Checkpoints) -> Result<bool, Fail> {
+    let signers: [u32; 3] = [1, 2, 3];
+    let numbers: [u64; 2] = [4, 5];
+    Ok(
+        stable(kept, 2).is_none()
+            && stable(kept, 4) == Some(9)
+            && provers(alloc, kept, 4)?.as_slice() == &signers[..]
+            && provers(alloc, kept, 2)?.is_empty()
+            && snapshots(alloc, kept)?.as_slice() == &numbers[..],
+    )
+}
+
+#[test]
+fn the_mark_rises(rt: HostRuntime) -> Result<(), Fail> {
+    let alloc = rt.alloc();
+    let mut signers = signers(alloc, 7)?;
+    let config = config(alloc, &signers)?;
+    let mut kept = Checkpoints::new(alloc, &config)?;
+    let before = answers(alloc, &config, &mut signers, &mut kept, &THREE_NUMBERS)?;
+    keep_each(alloc, &mut kept, &[2, 3, 4, 5])?;
+    assert_eq!(rt; before, true);
+    assert_eq!(rt; kept.stable_above(SeqNo(0)), Some(SeqNo(4)));
+    assert_eq!(rt; kept.stable_above(SeqNo(4)), None);
+    kept.discard_to(SeqNo(4));
+    let cut = is_cut(alloc, &kept)?;
+    kept.discard_to(SeqNo(4));
+    kept.discard_to(SeqNo(2));
+    let same = is_cut(alloc, &kept)?;
+    let after = answers(alloc, &config, &mut signers, &mut kept, &AFTER_THE_MARK)?;
+    assert_eq!(rt; (cut, same, after), (true, true, true));
+    assert_eq!(rt; kept.stable_above(SeqNo(4)), Some(SeqNo(6)));
+    Ok(())
+}
+
+// SHA-256 of "abc" (FIPS 180-4's example).
+static OF_ABC: [u8; 32] = [
+    0xba, 0x78, 0x16, 0xbf, 0x8f, 0x01, 0xcf, 0xea, 0x41, 0x41, 0x40, 0xde, 0x5d, 0xae, 0x22, 0x23,
+    0xb0, 0x03, 0x61, 0xa3, 0x96, 0x17, 0x7a, 0x9c, 0xb4, 0x10, 0xff, 0x61, 0xf2, 0x00, 0x15, 0xad,
+];
+
+// What is offered at which number, and the fault.
+type Offer = (u64, &'static [u8], Option<CheckpointFault>);
+
+static BEFORE: [Offer; 4] = [
+    (2, b"abd", Some(CheckpointFault::DigestDiffers)),
+    (3, b"abc", Some(CheckpointFault::DigestDiffers)),
+    (0, b"abc", Some(CheckpointFault::Old)),
+    (2, b"", Some(CheckpointFault::DigestDiffers)),
+];
+
+static AT_THE_MARK: [Offer; 2] = [
+    (2, b"abc", Some(CheckpointFault::Old)),
+    (1, b"abc", Some(CheckpointFault::Old)),
+];
+
+fn bytes_of(alloc: Global, text: &[u8]) -> Result<Bytes, AllocError> {
+    let mut bytes = Vec::new(alloc);
+    for byte in text {
+        bytes.push(*byte)?;
+    }
+    Ok(Bytes::from_vec(bytes))
+}
+
+// Whether each offer has its fault and the snapshot at 2 stays as it is.
+fn refuses(alloc: Global, kept: &mut Checkpoints, offers: &[Offer]) -> Result<bool, Fail> {
+    let was = kept.snapshot_of(SeqNo(2)).map(|bytes| bytes.len());
+    let mut right = true;
+    for (number, text, fault) in offers {
+        let answer = kept.offer(SeqNo(*number), bytes_of(alloc, text)?).err();
+        right = right && answer == *fault;
+    }
+    Ok(right && kept.snapshot_of(SeqNo(2)).map(|bytes| bytes.len()) == was)
+}
+
+#[test]
+fn snapshots_are_offered(rt: HostRuntime) -> Result<(), Fail> {
+    let alloc = rt.alloc();
+    let mut signers = signers(alloc, 8)?;
+    let config = config(alloc, &signers)?;
+    let mut kept = Checkpoints::new(alloc, &config)?;
+    for id in 0..3 {
+        let message = checkpoint(alloc, &config, &mut signers, id, SeqNo(2), Digest(OF_ABC))?;
+        assert_eq!(rt; note(&mut kept, &message), None);
+    }
+    let before = refuses(alloc, &mut kept, &BEFORE)?;
+    assert_eq!(rt; kept.snapshot_of(SeqNo(2)), None);
+    let abc: &[u8] = b"abc";
+    kept.offer(SeqNo(2), bytes_of(alloc, abc)?)?;
+    assert_eq!(rt; kept.snapshot_of(SeqNo(2)), Some(abc));
+    kept.discard_to(SeqNo(2));
+    let after = refuses(alloc, &mut kept, &AT_THE_MARK)?;
+    assert_eq!(rt; (before, after), (true, true));
+    assert_eq!(rt; kept.snapshot_of(SeqNo(2)), Some(abc));
+    Ok(())
+}

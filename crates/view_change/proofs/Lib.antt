@@ -1,0 +1,9 @@
+pub mod Walking
+pub mod Giving
+pub mod Counts
+pub mod Signers
+pub mod Openings
+pub mod Paired
+pub mod Reported
+pub mod Entering
+pub mod EqualParts

@@ -1,0 +1,7 @@
+pub mod Faults
+pub mod Setups
+pub mod Opened
+pub mod Proposals
+pub mod Made
+pub mod Opening
+pub mod Reports

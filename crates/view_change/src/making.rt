@@ -1,0 +1,77 @@
+//! The ViewChange that a replica makes as it leaves a view.
+
+ghost use Rattle.std.specs.Prelude.{◌≡◌, List, None, Some, IfErr, IfOk};
+ghost use Rattle.pbft_codec.specs.declared.body.Body.TheVariants as bodies;
+ghost use Rattle.pbft_codec.specs.declared.body.certificate.Certificate.{Certificate};
+ghost use Rattle.pbft_codec.specs.declared.body.view_change.ViewChange.{ViewChange};
+ghost use Rattle.pbft_model.specs.Validity.{view_change_fault};
+ghost use Rattle.view_change.specs.declared.fault.ViewFault.TheVariants.{Memory};
+ghost use Rattle.view_change.specs.Made.{HasValidParts, IsCertificateOf, IsMadeOf, OneForOne};
+ghost use Rattle.view_change.specs.Setups.{setup_of};
+
+use crate::fault::ViewFault;
+use crate::nested::{copies_of, copy_of};
+use host_types::{SeqNo, View};
+use pbft_codec::{Body, Certificate, Certificates, Sequence, ViewChange};
+use quorum_log::CheckedCertificate;
+use seal::CheckedList;
+use std::alloc::{AllocError, Global};
+
+/// A copy of a certificate, if its messages are a PrePrepare and Prepares.
+fn certificate_of(
+    alloc: Global,
+    certificate: &CheckedCertificate,
+) -> Result<Option<Certificate>, AllocError>
+    ensures { (x : Certificate) → IsCertificateOf certificate.now x → IfOk result (λ copy. copy ≡ Some x) }
+{
+    let Some(pre_prepare) = copy_of(alloc, certificate.pre_prepare.message())? else {
+        return Ok(None);
+    };
+    let prepares = copies_of(alloc, certificate.prepares.as_slice())?;
+    Ok(Some(Certificate {
+        pre_prepare,
+        prepares,
+    }))
+}
+
+/// Copies of the certificates, in order.
+fn certificates_of(
+    alloc: Global,
+    certificates: &[CheckedCertificate],
+) -> Result<Certificates, AllocError>
+    ensures { (xs : List Certificate) → OneForOne IsCertificateOf certificates.now xs → IfOk result (λ copies. copies ≡ xs) }
+{
+    let mut copies = Vec::new(alloc);
+    for certificate in certificates {
+        if let Some(copy) = certificate_of(alloc, certificate)? {
+            copies.push(copy)?;
+        }
+    }
+    Ok(Sequence::from_vec(copies))
+}
+
+/// The `ViewChange` for a view of this low mark, the Checkpoints that prove it, and these certificates
+/// (Castro and Liskov 1999, section 4.4), for the replica to seal. The caller owes Checkpoints, and
+/// certificates of a `PrePrepare` and Prepares each; messages of other kinds are left out. It answers
+/// `Memory` alone, and then nothing is made.
+pub fn make(
+    alloc: Global,
+    view: View,
+    low: SeqNo,
+    proof: &CheckedList,
+    certificates: &[CheckedCertificate],
+) -> Result<Body, ViewFault>
+    ensures made { (v : ViewChange) → IsMadeOf view low proof.now certificates.now v → IfOk result (λ body. body ≡ bodies.ViewChange v) }
+    ensures valid { (v : ViewChange) → IsMadeOf view low proof.now certificates.now v → HasValidParts (setup_of proof.now.config) v
+        → view_change_fault (setup_of proof.now.config) v ≡ None }
+    ensures memory { IfErr result (λ fault. fault ≡ Memory) }
+{
+    let checkpoints = copies_of(alloc, proof.as_slice())?;
+    let certificates = certificates_of(alloc, certificates)?;
+    Ok(Body::ViewChange(ViewChange {
+        view,
+        low,
+        checkpoints,
+        certificates,
+    }))
+}
