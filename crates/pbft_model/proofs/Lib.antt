@@ -32,3 +32,4 @@ pub mod Example
 pub mod ExampleRows
 pub mod Later
 pub mod Following
+pub mod Halting

@@ -35,11 +35,11 @@ module _ (c : Setup) (me : ℕ) where
   one_reading (bodies.Fetch b) r r' h k = h ∙ sym k
   one_reading (bodies.Snapshot b) r r' h k = one_reading_of b r r' h k
 
-  one_beginning : (input : Input) (a b : Act) → Begins c input a → Begins c input b → a ≡ b
+  pub one_beginning : (input : Input) (a b : Act) → Begins c input a → Begins c input b → a ≡ b
   one_beginning (Received m) a b (r, may, is) (r', may', is') = is ∙ ap (Take m) (one_reading m.body r r' may.reads may'.reads) ∙ sym is'
   one_beginning TimedOut a b h k = h ∙ sym k
 
-  one_act : (s : Core) (o : Option Duty) (a b : Act) → Fulfils c s o a → Fulfils c s o b → a ≡ b
+  pub one_act : (s : Core) (o : Option Duty) (a b : Act) → Fulfils c s o a → Fulfils c s o b → a ≡ b
   one_act s None a b h k = absurd h
   one_act s (Some (Do d)) a b h k = h ∙ sym k
   one_act s (Some (Executing n d)) a b (t, o, step, is) (t', o', step', is') =

@@ -117,6 +117,13 @@ through_primary id secret =
     ∷ [])
     ∷ []
 
+-- ---- a timeout with the last leaf
+
+abbrev pub timing_out : List ℕ → List ℕ → List (List Act)
+timing_out id secret =
+    let signer = record (fresh id secret) { next_leaf = 31 } in
+    (Timeout ∷ Send All (own signer 1 0 (bodies.ViewChange (record { view = record { 0 = 1 }; low = record { 0 = 0 }; checkpoints = []; certificates = [] }))) ∷ []) ∷ []
+
 -- ---- a view change, at the primary of the next view
 
 abbrev pub a_view_change : ℕ → ℕ → Body

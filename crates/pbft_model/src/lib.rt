@@ -4,7 +4,7 @@
 #![tactic(auto)]
 
 ghost use Rattle.pbft_model.specs.Setup.{Setup};
-ghost use Rattle.std.specs.Prelude.{◌≡◌, ◌≤◌, ℕ, List, [], ◌∷◌, ◌++◌, Some, None, true};
+ghost use Rattle.std.specs.Prelude.{◌≡◌, ◌≤◌, ◌⊎◌, ℕ, List, [], ◌∷◌, ◌++◌, Some, None, true};
 ghost use Rattle.std.specs.List.{AllByRecursion};
 ghost use Rattle.lms_tree.specs.SigningState.{SigningState};
 ghost use Rattle.pbft_model.specs.Acts.{Act, Execute, after};
@@ -14,14 +14,14 @@ ghost use Rattle.pbft_model.specs.Journals.{Journals, HasDone, HasGiven, IsHones
 ghost use Rattle.pbft_model.specs.Core.{Core, request_of, start_of};
 ghost use Rattle.pbft_model.specs.Duties.{Executing, due, NothingBefore};
 ghost use Rattle.pbft_model.specs.Received.{TakesBytes, ReceivesBytes};
-ghost use Rattle.pbft_model.specs.Rows.{Row, Input, Begins, Follows, Executed, Fulfils, GoesOn, IsLawfulFrom, IsNext, FollowsWithout, RepliesAlone, leaves_in};
+ghost use Rattle.pbft_model.specs.Rows.{Row, Input, TimedOut, Halt, Exhausted, Worn, HaltsBy, Begins, Follows, Executed, Fulfils, GoesOn, IsLawfulFrom, IsNext, FollowsWithout, RepliesAlone, leaves_in};
 ghost use Rattle.pbft_model.specs.Rules.{Allowed};
 ghost use Rattle.pbft_model.specs.Sequential.{Service, Outcome, IsStep};
 ghost use Rattle.host_types.specs.Configuration.{IsConfiguration};
 ghost use Rattle.pbft_model.specs.Setup.{signer_after};
 ghost use Rattle.pbft_model.specs.Words.{leaf_count, part_of};
 ghost use Rattle.host_types.specs.declared.request.Reply.{Reply};
-ghost use Rattle.pbft_model.specs.Worked.{Works, reply_in_view_0, toy, serving, fresh, through_backup, through_primary, changing_view, joining_view, reaching_a_checkpoint, installing, through_all, IsDiscarded};
+ghost use Rattle.pbft_model.specs.Worked.{Works, reply_in_view_0, toy, serving, fresh, through_backup, through_primary, timing_out, changing_view, joining_view, reaching_a_checkpoint, installing, through_all, IsDiscarded};
 ghost use Rattle.pbft_model.specs.Histories.{Family, IsCorrect, IsUnforged, IsSteady, HasCommitted, HasExecuted, AgreesByView, ExecutesAlike, IsHistory, core_after};
 
 /// Agreement by view: where nobody forges, no two digests are committed at one number, whatever
@@ -134,6 +134,29 @@ pub fn executions_follow_each_other()
 pub fn a_row_is_unique()
     ensures { (c : Setup) (me : ℕ) (s t t' : Core) (row row' : Row) → row.input ≡ row'.input → IsNext c me s row t → IsNext c me s row' t'
         → (row ≡ row') × (t ≡ t') }
+{}
+
+/// Where an input leads to from which a replica goes on, there is the input's row, or one act more, or the
+/// input halts the replica.
+pub fn an_input_gives_a_row_or_a_halt()
+    ensures { (c : Setup) (me : ℕ) (s : Core) (input : Input) (first : Act) (acts : List Act) (t : Core) → Begins c input first → Follows c me (after c s first) acts t → GoesOn c me t
+        → ((row : Row) × (row.input ≡ input) × IsNext c me s row t)
+        ⊎ (((a : Act) × Follows c me (after c s first) (acts ++ a ∷ []) (after c t a))
+        ⊎ ((halt : Halt) × HaltsBy c me s input halt)) }
+{}
+
+/// An input that gives a row halts no replica, and one that halts it does so for one reason.
+pub fn a_row_is_no_halt()
+    ensures apart { (c : Setup) (me : ℕ) (s t : Core) (row : Row) (halt : Halt) → IsNext c me s row t → HaltsBy c me s row.input halt → ⊥ }
+    ensures one { (c : Setup) (me : ℕ) (s : Core) (input : Input) (halt halt' : Halt) → HaltsBy c me s input halt → HaltsBy c me s input halt' → halt ≡ halt' }
+{}
+
+/// Worked halts: a timeout wants a leaf of a signer that has used all 32, and a view above the last one;
+/// with one leaf left it gives a row.
+pub fn timeouts_halt_a_replica()
+    ensures exhausted { (id secret : List ℕ) → HaltsBy toy 1 (start_of toy (record (fresh id secret) { next_leaf = 32 })) TimedOut Exhausted }
+    ensures worn { (id secret : List ℕ) → HaltsBy toy 1 (record (start_of toy (record (fresh id secret) { next_leaf = 32 })) { view = 4_294_967_295 }) TimedOut Worn }
+    ensures goes_on { (id secret : List ℕ) → Works toy 1 (start_of toy (record (fresh id secret) { next_leaf = 31 })) (timing_out id secret) }
 {}
 
 /// A worked history: a request through a backup up to its reply.
