@@ -1,5 +1,5 @@
 -- What is recorded after one more vote at one slot.
-use Rattle.std.proofs.Common.{◌≡◌, ◌≢◌, ℕ, ◌+◌, ◌-◌, ◌<◌, ◌≤◌, ◌==◌, Bool, true, false, cond, not, ◌&&◌, List, [], ◌∷◌, length, Option, Some, None, refl, sym, ap, subst, ◌∙◌, arith, ◌⊎◌, inl, inr}
+use Rattle.std.proofs.Common.{◌≡◌, ◌≢◌, ℕ, ◌-◌, ◌<◌, ◌≤◌, ◌==◌, Bool, true, false, cond, not, ◌&&◌, List, [], ◌∷◌, Option, Some, None, refl, sym, ap, subst, ◌∙◌, arith, ◌⊎◌, inl, inr}
 use Rattle.std.specs.Prelude.{is_some, nat_lt}
 use Rattle.std.specs.Ordering.{nat_cmp, eq_by_cmp}
 use Rattle.std.specs.Cmp.Lexicographic.{slice_cmp}
@@ -17,7 +17,7 @@ use Rattle.quorum_log.specs.Windows.{HasSlotAt, HaveSameWindows, slots_at, slot_
 use Rattle.quorum_log.specs.Reading.{read_by, table_of}
 use Rattle.quorum_log.proofs.Covering.{covers_table}
 use Rattle.quorum_log.proofs.Recording.{AfterFirst, other_kind}
-use Rattle.quorum_log.proofs.Tables.{added_table, same_table, same_key, is_equal, ties, HasFirst}
+use Rattle.quorum_log.proofs.Tables.{added_table, same_table, same_key, is_equal, ties}
 
 -- ---- the slot itself, and the others
 

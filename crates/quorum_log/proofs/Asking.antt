@@ -1,45 +1,39 @@
 -- What is read off a slot is what the log has there.
-use Rattle.std.proofs.Common.{◌≡◌, ◌≢◌, ℕ, zero, suc, ◌+◌, ◌-◌, ◌*◌, ◌%◌, ◌<◌, ◌≤◌, ◌==◌, Bool, true, false, cond, not, ◌&&◌, List, Bor, [], ◌∷◌, ◌++◌, length, map, Option, Some, None, refl, sym, ap, subst, ◌∙◌, arith, ◌⊎◌, inl, inr}
+use Rattle.std.proofs.Common.{◌≡◌, ℕ, ◌+◌, ◌-◌, ◌*◌, ◌%◌, ◌<◌, ◌≤◌, ◌==◌, Bool, true, false, cond, not, ◌&&◌, List, Bor, length, Option, Some, None, refl, sym, ap, subst, ◌∙◌, arith, ◌⊎◌, inl, inr}
 use Rattle.std.specs.Prelude.{is_some, nat_lt, nat_le, bytes_eq, if◌then◌else◌}
 use Rattle.std.specs.Option.{option_copied, option_map, unwrap_or}
-use Rattle.std.specs.List.{filter_map, cons_option}
 use Rattle.std.proofs.Math.Nat.{mod-lt}
 use Rattle.std.proofs.lemmas.Slice.Eq.{bytes_eq-Decides}
-use Rattle.std.proofs.lemmas.Bool.{cases_Bool, cases_lt, eq-eqb, le-leb, le-ltb, lt-ltb, ltb-true, ne_eqb}
+use Rattle.std.proofs.lemmas.Bool.{cases_Bool, cases_lt, eq-eqb, le-leb, le-ltb, lt-ltb, ltb-true}
 use Rattle.host_types.specs.Configuration.{Configuration, IsConfiguration, replicas_for}
 use Rattle.host_types.specs.declared.SeqNo.{SeqNo}
-use Rattle.host_types.specs.declared.View.{View}
 use Rattle.pbft_codec.specs.declared.body.Body.{Body}
 use Rattle.pbft_codec.specs.declared.body.Body.TheVariants as bodies
 use Rattle.pbft_codec.specs.declared.signed.Role.{Role}
 use Rattle.pbft_codec.specs.declared.signed.Role.TheVariants.{Replica}
-use Rattle.pbft_model.specs.Words.{Signed, PrePrepare, Prepare, Commit}
+use Rattle.pbft_model.specs.Words.{Signed, PrePrepare}
 use Rattle.pbft_model.specs.Acts.{with_body}
 use Rattle.pbft_model.specs.Certificates.{Fields, of_pre_prepare, of_prepare, of_commit, same_fields, is_by, some_by, voted, certified, has_quorum}
 use Rattle.pbft_model.specs.Core.{if_passes, is_placed}
-use Rattle.pbft_model.specs.Setup.{Setup, count, gathered, is_least, is_replica, numbers_from, primary, replicas}
-use Rattle.pbft_model.specs.Tables.{at, vote_key}
-use Rattle.pbft_model.proofs.Gathering.{numbers_last, filter_append}
+use Rattle.pbft_model.specs.Setup.{Setup, count, is_replica}
+use Rattle.pbft_model.specs.Tables.{at}
 use Rattle.seal.specs.Opening.{CheckedMessage}
-use Rattle.seal.specs.Parts.{as_message}
-use Rattle.seal.specs.Signers.{primary_of}
 use Rattle.seal.specs.Votes.{vote_in}
 use Rattle.seal.specs.declared.vote.Vote.{Vote}
 use Rattle.seal.specs.declared.vote.VoteKind.{VoteKind}
 use Rattle.seal.specs.declared.vote.VoteKind.TheVariants as kinds
-use Rattle.quorum_log.specs.declared.certificate.CheckedCertificate.{CheckedCertificate}
 use Rattle.quorum_log.specs.declared.place.Place.{Place}
 use Rattle.quorum_log.specs.declared.slot.Slot.{Slot}
 use Rattle.quorum_log.specs.Asking.{Shows}
-use Rattle.quorum_log.specs.Ballots.{Ballot, AreListed, AreUnder, digest_in, is_digest, is_for, least_votes, vote_at, voted_for}
-use Rattle.quorum_log.specs.Log.{KeptLog, Log, backing, certificate_in, certificate_shown, certified_at, if_certified, is_certified_in, is_committed_at, is_committed_by, proposal_in, shown}
+use Rattle.quorum_log.specs.Ballots.{Ballot, AreListed, AreUnder, digest_in, is_digest, is_for, vote_at, voted_for}
+use Rattle.quorum_log.specs.Log.{KeptLog, Log, certified_at, if_certified, is_certified_in, is_committed_at, is_committed_by, proposal_in}
 use Rattle.quorum_log.specs.Reading.{AreKept, as_pre_prepare, as_prepare, as_commit, log_in, read_by}
-use Rattle.quorum_log.specs.Slots.{AreVotesAt, IsSlotAt, IsVoteAt, certificate_for, certificate_here, certificate_with, digest_here, digest_of_some, empty_slot, is_certified_for, is_certified_here, is_committed_for, is_committed_here, setup_of}
-use Rattle.quorum_log.specs.Windows.{if_by, index_in, slot_of, slots_at, vote_by}
+use Rattle.quorum_log.specs.Slots.{AreVotesAt, IsVoteAt, digest_here, digest_of_some, empty_slot, is_certified_for, is_certified_here, is_committed_for, is_committed_here, setup_of}
+use Rattle.quorum_log.specs.Windows.{if_by, index_in, slot_of, slots_at}
 use Rattle.quorum_log.proofs.Accepting.{slot_was}
 use Rattle.quorum_log.proofs.Windows.{beyond}
 use Rattle.quorum_log.proofs.Counts.{same_count}
-use Rattle.quorum_log.proofs.KindReadings.{kind_of, proposer, signer_is, voter_listed}
+use Rattle.quorum_log.proofs.KindReadings.{kind_of, proposer, voter_listed}
 use Rattle.quorum_log.proofs.Logging.{read_at, vote_is}
 
 pub shows_slot : (c : Configuration) (v : ℕ) (floor : Option SeqNo) (low : ℕ) (ps : List Place) (view number : ℕ) → AreKept c low ps → Shows c (log_in v floor low ps) view number (slot_of low ps number view)
@@ -177,7 +171,7 @@ four_true true false d e f g h i = absurd cc
 four_true true true false e f g h i = absurd cc
 four_true true true true false f g h i = absurd cc
 
-proposes : (c : Configuration) (view number : ℕ) (m : CheckedMessage) → IsVoteAt c kinds.PrePrepare view number m → (body : Body) → m.message.body ≡ body → Proposes c view number m
+pub proposes : (c : Configuration) (view number : ℕ) (m : CheckedMessage) → IsVoteAt c kinds.PrePrepare view number m → (body : Body) → m.message.body ≡ body → Proposes c view number m
 proposes c view number m h (bodies.PrePrepare b) e =
     let x : Vote = record { kind = kinds.PrePrepare; view = b.view; number = b.number; digest = b.digest; signer = record { 0 = m.message.id } } in
     let same = vote_is x h.vote (ap (vote_in m.message.id) (sym e) ∙ h.is) in

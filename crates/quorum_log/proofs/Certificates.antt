@@ -1,28 +1,27 @@
 -- The certificate that is made of a slot is the log's.
-use Rattle.std.proofs.Common.{◌≡◌, ◌≢◌, ℕ, zero, suc, ◌+◌, ◌-◌, ◌*◌, ◌%◌, ◌<◌, ◌≤◌, ◌==◌, Bool, true, false, cond, not, ◌&&◌, List, [], ◌∷◌, ◌++◌, map, Option, Some, None, refl, sym, ap, subst, ◌∙◌, arith, ◌⊎◌, inl, inr}
-use Rattle.std.specs.Prelude.{is_some, nat_lt, nat_le, if◌then◌else◌}
+use Rattle.std.proofs.Common.{◌≡◌, ◌≢◌, ℕ, zero, suc, ◌+◌, ◌-◌, ◌*◌, ◌%◌, ◌<◌, ◌≤◌, ◌==◌, Bool, true, false, cond, not, ◌&&◌, List, [], ◌∷◌, ◌++◌, map, Option, Some, None, refl, sym, ap, ◌∙◌, arith, ◌⊎◌, inl, inr}
+use Rattle.std.specs.Prelude.{nat_lt, if◌then◌else◌}
 use Rattle.std.specs.Option.{option_map}
-use Rattle.std.specs.List.{filter_map, cons_option}
-use Rattle.std.proofs.lemmas.Bool.{cases_Bool, cases_eq, ne_eqb, eq-eqb}
+use Rattle.std.specs.List.{cons_option}
+use Rattle.std.proofs.lemmas.Bool.{cases_eq, ne_eqb, eq-eqb}
 use Rattle.host_types.specs.Configuration.{Configuration, IsConfiguration, replicas_for}
 use Rattle.pbft_codec.specs.declared.body.Body.{Body}
 use Rattle.pbft_codec.specs.declared.body.Body.TheVariants as bodies
-use Rattle.pbft_model.specs.Words.{Signed, PrePrepare, Prepare}
+use Rattle.pbft_model.specs.Words.{Signed, PrePrepare}
 use Rattle.pbft_model.specs.Acts.{with_body}
-use Rattle.pbft_model.specs.Certificates.{Fields, of_pre_prepare, of_prepare, voted}
-use Rattle.pbft_model.specs.Setup.{count, gathered, is_least, numbers_from}
+use Rattle.pbft_model.specs.Certificates.{of_pre_prepare, of_prepare, voted}
+use Rattle.pbft_model.specs.Setup.{count, gathered, is_least}
 use Rattle.pbft_model.specs.Tables.{at, vote_key}
 use Rattle.seal.specs.Opening.{CheckedMessage}
 use Rattle.seal.specs.Parts.{as_message}
 use Rattle.seal.specs.declared.vote.VoteKind.TheVariants as kinds
-use Rattle.quorum_log.specs.declared.certificate.CheckedCertificate.{CheckedCertificate}
 use Rattle.quorum_log.specs.declared.slot.Slot.{Slot}
 use Rattle.quorum_log.specs.Asking.{Shows}
-use Rattle.quorum_log.specs.Ballots.{Ballot, digest_in, is_for, least_votes, vote_at, voted_for}
-use Rattle.quorum_log.specs.Log.{Log, backing, certificate_in, certificate_shown, certified_at, if_certified, is_certified_in, shown}
+use Rattle.quorum_log.specs.Ballots.{digest_in, is_for, least_votes, vote_at, voted_for}
+use Rattle.quorum_log.specs.Log.{Log, backing, certificate_in, certificate_shown, if_certified, is_certified_in, shown}
 use Rattle.quorum_log.specs.Reading.{as_pre_prepare, as_prepare, read_by}
-use Rattle.quorum_log.specs.Slots.{IsVoteAt, certificate_for, certificate_here, certificate_with, digest_here, digest_of_some, is_certified_for, is_certified_here}
-use Rattle.quorum_log.proofs.Asking.{Asked, Proposes, asked, fields, prepared_by, proposal_is, setup, unlisted}
+use Rattle.quorum_log.specs.Slots.{IsVoteAt, certificate_for, certificate_here, certificate_with, digest_of_some, is_certified_for}
+use Rattle.quorum_log.proofs.Asking.{Asked, asked, fields, prepared_by, proposal_is, setup, unlisted}
 use Rattle.quorum_log.proofs.Counts.{same_count}
 use Rattle.quorum_log.proofs.KindReadings.{not_primary, prepare_is}
 use Rattle.quorum_log.proofs.Least.{append_nil, gathered_next}

@@ -1,7 +1,7 @@
 -- The slots of a number after those of lower views were dropped.
-use Rattle.std.proofs.Common.{◌≡◌, ℕ, Bool, true, ◌==◌, ◌||◌, ◌&&◌, cond, List, Option, Some, None, refl, sym, ap, ◌∙◌}
+use Rattle.std.proofs.Common.{◌≡◌, ℕ, Bool, ◌==◌, ◌||◌, ◌&&◌, cond, None, sym, ap, ◌∙◌}
 use Rattle.std.specs.Prelude.{filter, nat_lt}
-use Rattle.std.specs.Ordering.{nat_cmp, is_eq}
+use Rattle.std.specs.Ordering.{nat_cmp}
 use Rattle.std.specs.BTreeMap as tree
 use Rattle.std.specs.Map.{lookup}
 use Rattle.std.specs.FinMap.{nat_cmp-IsAntisymmetric}

@@ -1,43 +1,30 @@
 -- The log's PrePrepares as a view is entered, and the log.
-use Rattle.std.proofs.Common.{◌≡◌, ◌≢◌, ℕ, zero, suc, ◌+◌, ◌-◌, ◌*◌, ◌<◌, ◌≤◌, ◌==◌, Bool, true, false, cond, not, ◌&&◌, ◌||◌, List, [], ◌∷◌, ◌++◌, map, length, Option, Some, None, refl, sym, ap, subst, ◌∙◌, arith, ◌⊎◌, inl, inr, T}
+use Rattle.std.proofs.Common.{◌≡◌, ◌≢◌, ℕ, ◌+◌, ◌-◌, ◌*◌, ◌<◌, ◌≤◌, ◌==◌, Bool, true, false, cond, not, ◌&&◌, ◌||◌, List, [], ◌∷◌, map, length, Option, Some, None, refl, sym, ap, subst, ◌∙◌, arith, ◌⊎◌, inl, inr, T}
 use Rattle.std.specs.Prelude.{is_some, nat_lt, nat_le, slice_get}
-use Rattle.std.specs.Ordering.{nat_cmp, eq_by_cmp}
-use Rattle.std.specs.Cmp.Lexicographic.{slice_cmp, nat_list_cmp_total}
-use Rattle.std.specs.List.{cons_option}
 use Rattle.std.specs.Option.{option_map}
 use Rattle.std.specs.FinMap.{is_sorted}
-use Rattle.std.specs.FinMap.Entries.{is_sorted-where_key, find-where_key}
-use Rattle.std.proofs.lemmas.Bool.{cases_Bool, cases_eq, cases_lt, eq-eqb, ne_eqb, eqb-true, lt-ltb, le-ltb, le-leb, leb-true}
-use Rattle.std.proofs.lemmas.Bool.Decides.{eqb_tells}
-use Rattle.std.proofs.lemmas.Option.{slice_get_past, slice_get-map}
-use Rattle.host_types.specs.Configuration.{Configuration, IsConfiguration, replicas_for}
+use Rattle.std.specs.FinMap.Entries.{is_sorted-where_key}
+use Rattle.std.proofs.lemmas.Bool.{cases_Bool, cases_eq, cases_lt, eq-eqb, ne_eqb, lt-ltb, le-ltb, le-leb, leb-true}
+use Rattle.std.proofs.lemmas.Option.{slice_get-map}
+use Rattle.host_types.specs.Configuration.{Configuration, IsConfiguration}
 use Rattle.host_types.specs.declared.SeqNo.{SeqNo}
 use Rattle.pbft_codec.specs.declared.body.Body.{Body}
-use Rattle.pbft_codec.specs.declared.body.Body.TheVariants as bodies
 use Rattle.pbft_model.specs.Words.{Signed, PrePrepare}
 use Rattle.pbft_model.specs.Acts.{is_of_entered, with_body}
-use Rattle.pbft_model.specs.Tables.{Key, Table, add_if, at, keep, vote_key, with_entry}
+use Rattle.pbft_model.specs.Tables.{Key, Table, add_if, at, vote_key}
 use Rattle.seal.specs.Lists.{under}
-use Rattle.seal.specs.Opening.{CheckedMessage}
-use Rattle.seal.specs.Votes.{vote_of, vote_in}
-use Rattle.seal.specs.declared.vote.Vote.{Vote}
-use Rattle.seal.specs.declared.vote.VoteKind.{VoteKind}
 use Rattle.seal.specs.declared.vote.VoteKind.TheVariants as kinds
 use Rattle.quorum_log.specs.declared.place.Place.{Place}
 use Rattle.quorum_log.specs.declared.slot.Slot.{Slot}
-use Rattle.quorum_log.specs.Entering.{AreEntered, AreProper, IsProper, entered_slot, offered_for}
+use Rattle.quorum_log.specs.Entering.{AreEntered, AreProper, IsProper, offered_for}
 use Rattle.quorum_log.specs.Log.{AreProposals, IsProposal, KeptLog, Log, as_pre_prepare, entered, is_within, opened, pre_prepares_in, with_all}
 use Rattle.quorum_log.specs.Reading.{AreKept, as_prepare, as_commit, log_in, read_by, table_of}
-use Rattle.quorum_log.specs.Slots.{AreVotesAt, IsSlotAt, IsVoteAt, empty_slot}
-use Rattle.quorum_log.specs.Windows.{if_by, keys_by_number, slot_of, slots_at, vote_at_key, vote_by}
-use Rattle.quorum_log.proofs.Accepting.{AtKey, at_key, apart_keys, not_tied, number_of, signer_of, slot_was}
-use Rattle.quorum_log.proofs.Covering.{covers_table, no_vote}
-use Rattle.quorum_log.proofs.EnteringSlots.{none_past}
+use Rattle.quorum_log.specs.Slots.{empty_slot}
+use Rattle.quorum_log.specs.Windows.{if_by, keys_by_number, slot_of, vote_at_key, vote_by}
+use Rattle.quorum_log.proofs.Covering.{covers_table}
 use Rattle.quorum_log.proofs.KindReadings.{voter_small}
-use Rattle.quorum_log.proofs.Slots.{slot_none}
-use Rattle.quorum_log.proofs.Tables.{at_add, by, found, is_read_off, kept_table, same_key, sorted_add, sorted_by, ties}
-use Rattle.quorum_log.proofs.Windows.{beyond}
-use Rattle.quorum_log.proofs.EnteringLog.{AreFree, AreNumbered, Given, Table_before, Where, inside, outside, listed, other, added_one, as_many, before_at, before_free, both_above, commit_entered, element_at, equal_other, given_is, inside_slot, listed_key, map_length, none_either, numbered, offered_at_number, other_key, prepare_entered, proposal_at, proposal_entered, proposal_vote, read_if, read_listed, stays_table, top_of, where_is, with_others}
+use Rattle.quorum_log.proofs.Tables.{by, is_read_off, sorted_add, sorted_by}
+use Rattle.quorum_log.proofs.EnteringLog.{Given, Table_before, Where, inside, outside, listed, other, added_one, as_many, before_at, before_free, both_above, commit_entered, element_at, equal_other, given_is, inside_slot, listed_key, map_length, none_either, numbered, offered_at_number, other_key, prepare_entered, proposal_at, proposal_entered, proposal_vote, read_if, read_listed, stays_table, top_of, where_is, with_others}
 
 -- ---- where the list has one
 

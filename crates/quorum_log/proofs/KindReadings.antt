@@ -1,6 +1,6 @@
 -- Votes read as messages of their kind.
-use Rattle.std.proofs.Common.{◌≡◌, ◌≢◌, ℕ, ◌<◌, ◌≤◌, ◌%◌, Bool, true, false, cond, not, ◌==◌, ◌&&◌, List, length, Option, Some, None, refl, sym, ap, subst, ◌∙◌, arith, ◌⊎◌, inl, inr}
-use Rattle.std.specs.Prelude.{is_some, bytes_eq, IsSome}
+use Rattle.std.proofs.Common.{◌≡◌, ◌≢◌, ℕ, ◌<◌, ◌%◌, Bool, true, false, cond, not, ◌==◌, ◌&&◌, List, Option, Some, None, refl, sym, ap, subst, ◌∙◌, arith, ◌⊎◌, inl, inr}
+use Rattle.std.specs.Prelude.{is_some}
 use Rattle.std.specs.Option.{option_map}
 use Rattle.std.proofs.lemmas.Bool.{eq-eqb}
 use Rattle.std.proofs.lemmas.Bool.Decides.{eqb_tells}
@@ -12,12 +12,12 @@ use Rattle.pbft_model.specs.Certificates.{of_pre_prepare, of_prepare, of_commit}
 use Rattle.seal.specs.Opening.{CheckedMessage}
 use Rattle.seal.specs.Parts.{as_message}
 use Rattle.seal.specs.Signers.{primary_of}
-use Rattle.seal.specs.Votes.{IsVoteOf, vote_in, vote_of}
+use Rattle.seal.specs.Votes.{vote_in}
 use Rattle.seal.specs.declared.vote.Vote.{Vote}
 use Rattle.seal.specs.declared.vote.VoteKind.{VoteKind}
 use Rattle.seal.specs.declared.vote.VoteKind.TheVariants.{PrePrepare, Prepare, Commit}
 use Rattle.quorum_log.specs.declared.slot.Slot.{Slot}
-use Rattle.quorum_log.specs.Ballots.{digest_in, is_digest, vote_at}
+use Rattle.quorum_log.specs.Ballots.{digest_in, is_digest}
 use Rattle.quorum_log.specs.Log.{is_other}
 use Rattle.quorum_log.specs.Reading.{as_pre_prepare, as_prepare, as_commit, read_by}
 use Rattle.quorum_log.specs.Slots.{IsVoteAt, IsSlotAt, is_for_other, met_by, first_of, with_vote}

@@ -17,3 +17,5 @@ pub mod Dropping
 pub mod EnteringSlots
 pub mod EnteringLog
 pub mod EnteringTable
+pub mod Naming
+pub mod Standing

@@ -1,14 +1,14 @@
 -- A log after one more vote.
-use Rattle.std.proofs.Common.{◌≡◌, ◌≢◌, ℕ, ◌+◌, ◌-◌, ◌*◌, ◌<◌, ◌≤◌, ◌==◌, Bool, true, false, cond, not, ◌&&◌, List, length, Option, Some, None, refl, sym, ap, subst, ◌∙◌, arith, ◌⊎◌, inl, inr}
-use Rattle.std.specs.Prelude.{is_some, nat_lt, nat_le, Result, Ok, Err, OnOk, OnErr, IfErr, if◌then◌else◌}
-use Rattle.std.proofs.lemmas.Bool.{cases_Bool, cases_eq, cases_lt}
-use Rattle.host_types.specs.Configuration.{Configuration, replicas_for}
+use Rattle.std.proofs.Common.{◌≡◌, ◌≢◌, ℕ, ◌+◌, ◌-◌, ◌<◌, Bool, true, false, cond, not, List, length, Option, Some, None, refl, sym, ap, subst, ◌∙◌, arith, ◌⊎◌, inl, inr}
+use Rattle.std.specs.Prelude.{is_some, nat_lt, Result, Ok, Err, OnOk, OnErr, IfErr, if◌then◌else◌}
+use Rattle.std.proofs.lemmas.Bool.{cases_eq, cases_lt}
+use Rattle.host_types.specs.Configuration.{Configuration}
 use Rattle.host_types.specs.declared.SeqNo.{SeqNo}
 use Rattle.pbft_codec.specs.declared.body.Body.{Body}
 use Rattle.pbft_codec.specs.declared.body.Body.TheVariants as bodies
 use Rattle.pbft_model.specs.Words.{Signed, PrePrepare, Prepare, Commit}
 use Rattle.pbft_model.specs.Acts.{with_body}
-use Rattle.pbft_model.specs.Tables.{Table, at, vote_key}
+use Rattle.pbft_model.specs.Tables.{at, vote_key}
 use Rattle.pbft_model.specs.Certificates.{of_pre_prepare, of_prepare, of_commit}
 use Rattle.seal.specs.Opening.{CheckedMessage}
 use Rattle.seal.specs.Votes.{IsVoteOf, vote_in, vote_of}
@@ -18,14 +18,13 @@ use Rattle.seal.specs.declared.vote.VoteKind.TheVariants as kinds
 use Rattle.quorum_log.specs.declared.fault.LogFault.{LogFault}
 use Rattle.quorum_log.specs.declared.fault.LogFault.TheVariants as faults
 use Rattle.quorum_log.specs.declared.place.Place.{Place}
-use Rattle.quorum_log.specs.declared.slot.Slot.{Slot}
-use Rattle.quorum_log.specs.Log.{KeptLog, Log, accepted, vote_fault, is_other, is_within, IsRefusedFor}
+use Rattle.quorum_log.specs.Log.{KeptLog, accepted, vote_fault, is_other, is_within, IsRefusedFor}
 use Rattle.quorum_log.specs.Reading.{AreKept, as_pre_prepare, as_prepare, as_commit, read_by, table_of, log_in, place_fault}
 use Rattle.quorum_log.specs.Slots.{IsVoteAt, IsSlotAt, IsRefusal, empty_slot, is_for_other, met_by, with_vote}
 use Rattle.quorum_log.specs.Windows.{HasSlotAt, HaveSameWindows, slots_at, slot_of, vote_by, vote_at_key, keys_by_number}
 use Rattle.quorum_log.proofs.Accepting.{slot_here, slot_was, slot_apart, vote_key_at, table_of_other, same_table_of, table_with}
 use Rattle.quorum_log.proofs.Covering.{covers_table}
-use Rattle.quorum_log.proofs.KindReadings.{kind_of, read_pre_prepare, read_prepare, read_commit, pre_prepare_with, met_pre_prepare}
+use Rattle.quorum_log.proofs.KindReadings.{read_pre_prepare, read_prepare, read_commit, pre_prepare_with, met_pre_prepare}
 use Rattle.quorum_log.proofs.Recording.{prepare_with, commit_with}
 use Rattle.quorum_log.proofs.Slots.{slot_after}
 use Rattle.quorum_log.proofs.Tables.{found}

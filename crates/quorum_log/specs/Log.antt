@@ -1,5 +1,5 @@
 -- Statement: what a replica records of votes, as the protocol's core keeps it, and what is done with it.
-use Rattle.std.specs.Prelude.{◌≡◌, ℕ, ◌+◌, ◌*◌, ◌==◌, Bool, true, false, ◌&&◌, not, cond, nat_lt, nat_le, List, [], ◌∷◌, map, Option, Some, None, bytes_eq, if◌then◌else◌}
+use Rattle.std.specs.Prelude.{◌≡◌, ℕ, ◌+◌, ◌*◌, ◌==◌, ◌<◌, ◌≤◌, Bool, true, false, ◌&&◌, not, cond, nat_lt, nat_le, List, [], ◌∷◌, map, Option, Some, None, IsSome, bytes_eq, if◌then◌else◌}
 use Rattle.host_types.specs.Configuration.{Configuration}
 use Rattle.pbft_codec.specs.declared.body.Body.{Body}
 use Rattle.pbft_codec.specs.declared.body.Body.TheVariants as bodies
@@ -8,7 +8,7 @@ use Rattle.pbft_model.specs.Acts.{is_of_entered, with_body}
 use Rattle.pbft_model.specs.Certificates.{certified, has_quorum, is_by, voted, Fields, of_pre_prepare, of_prepare, of_commit}
 use Rattle.pbft_model.specs.Core.{Core, floor_in, if_passes, is_placed}
 use Rattle.pbft_model.specs.Setup.{Setup, gathered, is_least, primary, replicas}
-use Rattle.pbft_model.specs.Tables.{Table, at, add_if, keep, vote_key, is_above}
+use Rattle.pbft_model.specs.Tables.{Key, Table, at, add_if, keep, vote_key, first_in, is_above}
 use Rattle.std.specs.Option.{option_map}
 use Rattle.std.specs.List.{filter_map}
 use Rattle.seal.specs.Parts.{as_message}
@@ -166,6 +166,17 @@ discarded number l = cond (nat_lt l.low number) (record l {
 pub record KeptLog : Type 0 where
   pub config : Configuration
   pub log : Log
+
+-- above the low and not above the high water mark
+pub record IsBetweenMarks (k : KeptLog) (number : ℕ) : Type 0 where
+  pub above : k.log.low < number
+  pub within : number ≤ k.log.low + 2 * k.config.k
+
+-- Each recorded vote is for such a number.
+pub record AreInside (k : KeptLog) : Type 0 where
+  pub pre_prepares : (key : Key) → IsSome (at k.log.pre_prepares key) → IsBetweenMarks k (first_in key)
+  pub prepares : (key : Key) → IsSome (at k.log.prepares key) → IsBetweenMarks k (first_in key)
+  pub commits : (key : Key) → IsSome (at k.log.commits key) → IsBetweenMarks k (first_in key)
 
 -- the PrePrepare of the view's primary for a number
 abbrev pub proposal_in : Setup → Log → ℕ → ℕ → Option (Signed PrePrepare)

@@ -1,5 +1,6 @@
 -- Internal: what is recorded for one number in one view.
 use Rattle.std.specs.Prelude.{◌≡◌, ℕ, ◌*◌, ◌&&◌, ◌==◌, Bool, true, false, not, cond, List, Option, Some, None, is_some, length, replicate, unwrap_or}
+use Rattle.std.specs.Option.{option_map}
 use Rattle.std.specs.Ordering.{nat_cmp}
 use Rattle.std.specs.BTreeMap as tree
 use Rattle.host_types.specs.Configuration.{Configuration}
@@ -12,10 +13,11 @@ use Rattle.quorum_log.specs.declared.fault.LogFault.{LogFault}
 use Rattle.quorum_log.specs.declared.fault.LogFault.TheVariants.{OutsideMarks, OtherDigest, WrongView, Memory}
 use Rattle.quorum_log.specs.declared.slot.Slot.{Slot}
 use Rattle.host_types.specs.declared.Digest.{Digest}
+use Rattle.host_types.specs.declared.SeqNo.{SeqNo}
 use Rattle.pbft_model.specs.Certificates.{certified, has_quorum}
 use Rattle.pbft_model.specs.Setup.{Setup}
 use Rattle.quorum_log.specs.declared.certificate.CheckedCertificate.{CheckedCertificate}
-use Rattle.quorum_log.specs.Ballots.{Ballot, vote_at, recorded, is_for, digest_in, voted_for, least_votes}
+use Rattle.quorum_log.specs.Ballots.{Ballot, vote_at, recorded, is_digest, is_for, digest_in, voted_for, least_votes}
 
 -- A message of the configuration that is a vote of this kind at this number of this view.
 pub record IsVoteAt (c : Configuration) (kind : VoteKind) (view number : ℕ) (m : CheckedMessage) : Type 0 where
@@ -78,6 +80,18 @@ digest_of_some (Some m) = digest_in m.message.body
 
 abbrev pub digest_here : Slot → Option Digest
 digest_here s = digest_of_some s.pre_prepare
+
+-- the PrePrepare names the digest
+abbrev pub is_named : List ℕ → Slot → Bool
+is_named digest s = is_digest digest (digest_here s)
+
+-- the number that a message names
+abbrev pub number_of_some : Option CheckedMessage → Option SeqNo
+number_of_some None = None
+number_of_some (Some m) = option_map (λ v. v.number) (vote_of m.message)
+
+abbrev pub number_here : Slot → Option SeqNo
+number_here s = number_of_some s.pre_prepare
 
 -- The counts don't depend on the hash function.
 abbrev pub setup_of : Configuration → Setup

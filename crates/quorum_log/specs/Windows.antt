@@ -1,6 +1,6 @@
 -- Internal: what is recorded between the water marks.
 use Rattle.std.proofs.Common.{zero, suc, ◌≢◌, ◌⊎◌}
-use Rattle.std.specs.Prelude.{◌≡◌, ℕ, ◌+◌, ◌-◌, ◌==◌, ◌&&◌, ◌||◌, Bool, false, nat_lt, nat_le, ◌<◌, ◌≤◌, length, cond, List, [], ◌∷◌, ◌++◌, Option, Some, None}
+use Rattle.std.specs.Prelude.{◌≡◌, ℕ, ◌+◌, ◌-◌, ◌==◌, ◌&&◌, ◌||◌, Bool, false, nat_lt, nat_le, ◌<◌, ◌≤◌, length, cond, List, [], ◌∷◌, ◌++◌, Option, Some, None, MatchBool, MatchOption, true}
 use Rattle.std.specs.Ordering.{nat_cmp, eq_by_cmp}
 use Rattle.std.specs.Cmp.Lexicographic.{slice_cmp}
 use Rattle.std.specs.BTreeMap as tree
@@ -11,7 +11,8 @@ use Rattle.quorum_log.specs.Ballots.{vote_at}
 use Rattle.pbft_model.specs.Tables.{Key, Table, with_entry}
 use Rattle.quorum_log.specs.declared.place.Place.{Place}
 use Rattle.quorum_log.specs.declared.slot.Slot.{Slot}
-use Rattle.quorum_log.specs.Slots.{empty_slot, slot_in}
+use Rattle.host_types.specs.declared.SeqNo.{SeqNo}
+use Rattle.quorum_log.specs.Slots.{empty_slot, is_named, number_here, slot_in}
 
 -- the slot of a view at the place with this index
 abbrev pub slots_at : List Place → ℕ → ℕ → Slot
@@ -36,6 +37,22 @@ pub record IsCleared (many : ℕ) (old new : List Place) : Type 0 where
   pub cleared : (i v : ℕ) → i < many → slots_at new i v ≡ empty_slot
   pub others : (i v : ℕ) → many ≤ i → slots_at new i v ≡ slots_at old i v
   pub as_long : length new ≡ length old
+
+-- ---- PrePrepares of whatever number
+
+-- The answer says whether a PrePrepare names the digest.
+abbrev pub IsNamedSomewhere : List ℕ → List Place → Bool → Type 0
+IsNamedSomewhere digest ps told =
+    MatchBool told ((i : ℕ) × (v : ℕ) × (is_named digest (slots_at ps i v) ≡ true)) ((i v : ℕ) → is_named digest (slots_at ps i v) ≡ false)
+
+-- The slot at an index has this number, and none after it has one.
+pub record IsLastAt (view : ℕ) (ps : List Place) (number : SeqNo) : Type 0 where
+  pub index : ℕ
+  pub here : number_here (slots_at ps index view) ≡ Some number
+  pub later : (i : ℕ) → index < i → number_here (slots_at ps i view) ≡ None
+
+abbrev pub IsLastNumber : ℕ → List Place → Option SeqNo → Type 0
+IsLastNumber view ps told = MatchOption told ((i : ℕ) → number_here (slots_at ps i view) ≡ None) (IsLastAt view ps)
 
 -- ---- tables read off
 

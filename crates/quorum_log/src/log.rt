@@ -1,14 +1,17 @@
 //! A replica's recorded votes.
 
-ghost use Rattle.std.specs.Prelude.{◌≡◌, ℕ, ◌+◌, ◌<◌, ◌≤◌, ◌^◌, ◌==◌, ◌&&◌, length, List, None, is_some, IfOk, IfErr, OnOk, OnErr, IsSome};
+ghost use Rattle.std.specs.Prelude.{◌≡◌, ℕ, ◌+◌, ◌<◌, ◌≤◌, ◌^◌, ◌==◌, ◌&&◌, length, List, None, is_some, map, IfOk, IfErr, IfSome, OnOk, OnErr, IsSome};
 ghost use Rattle.host_types.specs.Configuration.{IsConfiguration};
 ghost use Rattle.seal.specs.Votes.{vote_of};
 ghost use Rattle.quorum_log.specs.Reading.{place_fault, fault_of};
-ghost use Rattle.std.specs.Option.{option_copied, option_map, unwrap_or};
+ghost use Rattle.std.specs.Option.{option_copied, option_map, option_map_or, unwrap_or};
+ghost use Rattle.pbft_model.specs.Core.{names, of_view};
+ghost use Rattle.pbft_model.specs.Tables.{entries_in};
+ghost use Rattle.pbft_model.specs.Validity.{greatest_of};
 ghost use Rattle.quorum_log.specs.Asking.{Shows};
 ghost use Rattle.quorum_log.specs.Slots.{empty_slot};
 ghost use Rattle.quorum_log.specs.declared.fault.LogFault.TheVariants.{Memory};
-ghost use Rattle.quorum_log.specs.Log.{AreProposals, KeptLog, IsRefusedFor, accepted, certificate_shown, certified_at, discarded, entered, is_committed_at, is_under_floor, left, pre_prepares_in, proposal_in, start, vote_fault};
+ghost use Rattle.quorum_log.specs.Log.{AreInside, AreProposals, IsBetweenMarks, KeptLog, IsRefusedFor, accepted, certificate_shown, certified_at, discarded, entered, is_committed_at, is_under_floor, left, pre_prepares_in, proposal_in, start, vote_fault};
 
 use crate::certificate::CheckedCertificate;
 use crate::fault::LogFault;
@@ -64,6 +67,22 @@ impl QuorumLog {
         View(self.view.0)
     }
 
+    /// The low water mark. Each vote that is recorded is for a number above it, up to the high mark. It takes
+    /// no memory.
+    pub fn low(&self) -> SeqNo
+        ensures value { result.0 ≡ self.now.log.low }
+        ensures inside { AreInside self.now }
+    {
+        self.window.low
+    }
+
+    /// The floor of the view, if it is entered. It takes no memory.
+    pub fn floor(&self) -> Option<SeqNo>
+        ensures { option_map (λ n. n.0) result ≡ self.now.log.floor }
+    {
+        self.floor
+    }
+
     /// Records a vote, a `PrePrepare`, a `Prepare` or a `Commit` under the log's configuration: the first
     /// of each kind, view, number and signer counts, and another of the same digest changes nothing. It is
     /// refused for the first fault in the order of [`LogFault`], and then the log is as it was.
@@ -116,6 +135,32 @@ impl QuorumLog {
             Some(slot) => slot.digest(),
             None => None,
         }
+    }
+
+    /// Whether a recorded PrePrepare names the digest, of whatever view and number. It takes no memory.
+    pub fn names(&self, digest: &Digest) -> bool
+        ensures { result ≡ names (entries_in self.now.log.pre_prepares) digest.now.0 }
+    {
+        let _ = self.config.f();
+        self.window.names(digest)
+    }
+
+    /// Whether a recorded PrePrepare of the view names the digest, of whatever number. It takes no memory.
+    pub fn names_in(&self, view: View, digest: &Digest) -> bool
+        ensures { result ≡ names (of_view view.0 (entries_in self.now.log.pre_prepares)) digest.now.0 }
+    {
+        let _ = self.config.f();
+        self.window.names_in(view, digest)
+    }
+
+    /// The greatest number of a recorded PrePrepare of the view, if there is one. It lies between the water
+    /// marks. It takes no memory.
+    pub fn greatest_in(&self, view: View) -> Option<SeqNo>
+        ensures greatest { option_map_or (λ n. n.0) result 0 ≡ greatest_of (map (λ m. m.body.number.0) (of_view view.0 (entries_in self.now.log.pre_prepares))) }
+        ensures inside { IfSome result (λ n. IsBetweenMarks self.now n.0) }
+    {
+        let _ = self.config.f();
+        self.window.greatest_in(view)
     }
 
     /// Whether a number is certified in a view: its primary proposes a digest, and 2f backups agree with it

@@ -1,16 +1,17 @@
 //! What is recorded for one number.
 
 ghost use Rattle.std.specs.Prelude.{◌≡◌, ◌==◌, ◌||◌, ◌&&◌, ℕ, ◌<◌, nat_lt, cond, true, false, None, IfOk, IfErr, OnOk, OnErr, IsSome};
+ghost use Rattle.std.specs.List.{list_any};
 ghost use Rattle.std.specs.Option.{option_copied};
 ghost use Rattle.std.specs.Ordering.{nat_cmp};
 ghost use Rattle.std.specs.BTreeMap as tree;
 ghost use Rattle.quorum_log.specs.Ballots.{digest_in};
 ghost use Rattle.quorum_log.specs.Entering.{IsProper, IsReady, entered_slot};
-ghost use Rattle.quorum_log.specs.Slots.{HasSlot, HaveSameSlots, IsRefusal, empty_slot, is_for_other, met_by, slot_in, with_vote};
+ghost use Rattle.quorum_log.specs.Slots.{HasSlot, HaveSameSlots, IsRefusal, digest_here, empty_slot, is_for_other, is_named, met_by, number_here, slot_in, with_vote};
 
 use crate::fault::LogFault;
 use crate::slot::Slot;
-use host_types::View;
+use host_types::{Digest, SeqNo, View};
 use seal::{Checked, Vote};
 use std::alloc::{AllocError, Global};
 use std::collections::BTreeMap;
@@ -35,6 +36,30 @@ impl Place {
         ensures { option_copied result ≡ tree.get nat_cmp self.now.slots view.0 }
     {
         self.slots.get(&view.0)
+    }
+
+    /// Whether the PrePrepare of some slot names the digest.
+    pub(crate) fn names(&self, digest: &Digest) -> bool
+        ensures any { result ≡ list_any (is_named digest.now.0) (tree.values self.now.slots) }
+        ensures ordered { tree.IsOrdered nat_cmp self.now.slots }
+    {
+        self.slots
+            .values()
+            .any(|slot| slot.digest() == Some(*digest))
+    }
+
+    /// The digest that the PrePrepare of a view names, if there is one.
+    pub(crate) fn digest(&self, view: View) -> Option<Digest>
+        ensures { result ≡ digest_here (slot_in self.now.slots view.0) }
+    {
+        self.slot(view)?.digest()
+    }
+
+    /// The number that the PrePrepare of a view names, if there is one.
+    pub(crate) fn number(&self, view: View) -> Option<SeqNo>
+        ensures { result ≡ number_here (slot_in self.now.slots view.0) }
+    {
+        self.slot(view)?.number()
     }
 
     pub(crate) fn clear(&mut self)

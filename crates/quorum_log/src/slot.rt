@@ -4,12 +4,12 @@ ghost use Rattle.std.specs.Prelude.{◌≡◌, ℕ, ◌<◌, List, false, IfErr,
 ghost use Rattle.quorum_log.specs.declared.fault.LogFault.TheVariants.{OtherDigest};
 ghost use Rattle.host_types.specs.Configuration.{Configuration};
 ghost use Rattle.quorum_log.specs.Ballots.{AreListed, AreUnder, digest_in, is_digest, vote_at};
-ghost use Rattle.quorum_log.specs.Slots.{certificate_here, empty_slot, IsRefusal, digest_here, first_of, is_certified_here, is_committed_here, is_for_other, met_by, with_first, with_vote};
+ghost use Rattle.quorum_log.specs.Slots.{certificate_here, empty_slot, IsRefusal, digest_here, first_of, is_certified_here, is_committed_here, is_for_other, met_by, number_here, with_first, with_vote};
 
 use crate::certificate::CheckedCertificate;
 use crate::fault::LogFault;
 use crate::votes::{Votes, digest_named};
-use host_types::{Config, Digest, ReplicaId, View};
+use host_types::{Config, Digest, ReplicaId, SeqNo, View};
 use seal::{Checked, VoteKind};
 use std::alloc::{AllocError, Global};
 use std::sync::Arc;
@@ -66,6 +66,14 @@ impl Slot {
         ensures { result ≡ digest_here self.now }
     {
         digest_named(self.pre_prepare.as_ref()?.body())
+    }
+
+    /// The number that the PrePrepare names, if there is one.
+    pub(crate) fn number(&self) -> Option<SeqNo>
+        ensures { result ≡ number_here self.now }
+    {
+        let vote = self.pre_prepare.as_ref()?.vote()?;
+        Some(vote.number)
     }
 
     /// Whether there is a PrePrepare, and 2f backups agree with it.

@@ -2,18 +2,19 @@
 
 ghost use Rattle.std.specs.Prelude.{◌≡◌, ℕ, ◌+◌, ◌-◌, ◌*◌, ◌<◌, ◌≤◌, ◌^◌, Bool, min, true, false, length, Option, None, Some, unwrap_or, IfOk, IfErr, OnOk, OnErr, IsSome};
 ghost use Rattle.std.proofs.Common.{◌⊎◌};
+ghost use Rattle.std.specs.List.{list_any};
 ghost use Rattle.std.specs.Option.{option_copied};
 ghost use Rattle.std.specs.Ordering.{nat_cmp};
 ghost use Rattle.std.specs.BTreeMap as tree;
 ghost use Rattle.quorum_log.specs.Ballots.{digest_in};
-ghost use Rattle.quorum_log.specs.Slots.{IsRefusal, empty_slot, is_for_other, met_by, slot_in, with_vote};
+ghost use Rattle.quorum_log.specs.Slots.{IsRefusal, empty_slot, is_for_other, is_named, met_by, slot_in, with_vote};
 ghost use Rattle.quorum_log.specs.Entering.{AreEntered, ArePrepared, AreProper, offered_for};
-ghost use Rattle.quorum_log.specs.Windows.{HasSlotAt, HaveSameWindows, IsCleared, index_in, slots_at};
+ghost use Rattle.quorum_log.specs.Windows.{HasSlotAt, HaveSameWindows, IsCleared, IsLastNumber, IsNamedSomewhere, index_in, slots_at};
 
 use crate::fault::LogFault;
 use crate::place::Place;
 use crate::slot::Slot;
-use host_types::{SeqNo, View};
+use host_types::{Digest, SeqNo, View};
 use seal::{Checked, Vote};
 use std::alloc::{AllocError, Global};
 
@@ -75,6 +76,39 @@ impl Window {
         ensures low { self.new.low ≡ self.old.low }
     {
         self.places[index].accept(alloc, message, vote)
+    }
+
+    /// Whether a recorded PrePrepare names the digest, of whatever view.
+    pub(crate) fn names(&self, digest: &Digest) -> bool
+        ensures { IsNamedSomewhere digest.now.0 self.now.places.items result }
+    {
+        for place in &self.places {
+            if place.names(digest) {
+                return true;
+            }
+        }
+        false
+    }
+
+    /// Whether a recorded PrePrepare of the view names the digest.
+    pub(crate) fn names_in(&self, view: View, digest: &Digest) -> bool
+        ensures { result ≡ list_any (λ p. is_named digest.now.0 (slot_in p.slots view.0)) self.now.places.items }
+    {
+        self.places
+            .iter()
+            .any(|place| place.digest(view) == Some(*digest))
+    }
+
+    /// The greatest number of a recorded PrePrepare of the view: that of the last place which has one.
+    pub(crate) fn greatest_in(&self, view: View) -> Option<SeqNo>
+        ensures { IsLastNumber view.0 self.now.places.items result }
+    {
+        for index in (0..self.places.len()).rev() {
+            if let Some(number) = self.places[index].number(view) {
+                return Some(number);
+            }
+        }
+        None
     }
 
     /// Discards what is recorded at or below a number above the mark, which becomes the mark.

@@ -16,16 +16,12 @@ use Rattle.pbft_codec.specs.Limits.{CertificateWellFormed, ViewChangeWellFormed,
 use Rattle.pbft_codec.specs.Bodies.{BodyWellFormed}
 use Rattle.pbft_codec.specs.Layouts.{of_kind, number, view, encoded_list, signed, signed_pre_prepare, signed_prepare, signed_checkpoint, signed_view_change, pre_prepare, prepare, checkpoint, certificate, view_change, new_view}
 use Rattle.pbft_codec.specs.Encoding.{max_bytes, body, encoding}
+pub use Rattle.seal.specs.Opening.{CanNest}
 use Rattle.seal.specs.Opening.{CheckedMessage, IsChecked}
-use Rattle.seal.specs.Parts.{as_message, in_certificate, in_view_change, with_nested, children_of, nested_in, messages_in}
+use Rattle.seal.specs.Parts.{as_message, in_certificate, in_view_change, with_nested, children_of, checkpoints_of, pre_prepares_of, nested_in, messages_in}
 use Rattle.seal.specs.Signers.{IsAuthentic}
 use Rattle.pbft_codec.proofs.Widths.{length_signed}
 use Rattle.seal.proofs.Authenticity.{all_split, all_join}
-
-pub record CanNest (c : Configuration) (m : Signed Body) : Type 0 where
-  pub well_formed : BodyWellFormed m.body
-  pub within : length (encoding m) ≤ max_bytes
-  pub authentic : AllByRecursion (IsAuthentic c) (messages_in m)
 
 -- a kind of body that others hold
 record IsLeaf {B : Type 0} (kind : B → Body) (WellFormed : B → Type 0) (fields : B → List ℕ) : Type 0 where
@@ -155,3 +151,53 @@ child_stands c items i m checked is lt at =
     let all : AllByRecursion P (children_of c.message.body) = children_stand c.config c.message checked.encodes.well_formed.well_formed checked.encodes.within checked.authentic in
     let here = subst (λ (xs : List (Signed Body)). AllByRecursion P xs) (sym is) all in
     subst P (sym at) (All-get_or P items i m lt (All-from_recursion P items here))
+
+-- ---- some of the messages that a checked one holds
+
+front : (c : Configuration) (v : ViewChange) → AllByRecursion (CanNest c) (in_view_change v) → AllByRecursion (CanNest c) (map (as_message bodies.Checkpoint) v.checkpoints)
+front c v h = (all_split (CanNest c) (map (as_message bodies.Checkpoint) v.checkpoints) (flat_map in_certificate v.certificates) h).0
+
+fronts : (c : Configuration) (ms : List (Signed ViewChange)) → AllByRecursion (CanNest c) (map (as_message bodies.ViewChange) ms) → AllByRecursion (CanNest c) (flat_map (λ m. map (as_message bodies.Checkpoint) m.body.checkpoints) ms)
+fronts c [] h = tt
+fronts c (m ∷ ms) h =
+    all_join (CanNest c) (map (as_message bodies.Checkpoint) m.body.checkpoints) (flat_map (λ m. map (as_message bodies.Checkpoint) m.body.checkpoints) ms)
+    (front c m.body (children_stand c (as_message bodies.ViewChange m) h.0.well_formed h.0.within h.0.authentic)) (fronts c ms h.1)
+
+checkpoints_stand : (c : Configuration) (b : Body) → AllByRecursion (CanNest c) (children_of b) → AllByRecursion (CanNest c) (checkpoints_of b)
+checkpoints_stand c (bodies.Request r) h = tt
+checkpoints_stand c (bodies.PrePrepare p) h = tt
+checkpoints_stand c (bodies.Prepare p) h = tt
+checkpoints_stand c (bodies.Commit m) h = tt
+checkpoints_stand c (bodies.Reply r) h = tt
+checkpoints_stand c (bodies.Checkpoint m) h = tt
+checkpoints_stand c (bodies.ViewChange v) h = front c v h
+checkpoints_stand c (bodies.NewView n) h = fronts c n.changes (all_split (CanNest c) (map (as_message bodies.ViewChange) n.changes) (map (as_message bodies.PrePrepare) n.pre_prepares) h).0
+checkpoints_stand c (bodies.Fetch f) h = tt
+checkpoints_stand c (bodies.Snapshot s) h = tt
+
+pre_prepares_stand : (c : Configuration) (b : Body) → AllByRecursion (CanNest c) (children_of b) → AllByRecursion (CanNest c) (pre_prepares_of b)
+pre_prepares_stand c (bodies.Request r) h = tt
+pre_prepares_stand c (bodies.PrePrepare p) h = tt
+pre_prepares_stand c (bodies.Prepare p) h = tt
+pre_prepares_stand c (bodies.Commit m) h = tt
+pre_prepares_stand c (bodies.Reply r) h = tt
+pre_prepares_stand c (bodies.Checkpoint m) h = tt
+pre_prepares_stand c (bodies.ViewChange v) h = tt
+pre_prepares_stand c (bodies.NewView n) h = (all_split (CanNest c) (map (as_message bodies.ViewChange) n.changes) (map (as_message bodies.PrePrepare) n.pre_prepares) h).1
+pre_prepares_stand c (bodies.Fetch f) h = tt
+pre_prepares_stand c (bodies.Snapshot s) h = tt
+
+checked_children : (c : CheckedMessage) → IsChecked c → AllByRecursion (CanNest c.config) (children_of c.message.body)
+checked_children c h = children_stand c.config c.message h.encodes.well_formed.well_formed h.encodes.within h.authentic
+
+pub checked_checkpoints : (c : CheckedMessage) → IsChecked c → AllByRecursion (CanNest c.config) (checkpoints_of c.message.body)
+checked_checkpoints c h = checkpoints_stand c.config c.message.body (checked_children c h)
+
+pub checked_pre_prepares : (c : CheckedMessage) → IsChecked c → AllByRecursion (CanNest c.config) (pre_prepares_of c.message.body)
+checked_pre_prepares c h = pre_prepares_stand c.config c.message.body (checked_children c h)
+
+-- one of several
+pub one_stands : (c : Configuration) (items : List (Signed Body)) (i : ℕ) (m : Signed Body) → AllByRecursion (CanNest c) items → i < length items → m ≡ get_or items i m → CanNest c m
+one_stands c items i m all lt at =
+    let P : Signed Body → Type 0 = CanNest c in
+    subst P (sym at) (All-get_or P items i m lt (All-from_recursion P items all))

@@ -1,5 +1,5 @@
 -- Statement: what opening bytes gives, and what sealing a body gives.
-use Rattle.std.specs.Prelude.{◌≡◌, ℕ, ◌+◌, List, [], Option, Some, None, Result, Ok, Err}
+use Rattle.std.specs.Prelude.{◌≡◌, ℕ, ◌+◌, ◌≤◌, List, [], length, Option, Some, None, Result, Ok, Err}
 use Rattle.std.specs.List.{AllByRecursion}
 use Rattle.host_types.specs.Configuration.{Configuration}
 use Rattle.lms_tree.specs.Keys.{signature_length, signature_of}
@@ -10,7 +10,8 @@ use Rattle.pbft_codec.specs.declared.signed.Role.{Role}
 use Rattle.pbft_codec.specs.declared.signed.Signed.{Signed}
 use Rattle.pbft_codec.specs.Reading.{reading}
 use Rattle.pbft_codec.specs.WellFormed.{Encodes}
-use Rattle.pbft_codec.specs.Encoding.{signed_text, encoding}
+use Rattle.pbft_codec.specs.Bodies.{BodyWellFormed}
+use Rattle.pbft_codec.specs.Encoding.{signed_text, encoding, max_bytes}
 use Rattle.seal.specs.declared.fault.SealFault.{SealFault}
 use Rattle.seal.specs.declared.fault.SealFault.TheVariants.{Codec, Memory}
 use Rattle.seal.specs.Parts.{messages_in}
@@ -26,6 +27,12 @@ pub record CheckedMessage : Type 0 where
 pub record IsChecked (c : CheckedMessage) : Type 0 where
   pub encodes : Encodes (encoding c.message) c.message
   pub authentic : AllByRecursion (IsAuthentic c.config) (messages_in c.message)
+
+-- Internal: a message that a checked one of this configuration may hold.
+pub record CanNest (c : Configuration) (m : Signed Body) : Type 0 where
+  pub well_formed : BodyWellFormed m.body
+  pub within : length (encoding m) ≤ max_bytes
+  pub authentic : AllByRecursion (IsAuthentic c) (messages_in m)
 
 -- A message, unless it has a fault.
 abbrev pub unless_fault : Configuration → Signed Body → Option SealFault → Result CheckedMessage SealFault

@@ -32,6 +32,24 @@ children_in (InNewView n) = map (as_message bodies.ViewChange) n.changes ++ map 
 abbrev pub children_of : Body → List (Signed Body)
 children_of b = children_in (contents_of b)
 
+-- The Checkpoints that a ViewChange holds, or the ViewChanges of a NewView hold, in order.
+abbrev pub checkpoints_in : Contents → List (Signed Body)
+checkpoints_in Nothing = []
+checkpoints_in (InViewChange v) = map (as_message bodies.Checkpoint) v.checkpoints
+checkpoints_in (InNewView n) = flat_map (λ m. map (as_message bodies.Checkpoint) m.body.checkpoints) n.changes
+
+abbrev pub checkpoints_of : Body → List (Signed Body)
+checkpoints_of b = checkpoints_in (contents_of b)
+
+-- The PrePrepares that a NewView holds itself.
+abbrev pub pre_prepares_in : Contents → List (Signed Body)
+pre_prepares_in Nothing = []
+pre_prepares_in (InViewChange v) = []
+pre_prepares_in (InNewView n) = map (as_message bodies.PrePrepare) n.pre_prepares
+
+abbrev pub pre_prepares_of : Body → List (Signed Body)
+pre_prepares_of b = pre_prepares_in (contents_of b)
+
 -- The messages nested in a body, each before those nested in it, from left to right.
 abbrev pub descendants_in : Contents → List (Signed Body)
 descendants_in Nothing = []

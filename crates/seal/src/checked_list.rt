@@ -51,6 +51,18 @@ impl CheckedList {
         Ok(())
     }
 
+    /// One more list of the same messages. It holds handles: no bytes are copied. It is refused only where
+    /// memory ran out.
+    pub fn copy(&self) -> Result<CheckedList, AllocError>
+        ensures { IfOk result (λ copy. copy ≡ self.now) }
+    {
+        let mut copy = CheckedList::new(*self.messages.allocator(), &self.config)?;
+        for message in self.as_slice() {
+            copy.push(message.copy()?)?;
+        }
+        Ok(copy)
+    }
+
     /// How many messages there are.
     pub fn len(&self) -> usize
         ensures { result ≡ length self.now.messages }

@@ -20,7 +20,7 @@ mod vote;
 pub use checked::Checked;
 pub use checked_list::CheckedList;
 pub use fault::SealFault;
-pub use opening::{nested, open, parts, request_digest};
+pub use opening::{nested, nested_checkpoints, nested_pre_prepares, open, parts, request_digest};
 pub use part::Part;
 pub use sealing::seal;
 pub use vote::{Vote, VoteKind};

@@ -2,7 +2,8 @@
 
 ghost use Rattle.std.specs.Prelude.{◌≡◌, ◌++◌, ◌∷◌, [], List, map, OnOk, IfOk};
 ghost use Rattle.std.specs.List.{flat_map};
-ghost use Rattle.seal.specs.Parts.{as_message, in_certificate, in_view_change, with_nested, children_of, nested_in};
+ghost use Rattle.pbft_codec.specs.declared.body.Body.TheVariants as bodies;
+ghost use Rattle.seal.specs.Parts.{as_message, checkpoints_of, children_of, in_certificate, in_view_change, nested_in, pre_prepares_of, with_nested};
 
 use pbft_codec::{Body, Certificate, MessageBody, Signed, TryClone, ViewChange};
 use std::alloc::{AllocError, Global};
@@ -119,6 +120,43 @@ pub fn children(alloc: Global, body: &Body) -> Result<Vec<Signed>, AllocError>
             push_messages(alloc, &mut out, entry.pre_prepares.as_slice())?;
         }
         _ => {}
+    }
+    Ok(out)
+}
+
+fn push_checkpoints(
+    alloc: Global,
+    out: &mut Vec<Signed>,
+    changes: &[Signed<ViewChange>],
+) -> Result<(), AllocError>
+    ensures { OnOk result (out.new.items ≡ out.old.items ++ flat_map (λ m. map (as_message bodies.Checkpoint) m.body.checkpoints) changes.now) }
+{
+    for change in changes {
+        push_messages(alloc, out, change.body.checkpoints.as_slice())?;
+    }
+    Ok(())
+}
+
+/// The Checkpoints that a ViewChange holds, or the ViewChanges of a NewView hold, in order.
+pub fn checkpoints(alloc: Global, body: &Body) -> Result<Vec<Signed>, AllocError>
+    ensures { IfOk result (λ messages. messages.items ≡ checkpoints_of body.now) }
+{
+    let mut out = Vec::new(alloc);
+    match body {
+        Body::ViewChange(change) => push_messages(alloc, &mut out, change.checkpoints.as_slice())?,
+        Body::NewView(entry) => push_checkpoints(alloc, &mut out, entry.changes.as_slice())?,
+        _ => {}
+    }
+    Ok(out)
+}
+
+/// The PrePrepares that a NewView holds itself, in order.
+pub fn pre_prepares(alloc: Global, body: &Body) -> Result<Vec<Signed>, AllocError>
+    ensures { IfOk result (λ messages. messages.items ≡ pre_prepares_of body.now) }
+{
+    let mut out = Vec::new(alloc);
+    if let Body::NewView(entry) = body {
+        push_messages(alloc, &mut out, entry.pre_prepares.as_slice())?;
     }
     Ok(out)
 }

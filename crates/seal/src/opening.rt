@@ -8,13 +8,14 @@ ghost use Rattle.pbft_codec.specs.WellFormed.{Encodes};
 ghost use Rattle.pbft_codec.specs.Encoding.{signed_text};
 ghost use Rattle.sha2.specs.Sha256.{sha256};
 ghost use Rattle.seal.specs.Faults.{IsProper};
-ghost use Rattle.seal.specs.Opening.{IsUnlessMemory, opening};
-ghost use Rattle.seal.specs.Parts.{messages_in, parts_of, part_of, children_of};
+ghost use Rattle.seal.specs.Opening.{CanNest, IsUnlessMemory, opening};
+ghost use Rattle.seal.specs.Parts.{messages_in, parts_of, part_of, checkpoints_of, children_of, pre_prepares_of};
 ghost use Rattle.seal.specs.Signers.{IsAuthentic};
 
 use crate::checked::Checked;
+use crate::checked_list::CheckedList;
 use crate::fault::SealFault;
-use crate::nested_messages::{children, descendants};
+use crate::nested_messages::{checkpoints, children, descendants, pre_prepares};
 use crate::part::Part;
 use crate::verify_parts::verify_message;
 use host_types::{Bytes, Config, Digest};
@@ -96,6 +97,40 @@ fn messages_within(alloc: Global, message: &Checked) -> Result<Vec<Checked>, All
         nested.push(Checked::encoded(alloc, message.config(), inside)?)?;
     }
     Ok(nested)
+}
+
+/// The Checkpoints that a message holds, in order: a ViewChange its own, a NewView those of its ViewChanges,
+/// another none. They are under the same configuration. It is refused only where memory ran out.
+pub fn nested_checkpoints(alloc: Global, message: &Checked) -> Result<CheckedList, AllocError>
+    ensures { IfOk result (λ l. l ≡ record { config = message.now.config; messages = checkpoints_of message.now.message.body }) }
+{
+    let inside = checkpoints(alloc, message.body())?;
+    list_under(alloc, message.config(), inside)
+}
+
+/// The PrePrepares that a NewView holds itself, in order; another message holds none. They are under the
+/// same configuration. It is refused only where memory ran out.
+pub fn nested_pre_prepares(alloc: Global, message: &Checked) -> Result<CheckedList, AllocError>
+    ensures { IfOk result (λ l. l ≡ record { config = message.now.config; messages = pre_prepares_of message.now.message.body }) }
+{
+    let inside = pre_prepares(alloc, message.body())?;
+    list_under(alloc, message.config(), inside)
+}
+
+// The messages as checked ones.
+fn list_under(
+    alloc: Global,
+    config: &Arc<Config>,
+    messages: Vec<Signed>,
+) -> Result<CheckedList, AllocError>
+    requires { AllByRecursion (CanNest config.now.value) messages.items }
+    ensures { IfOk result (λ l. l ≡ record { config = config.now.value; messages = messages.items }) }
+{
+    let mut list = CheckedList::new(alloc, config)?;
+    for message in messages {
+        list.push(Checked::encoded(alloc, config, message)?)?;
+    }
+    Ok(list)
 }
 
 /// The SHA-256 digest (FIPS 180-4) of what is signed: role, id and body. It names a request. It takes

@@ -1,6 +1,6 @@
 use Rattle.std.proofs.Common.{◌+◌, ap, sym, subst, ◌∙◌}
 use Rattle.host_types.specs.Configuration.{IsConfiguration}
-use Rattle.quorum_log.proofs.Logging.{accept_fault, accept_kept, accept_recorded, accept_unchanged, at_own_place, on_faultless, on_refused, refused_place}
+use Rattle.quorum_log.proofs.Logging.{accept_fault, accept_kept, accept_recorded, accept_unchanged, at_own_place, on_faultless, on_refused}
 use Rattle.quorum_log.proofs.KindReadings.{voter_small}
 use Rattle.quorum_log.proofs.Windows.{on_ok, on_err}
 use Rattle.quorum_log.proofs.log.QuorumLog.accept.Goals as goal

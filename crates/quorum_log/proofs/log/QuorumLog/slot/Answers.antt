@@ -1,4 +1,4 @@
-use Rattle.std.proofs.Common.{ap, sym, subst, ◌∙◌}
+use Rattle.std.proofs.Common.{sym, ◌∙◌}
 use Rattle.quorum_log.proofs.Asking.{shows_at, shows_outside}
 use Rattle.quorum_log.proofs.log.QuorumLog.slot.Goals as goal
 

@@ -1,7 +1,7 @@
-use Rattle.std.proofs.Common.{◌+◌, ◌<◌, ap, arith, length, refl, sym, subst, ◌∙◌}
+use Rattle.std.proofs.Common.{◌+◌, ◌<◌, ap, arith, length, sym, subst, ◌∙◌}
 use Rattle.std.specs.Prelude.{nat_lt}
 use Rattle.quorum_log.specs.Entering.{AreEntered, offered_for}
-use Rattle.quorum_log.proofs.EnteringSlots.{above_limit, all_proper, entered_next, given_above, left_given, length_left, offered_own, ready_at}
+use Rattle.quorum_log.proofs.EnteringSlots.{above_limit, entered_next, given_above, left_given, length_left, offered_own, ready_at}
 use Rattle.quorum_log.proofs.window.Window.enter.Goals as goal
 
 pub enter-requires-clause-above : goal.enter-requires-clause-above

@@ -1,7 +1,7 @@
-use Rattle.std.proofs.Common.{◌+◌, ◌<◌, ap, arith, length, refl, sym, subst, ◌∙◌}
+use Rattle.std.proofs.Common.{◌+◌, ◌<◌, ap, arith, length, sym, subst, ◌∙◌}
 use Rattle.std.specs.Prelude.{slice_set}
 use Rattle.std.proofs.lemmas.List.{length-set}
-use Rattle.quorum_log.specs.Entering.{ArePrepared, IsProper, offered_for}
+use Rattle.quorum_log.specs.Entering.{ArePrepared, offered_for}
 use Rattle.quorum_log.proofs.EnteringSlots.{offered_limit, prepared_next, same_then}
 use Rattle.quorum_log.proofs.window.Window.prepare.Goals as goal
 
