@@ -7,3 +7,4 @@ pub mod Discarding
 pub mod Noting
 pub mod Proving
 pub mod Cores
+pub mod Raising

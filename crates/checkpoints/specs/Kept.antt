@@ -12,7 +12,7 @@ use Rattle.pbft_model.specs.Words.{Signed, Checkpoint}
 use Rattle.pbft_model.specs.Acts.{add_checkpoint, with_body}
 use Rattle.pbft_model.specs.Certificates.{checkpointed, is_stable}
 use Rattle.pbft_model.specs.Core.{Core}
-use Rattle.pbft_model.specs.Duties.{greatest_stable}
+use Rattle.pbft_model.specs.Duties.{Duty, due_rise, greatest_stable}
 use Rattle.pbft_model.specs.Setup.{Setup, gathered, is_least, numbers_from, quorum, replicas}
 use Rattle.pbft_model.specs.Tables.{Table, at, entries_in, with_entry, keep, checkpoint_key, number_key, first_in, is_above}
 use Rattle.seal.specs.Lists.{CheckedMessages}
@@ -143,6 +143,16 @@ offer_fault k number bytes =
     else (if is_stable (by_sha256 k.config) k.checkpoints number (sha256 bytes) then None else Some DigestDiffers)
 
 -- ---- the low mark
+
+-- A core with these Checkpoints, this mark and these snapshots.
+pub record HasTablesOf (k : KeptCheckpoints) (s : Core) : Type 0 where
+  pub low : s.low ≡ k.low
+  pub checkpoints : s.checkpoints ≡ k.checkpoints
+  pub snapshots : s.snapshots ≡ k.snapshots
+
+-- what is due in such a core for its mark to rise, where e is the last executed number
+abbrev pub IsRaised : KeptCheckpoints → ℕ → Option Duty → Type 0
+IsRaised k e duty = (s : Core) → HasTablesOf k s → s.executed ≡ e → due_rise (by_sha256 k.config) s ≡ duty
 
 -- All at or below a number above the mark is discarded, but the snapshot there and its proof.
 abbrev pub discarded : ℕ → KeptCheckpoints → KeptCheckpoints

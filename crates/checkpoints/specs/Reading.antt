@@ -1,10 +1,13 @@
 -- Internal: what the tables of ballots and of snapshots stand for.
 use Rattle.std.proofs.Common.{zero, suc}
-use Rattle.std.specs.Prelude.{◌≡◌, ℕ, ◌==◌, ◌<◌, Bool, cond, nat_lt, nat_le, List, [], ◌∷◌, ◌++◌, length, replicate, find, Option, Some, None, IsSome, unwrap_or}
+use Rattle.std.specs.Prelude.{◌≡◌, ℕ, ◌==◌, ◌<◌, Bool, true, false, ◌&&◌, cond, nat_lt, nat_le, List, [], ◌∷◌, ◌++◌, length, replicate, find, Option, Some, None, IsSome, IsTrue, unwrap_or}
 use Rattle.std.specs.List.{filter_map}
 use Rattle.std.specs.Option.{option_map}
 use Rattle.std.specs.Ordering.{nat_cmp}
+use Rattle.std.specs.Cmp.Lexicographic.{slice_cmp}
+use Rattle.std.specs.FinMap.{is_sorted}
 use Rattle.std.specs.BTreeMap as tree
+use Rattle.sha2.specs.Sha256.{sha256}
 use Rattle.host_types.specs.Configuration.{Configuration, IsConfiguration, replicas_for}
 use Rattle.host_types.specs.declared.Digest.{Digest}
 use Rattle.host_types.specs.declared.SeqNo.{SeqNo}
@@ -13,11 +16,11 @@ use Rattle.pbft_model.specs.Words.{Signed, Checkpoint, Replica}
 use Rattle.pbft_model.specs.Certificates.{has_quorum, is_checkpoint_of, some_by}
 use Rattle.pbft_model.specs.Core.{if_passes}
 use Rattle.pbft_model.specs.Setup.{Setup, gathered, is_least, numbers_from, quorum, replicas}
-use Rattle.pbft_model.specs.Tables.{Key, Table}
+use Rattle.pbft_model.specs.Tables.{Key, Table, at, number_key}
 use Rattle.seal.specs.Opening.{CheckedMessage}
-use Rattle.quorum_log.specs.Ballots.{Ballot, vote_at}
+use Rattle.quorum_log.specs.Ballots.{Ballot, is_digest, vote_at}
 use Rattle.quorum_log.specs.Windows.{table_by}
-use Rattle.checkpoints.specs.Kept.{KeptCheckpoints, by_sha256, checkpoint_of}
+use Rattle.checkpoints.specs.Kept.{KeptCheckpoints, by_sha256, checkpoint_of, stable_at}
 
 -- ---- the ballots by number
 
@@ -144,3 +147,20 @@ pub record AreKept (c : Configuration) (low : ℕ) (ballots : tree.BTreeMap ℕ 
   pub configuration : IsConfiguration c
   pub each : (number : ℕ) → IsBallotAt c number (ballot_in ballots number)
   pub top : IsGreatest c low ballots greatest
+
+-- ---- a snapshot to which the mark may rise
+
+-- its number is above the low mark and not above e, and the digest of its bytes is stable there
+abbrev pub is_raised : KeptCheckpoints → ℕ → ℕ → List ℕ → Bool
+is_raised k e number bytes = nat_lt k.low number && (nat_le number e && is_digest (sha256 bytes) (stable_at k number))
+
+abbrev pub NoneRaised : KeptCheckpoints → ℕ → Type 0
+NoneRaised k e = (n : ℕ) (bytes : List ℕ) → at k.snapshots (number_key n) ≡ Some bytes → is_raised k e n bytes ≡ false
+
+-- the greatest number of such a snapshot, in a table in order
+pub record IsGreatestRaised (k : KeptCheckpoints) (e : ℕ) (number : SeqNo) : Type 0 where
+  pub sorted : IsTrue (is_sorted (slice_cmp nat_cmp) k.snapshots)
+  pub bytes : List ℕ
+  pub kept : at k.snapshots (number_key number.0) ≡ Some bytes
+  pub here : is_raised k e number.0 bytes ≡ true
+  pub later : (n : ℕ) (bytes : List ℕ) → number.0 < n → at k.snapshots (number_key n) ≡ Some bytes → is_raised k e n bytes ≡ false

@@ -1,14 +1,16 @@
 //! What a replica keeps of checkpoints.
 
-ghost use Rattle.std.specs.Prelude.{◌≡◌, IfOk, IfErr, IfSome, OnOk, OnErr, IsSome, IsNone, Some, cond, nat_le};
-ghost use Rattle.std.specs.Option.{option_copied, option_map_or};
+ghost use Rattle.std.specs.Prelude.{◌≡◌, IfOk, IfErr, IfSome, OnOk, OnErr, IsSome, IsNone, MatchOption, Some, cond, nat_le};
+ghost use Rattle.std.specs.Option.{option_copied, option_map, option_map_or};
+ghost use Rattle.pbft_model.specs.Acts.{Rise};
+ghost use Rattle.pbft_model.specs.Duties.{Do};
 ghost use Rattle.sha2.specs.Sha256.{sha256};
 ghost use Rattle.pbft_model.specs.Tables.{at, number_key, with_entry};
 ghost use Rattle.pbft_model.specs.Core.{if_passes};
 ghost use Rattle.quorum_log.specs.Ballots.{is_digest};
 ghost use Rattle.checkpoints.specs.Faults.{Reports};
-ghost use Rattle.checkpoints.specs.Kept.{IsFetched, IsGreatestStable, IsStableExactly, NoneStableAbove, checkpoint_of, discarded, note_fault, noted, offer_fault, proof_list, stable_at, start, with_snapshot};
-ghost use Rattle.checkpoints.specs.Reading.{greater_of, snapshots_in};
+ghost use Rattle.checkpoints.specs.Kept.{IsFetched, IsGreatestStable, IsRaised, IsStableExactly, NoneStableAbove, checkpoint_of, discarded, note_fault, noted, offer_fault, proof_list, stable_at, start, with_snapshot};
+ghost use Rattle.checkpoints.specs.Reading.{IsGreatestRaised, NoneRaised, greater_of, is_raised, snapshots_in};
 ghost use Rattle.checkpoints.specs.declared.fault.CheckpointFault.TheVariants.{Memory};
 
 use crate::ballots::{accept, drop_below, quorum_at};
@@ -64,6 +66,13 @@ impl Checkpoints {
             snapshots: BTreeMap::new(alloc),
             greatest: None,
         })
+    }
+
+    /// The low water mark. It takes no memory.
+    pub fn low(&self) -> SeqNo
+        ensures { result.0 ≡ self.now.low }
+    {
+        self.low
     }
 
     /// Records a Checkpoint: the first of each signer at a number counts, another of the same digest changes
@@ -149,6 +158,35 @@ impl Checkpoints {
         } else {
             None
         }
+    }
+
+    /// The greatest number above the low mark, and not above this one, at which a snapshot is kept whose
+    /// SHA-256 digest is stable there, with that digest. It takes no memory.
+    pub fn stable_kept(&self, up_to: SeqNo) -> Option<(SeqNo, Digest)>
+        ensures { IsRaised self.now up_to.0 (option_map (λ p. Do (Rise p.0.0 p.1.0)) result) }
+    {
+        let number = self.greatest_raised(up_to)?;
+        Some((number, self.stable(number)?))
+    }
+
+    // That number. It goes down over the snapshots.
+    fn greatest_raised(&self, up_to: SeqNo) -> Option<SeqNo>
+        ensures { MatchOption result (NoneRaised self.now up_to.0) (IsGreatestRaised self.now up_to.0) }
+    {
+        for (number, bytes) in self.snapshots.iter().rev() {
+            if self.is_raised(SeqNo(*number), bytes.as_slice(), up_to) {
+                return Some(SeqNo(*number));
+            }
+        }
+        None
+    }
+
+    // Whether the number is above the low mark and not above another, and the digest of the bytes is stable
+    // there.
+    fn is_raised(&self, number: SeqNo, bytes: &[u8], up_to: SeqNo) -> bool
+        ensures { result ≡ is_raised self.now up_to.0 number.0 bytes.now }
+    {
+        number > self.low && number <= up_to && is_of(self.stable(number), bytes)
     }
 
     /// The bytes of the snapshot that is kept at a number. It takes no memory.
