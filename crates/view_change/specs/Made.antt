@@ -1,9 +1,9 @@
--- Statement: the ViewChange that is made of checked messages.
+-- Statement: the ViewChange and the NewView that are made of checked messages.
 use Rattle.std.specs.Prelude.{◌≡◌, true, List, [], ◌∷◌, map}
 use Rattle.host_types.specs.declared.SeqNo.{SeqNo}
 use Rattle.host_types.specs.declared.View.{View}
 use Rattle.pbft_codec.specs.declared.body.Body.TheVariants as bodies
-use Rattle.pbft_model.specs.Words.{Certificate, ViewChange}
+use Rattle.pbft_model.specs.Words.{Certificate, NewView, ViewChange}
 use Rattle.pbft_model.specs.Setup.{Setup}
 use Rattle.pbft_model.specs.Validity.{has_view, has_proof, has_certificates, has_order}
 use Rattle.quorum_log.specs.declared.certificate.CheckedCertificate.{CheckedCertificate}
@@ -28,6 +28,12 @@ pub record IsMadeOf (view : View) (low : SeqNo) (proof : CheckedMessages) (certi
   pub low_is : v.low ≡ low
   pub checkpoints : proof.messages ≡ map (as_message bodies.Checkpoint) v.checkpoints
   pub carries : OneForOne IsCertificateOf certificates v.certificates
+
+-- The NewView has this view, these ViewChanges and these PrePrepares.
+pub record IsNewViewOf (view : View) (changes pre_prepares : CheckedMessages) (n : NewView) : Type 0 where
+  pub view_is : n.view ≡ view
+  pub changes_are : changes.messages ≡ map (as_message bodies.ViewChange) n.changes
+  pub proposals : pre_prepares.messages ≡ map (as_message bodies.PrePrepare) n.pre_prepares
 
 -- The parts of a ViewChange are valid, each by itself.
 pub record HasValidParts (c : Setup) (v : ViewChange) : Type 0 where

@@ -5,17 +5,18 @@ ghost use Rattle.std.specs.Prelude.{◌≡◌, ◌++◌, [], max, map, List};
 ghost use Rattle.std.specs.List.{flat_map};
 ghost use Rattle.sha2.specs.Sha256.{sha256};
 ghost use Rattle.pbft_codec.specs.declared.body.certificate.Certificate.{Certificate};
-ghost use Rattle.pbft_model.specs.Validity.{digest_or_null, greatest_of, highest};
+ghost use Rattle.pbft_model.specs.Validity.{digest_or_null, floor_of, greatest_of, highest};
 ghost use Rattle.host_types.specs.Configuration.{Configuration};
 ghost use Rattle.view_change.specs.Setups.{setup_of};
 ghost use Rattle.view_change.specs.Proposals.{comes_instead, or_later};
 
 use crate::report::Report;
-use host_types::Digest;
-use pbft_codec::{Certificate, PrePrepare};
+use host_types::{Digest, SeqNo};
+use pbft_codec::{Certificate, PrePrepare, Signed, ViewChange};
 use sha2::{Digest as _, Sha256};
 
-/// The digest of the null request: that of no bytes.
+/// The digest that stands for the null request: the SHA-256 digest (FIPS 180-4) of no bytes. It takes no
+/// memory.
 pub fn null_digest() -> Digest
     ensures { result.0 ≡ sha256 [] }
 {
@@ -23,8 +24,16 @@ pub fn null_digest() -> Digest
     Digest(Sha256::digest(nothing))
 }
 
+/// The floor that the `ViewChange`s of a `NewView` give (Castro and Liskov 1999, section 4.4): their greatest
+/// low mark, 0 where there are none. It takes no memory.
+pub fn floor_of(changes: &[Signed<ViewChange>]) -> SeqNo
+    ensures { result.0 ≡ floor_of changes.now }
+{
+    SeqNo(greatest_low(changes))
+}
+
 /// The greatest low mark.
-pub fn floor_of<T: Report>(changes: &[T]) -> u64
+pub fn greatest_low<T: Report>(changes: &[T]) -> u64
     ensures { result ≡ greatest_of (map T.low changes.now) }
 {
     let mut floor = 0;
@@ -50,7 +59,7 @@ pub fn top_of<T: Report>(changes: &[T]) -> u64
     ensures { result ≡ max (greatest_of (map T.low changes.now))
         (greatest_of (map (λ x. x.pre_prepare.body.number.0) (flat_map T.certificates changes.now))) }
 {
-    let mut top = floor_of(changes);
+    let mut top = greatest_low(changes);
     for change in changes {
         top = greatest_in(change.certificates(), top);
     }

@@ -18,6 +18,7 @@ mod validity;
 mod view_changes;
 
 pub use fault::ViewFault;
-pub use making::make;
+pub use given::{floor_of, null_digest};
+pub use making::{make, make_new_view};
 pub use opening::{Opening, new_view};
 pub use validity::{valid, valid_new_view};

@@ -1,18 +1,19 @@
-//! The ViewChange that a replica makes as it leaves a view.
+//! The ViewChange that a replica makes as it leaves a view, and the NewView that a primary makes.
 
 ghost use Rattle.std.specs.Prelude.{◌≡◌, List, None, Some, IfErr, IfOk};
 ghost use Rattle.pbft_codec.specs.declared.body.Body.TheVariants as bodies;
 ghost use Rattle.pbft_codec.specs.declared.body.certificate.Certificate.{Certificate};
+ghost use Rattle.pbft_codec.specs.declared.body.new_view.NewView.{NewView};
 ghost use Rattle.pbft_codec.specs.declared.body.view_change.ViewChange.{ViewChange};
 ghost use Rattle.pbft_model.specs.Validity.{view_change_fault};
 ghost use Rattle.view_change.specs.declared.fault.ViewFault.TheVariants.{Memory};
-ghost use Rattle.view_change.specs.Made.{HasValidParts, IsCertificateOf, IsMadeOf, OneForOne};
+ghost use Rattle.view_change.specs.Made.{HasValidParts, IsCertificateOf, IsMadeOf, IsNewViewOf, OneForOne};
 ghost use Rattle.view_change.specs.Setups.{setup_of};
 
 use crate::fault::ViewFault;
 use crate::nested::{copies_of, copy_of};
 use host_types::{SeqNo, View};
-use pbft_codec::{Body, Certificate, Certificates, Sequence, ViewChange};
+use pbft_codec::{Body, Certificate, Certificates, NewView, Sequence, ViewChange};
 use quorum_log::CheckedCertificate;
 use seal::CheckedList;
 use std::alloc::{AllocError, Global};
@@ -73,5 +74,26 @@ pub fn make(
         low,
         checkpoints,
         certificates,
+    }))
+}
+
+/// The `NewView` for a view of these `ViewChange`s and `PrePrepare`s (Castro and Liskov 1999, section 4.4), for
+/// the primary to seal. The caller owes messages of these kinds; those of other kinds are left out. It
+/// answers `Memory` alone, and then nothing is made.
+pub fn make_new_view(
+    alloc: Global,
+    view: View,
+    changes: &CheckedList,
+    pre_prepares: &CheckedList,
+) -> Result<Body, ViewFault>
+    ensures made { (n : NewView) → IsNewViewOf view changes.now pre_prepares.now n → IfOk result (λ body. body ≡ bodies.NewView n) }
+    ensures memory { IfErr result (λ fault. fault ≡ Memory) }
+{
+    let changes = copies_of(alloc, changes.as_slice())?;
+    let pre_prepares = copies_of(alloc, pre_prepares.as_slice())?;
+    Ok(Body::NewView(NewView {
+        view,
+        changes,
+        pre_prepares,
     }))
 }

@@ -10,7 +10,7 @@ ghost use Rattle.view_change.specs.Setups.{setup_of};
 
 use crate::certificates::quorum;
 use crate::fault::ViewFault;
-use crate::given::{digest_at, floor_of, top_of};
+use crate::given::{digest_at, greatest_low, top_of};
 use crate::view_changes::{has_certificates, has_order, has_proof, has_view};
 use host_types::{Config, SeqNo, View};
 use pbft_codec::{NewView, PrePrepare, Role, Signed, ViewChange};
@@ -68,7 +68,7 @@ fn are_given(
 {
     let leader = u32::from(config.primary(view).0);
     let top = top_of(changes);
-    let mut number = floor_of(changes);
+    let mut number = greatest_low(changes);
     for message in pre_prepares {
         if number >= top {
             return false;

@@ -17,7 +17,7 @@ ghost use Rattle.view_change.specs.Opening.{IsOpeningOf, IsSignedFrom};
 ghost use Rattle.view_change.specs.Setups.{setup_of};
 
 use crate::fault::ViewFault;
-use crate::given::{digest_at, floor_of, top_of};
+use crate::given::{digest_at, greatest_low, top_of};
 use host_types::{SeqNo, View};
 use pbft_codec::PrePrepare;
 use seal::{Checked, CheckedList};
@@ -70,7 +70,7 @@ pub fn new_view(alloc: Global, view: View, changes: &CheckedList) -> Result<Open
     ensures memory { IfErr result (λ fault. fault ≡ Memory) }
 {
     let changes = changes.as_slice();
-    let floor = floor_of(changes);
+    let floor = greatest_low(changes);
     let top = top_of(changes);
     let entries = proposals(alloc, view, changes, floor, top)?;
     Ok(Opening {

@@ -25,7 +25,7 @@ returns-clause-given c = λ ms e.
     let s = setup_of c.args.changes.now.config in
     let same = of_messages c.args.changes.now c.as_slice-changes.result.now ms c.as_slice-changes.ensures.value e in
     let lows = lows_reported c.as_slice-changes.result.now ms same in
-    let floor : c.floor_of-floor.result ≡ floor_of ms = c.floor_of-floor.ensures ∙ ap greatest_of lows in
+    let floor : c.greatest_low-floor.result ≡ floor_of ms = c.greatest_low-floor.ensures ∙ ap greatest_of lows in
     let top : c.top_of-top.result ≡ top_of ms =
     c.top_of-top.ensures
     ∙ ap (λ (ns : List ℕ). max (greatest_of ns) (greatest_of (map (λ x. x.pre_prepare.body.number.0) (flat_map (λ m. reported_certificates m.message.body) c.as_slice-changes.result.now)))) lows
