@@ -7,3 +7,4 @@ pub mod Paired
 pub mod Reported
 pub mod Entering
 pub mod EqualParts
+pub mod Sealing

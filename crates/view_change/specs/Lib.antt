@@ -1,5 +1,6 @@
 pub mod Faults
 pub mod Setups
+pub mod Sealable
 pub mod Opened
 pub mod Proposals
 pub mod Made

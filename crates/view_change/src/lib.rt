@@ -9,6 +9,7 @@
 mod certificates;
 mod fault;
 mod given;
+mod laws;
 mod making;
 mod nested;
 mod new_views;
@@ -19,6 +20,7 @@ mod view_changes;
 
 pub use fault::ViewFault;
 pub use given::{floor_of, null_digest};
+pub use laws::{authentic_signatures_are_short, bodies_can_be_sealed};
 pub use making::{make, make_new_view};
 pub use opening::{Opening, new_view};
 pub use validity::{valid, valid_new_view};

@@ -1,6 +1,7 @@
 //! The ViewChange that a replica makes as it leaves a view, and the NewView that a primary makes.
 
-ghost use Rattle.std.specs.Prelude.{◌≡◌, List, None, Some, IfErr, IfOk};
+ghost use Rattle.std.specs.Prelude.{◌≡◌, List, None, Some, IfErr, IfOk, OnOk};
+ghost use Rattle.std.specs.List.{AllByRecursion};
 ghost use Rattle.pbft_codec.specs.declared.body.Body.TheVariants as bodies;
 ghost use Rattle.pbft_codec.specs.declared.body.certificate.Certificate.{Certificate};
 ghost use Rattle.pbft_codec.specs.declared.body.new_view.NewView.{NewView};
@@ -8,6 +9,7 @@ ghost use Rattle.pbft_codec.specs.declared.body.view_change.ViewChange.{ViewChan
 ghost use Rattle.pbft_model.specs.Validity.{view_change_fault};
 ghost use Rattle.view_change.specs.declared.fault.ViewFault.TheVariants.{Memory};
 ghost use Rattle.view_change.specs.Made.{HasValidParts, IsCertificateOf, IsMadeOf, IsNewViewOf, OneForOne};
+ghost use Rattle.view_change.specs.Sealable.{AreUnder, HasFewMessages, HasShortLists, IsCheckedCertificate, IsSealable};
 ghost use Rattle.view_change.specs.Setups.{setup_of};
 
 use crate::fault::ViewFault;
@@ -23,12 +25,13 @@ fn certificate_of(
     alloc: Global,
     certificate: &CheckedCertificate,
 ) -> Result<Option<Certificate>, AllocError>
-    ensures { (x : Certificate) → IsCertificateOf certificate.now x → IfOk result (λ copy. copy ≡ Some x) }
+    ensures copy { (x : Certificate) → IsCertificateOf certificate.now x → IfOk result (λ copy. copy ≡ Some x) }
+    ensures checked { OnOk result (IsCheckedCertificate certificate.now) }
 {
+    let prepares = copies_of(alloc, certificate.prepares.as_slice())?;
     let Some(pre_prepare) = copy_of(alloc, certificate.pre_prepare.message())? else {
         return Ok(None);
     };
-    let prepares = copies_of(alloc, certificate.prepares.as_slice())?;
     Ok(Some(Certificate {
         pre_prepare,
         prepares,
@@ -40,7 +43,8 @@ fn certificates_of(
     alloc: Global,
     certificates: &[CheckedCertificate],
 ) -> Result<Certificates, AllocError>
-    ensures { (xs : List Certificate) → OneForOne IsCertificateOf certificates.now xs → IfOk result (λ copies. copies ≡ xs) }
+    ensures copies { (xs : List Certificate) → OneForOne IsCertificateOf certificates.now xs → IfOk result (λ copies. copies ≡ xs) }
+    ensures checked { OnOk result (AllByRecursion IsCheckedCertificate certificates.now) }
 {
     let mut copies = Vec::new(alloc);
     for certificate in certificates {
@@ -53,8 +57,9 @@ fn certificates_of(
 
 /// The `ViewChange` for a view of this low mark, the Checkpoints that prove it, and these certificates
 /// (Castro and Liskov 1999, section 4.4), for the replica to seal. The caller owes Checkpoints, and
-/// certificates of a `PrePrepare` and Prepares each; messages of other kinds are left out. It answers
-/// `Memory` alone, and then nothing is made.
+/// certificates of a `PrePrepare` and Prepares each; messages of other kinds are left out. With lists no
+/// longer than the grammar has them, and signers ascending, it can be sealed. It answers `Memory` alone,
+/// and then nothing is made.
 pub fn make(
     alloc: Global,
     view: View,
@@ -65,6 +70,8 @@ pub fn make(
     ensures made { (v : ViewChange) → IsMadeOf view low proof.now certificates.now v → IfOk result (λ body. body ≡ bodies.ViewChange v) }
     ensures valid { (v : ViewChange) → IsMadeOf view low proof.now certificates.now v → HasValidParts (setup_of proof.now.config) v
         → view_change_fault (setup_of proof.now.config) v ≡ None }
+    ensures sealable { (v : ViewChange) → IsMadeOf view low proof.now certificates.now v → HasShortLists v → AreUnder proof.now.config certificates.now
+        → IfOk result (IsSealable proof.now.config) }
     ensures memory { IfErr result (λ fault. fault ≡ Memory) }
 {
     let checkpoints = copies_of(alloc, proof.as_slice())?;
@@ -78,8 +85,9 @@ pub fn make(
 }
 
 /// The `NewView` for a view of these `ViewChange`s and `PrePrepare`s (Castro and Liskov 1999, section 4.4), for
-/// the primary to seal. The caller owes messages of these kinds; those of other kinds are left out. It
-/// answers `Memory` alone, and then nothing is made.
+/// the primary to seal. The caller owes messages of these kinds; those of other kinds are left out. With
+/// lists no longer than the grammar has them, and signers ascending, it can be sealed. It answers `Memory`
+/// alone, and then nothing is made.
 pub fn make_new_view(
     alloc: Global,
     view: View,
@@ -87,6 +95,8 @@ pub fn make_new_view(
     pre_prepares: &CheckedList,
 ) -> Result<Body, ViewFault>
     ensures made { (n : NewView) → IsNewViewOf view changes.now pre_prepares.now n → IfOk result (λ body. body ≡ bodies.NewView n) }
+    ensures sealable { (n : NewView) → IsNewViewOf view changes.now pre_prepares.now n → HasFewMessages n → pre_prepares.now.config ≡ changes.now.config
+        → IfOk result (IsSealable changes.now.config) }
     ensures memory { IfErr result (λ fault. fault ≡ Memory) }
 {
     let changes = copies_of(alloc, changes.as_slice())?;

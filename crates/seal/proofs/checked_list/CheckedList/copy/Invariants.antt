@@ -1,5 +1,5 @@
 use Rattle.std.proofs.Common.{◌≡◌, take}
-use Rattle.seal.specs.Lists.{CheckedMessages, messages_of}
+use Rattle.seal.specs.Lists.{CheckedMessages}
 use Rattle.seal.proofs.checked_list.CheckedList.copy.Given as goal
 
 abbrev pub invariant-loop-message : goal.invariant-loop-message

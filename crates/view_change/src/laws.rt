@@ -1,0 +1,29 @@
+//! Laws of the bodies that a replica seals, for every configuration.
+
+ghost use Rattle.std.specs.Prelude.{◌≤◌, length};
+ghost use Rattle.host_types.specs.Configuration.{Configuration};
+ghost use Rattle.pbft_codec.specs.declared.body.Body.{Body};
+ghost use Rattle.pbft_codec.specs.declared.body.Body.TheVariants as bodies;
+ghost use Rattle.pbft_codec.specs.Limits.{FetchFieldsInRange, FetchWellFormed, IsDigest, IsSequenceNumber};
+ghost use Rattle.pbft_model.specs.Words.{Checkpoint, Commit, Fetch, PrePrepare, Prepare, ReplyBody, Signed, Snapshot};
+ghost use Rattle.seal.specs.Signers.{IsAuthentic};
+ghost use Rattle.view_change.specs.Sealable.{IsSealable};
+
+/// The signature of an authentic message has at most the 2,508 bytes of one of a tree of height 10
+/// (RFC 8554, section 5.4).
+pub fn authentic_signatures_are_short()
+    ensures { (c : Configuration) (m : Signed Body) → IsAuthentic c m → length m.sig ≤ 2_508 }
+{}
+
+/// A body that holds no messages can be sealed where its number is a sequence number and its digest has 32
+/// bytes: a Reply with a result of at most 265 bytes, a Snapshot with a state of at most the 5,787,825 bytes
+/// that a state of the service has.
+pub fn bodies_can_be_sealed()
+    ensures pre_prepare { (c : Configuration) (b : PrePrepare) → IsSequenceNumber b.number → IsDigest b.digest → IsSealable c (bodies.PrePrepare b) }
+    ensures prepare { (c : Configuration) (b : Prepare) → IsSequenceNumber b.number → IsDigest b.digest → IsSealable c (bodies.Prepare b) }
+    ensures commit { (c : Configuration) (b : Commit) → IsSequenceNumber b.number → IsDigest b.digest → IsSealable c (bodies.Commit b) }
+    ensures reply { (c : Configuration) (b : ReplyBody) → IsSequenceNumber b.number → length b.result ≤ 265 → IsSealable c (bodies.Reply b) }
+    ensures checkpoint { (c : Configuration) (b : Checkpoint) → IsSequenceNumber b.number → IsDigest b.digest → IsSealable c (bodies.Checkpoint b) }
+    ensures fetch { (c : Configuration) (b : Fetch) → FetchWellFormed b → FetchFieldsInRange b → IsSealable c (bodies.Fetch b) }
+    ensures snapshot { (c : Configuration) (b : Snapshot) → IsSequenceNumber b.number → length b.state ≤ 5_787_825 → IsSealable c (bodies.Snapshot b) }
+{}
