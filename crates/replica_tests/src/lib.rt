@@ -17,6 +17,8 @@ mod sealing;
 #[cfg(test)]
 mod stable;
 #[cfg(test)]
+mod telling;
+#[cfg(test)]
 mod view_changes;
 #[cfg(test)]
 mod view_messages;
