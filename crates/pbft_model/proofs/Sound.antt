@@ -160,7 +160,7 @@ module _ (c : Setup) where
   sound_after me s (Execute n d t o) low ok h = h
   sound_after me s (Install n b t) low ok h =
       let above = ok.above in
-      (floor_above s n h.0, h.1, h.2, kept_above c s.low n s.view s.kept (omega arith) h.3, or_left _ _ (proof_made c s n (c.hash b) ok.stable))
+      (floor_above s n h.0, (λ m x t e is none. no_some t none), h.2, kept_above c s.low n s.view s.kept (omega arith) h.3, or_left _ _ (proof_made c s n (c.hash b) ok.stable))
 
   pub sound_start : (signer : SigningState) → IsSoundCore c (start_of c signer)
   sound_start signer = ((λ q m e. no_some m e), (λ m b t e. no_some m e), (λ q m e. no_some m e), (tt, λ e none. absurd none), or_right _ _ refl)

@@ -240,6 +240,7 @@ after c s (Install number bytes service) =
     let t = record s {
       executed = number;
       service = service;
+      reading = None;
       reply_due = None;
       checkpoint_due = false;
       snapshots = with_entry s.snapshots (number_key number) bytes;
