@@ -1,0 +1,167 @@
+ghost use Rattle.std.specs.Prelude.{◌≡◌, ◌<◌, IfOk};
+
+use crate::messages::{Told, config, reply, signer, signers};
+use host_client::{Session, SessionFault};
+use host_types::{Bytes, ClientId, Config};
+use lms_tree::Signer;
+use pbft_codec::{Body, Role};
+use seal::Checked;
+use std::alloc::Global;
+use std::process::Abort;
+use std::sync::Arc;
+use std::test::Fail;
+
+// The session of client 16 before its first request, after what the caller of `new` owes was tested.
+fn session(
+    rt: &impl Abort,
+    alloc: Global,
+    config: &Arc<Config>,
+    signer: Signer,
+) -> Result<Session, Fail>
+    ensures { IfOk result (λ s. s.config ≡ config.now.value) }
+{
+    let Some(entry) = config.client(ClientId(16)) else {
+        return Err("no entry")?;
+    };
+    assert!(rt; entry.key == signer.public_key());
+    Ok(Session::new(alloc, config, ClientId(16), signer)?)
+}
+
+// The request of the operation 9.
+fn ask(alloc: Global, session: &mut Session) -> Result<Result<Checked, SessionFault>, Fail>
+    ensures { session.new.config ≡ session.old.config }
+{
+    let op = Bytes::from_vec(Vec::from_slice(alloc, &[9])?);
+    Ok(session.request(op))
+}
+
+// Whether it is client 16's request of the operation 9 at this time.
+fn is_request(message: &Checked, time: u64) -> bool {
+    let is_body = match message.body() {
+        Body::Request(body) => body.time == time && body.op.as_slice() == [9].as_slice(),
+        _ => false,
+    };
+    is_body && message.signer() == (Role::Client, 16)
+}
+
+// Makes requests up to the one of this time, and tells whether they are of the times from 1 on.
+fn ask_up_to(alloc: Global, session: &mut Session, last: u64) -> Result<bool, Fail>
+    requires { last < 100 }
+    ensures { session.new.config ≡ session.old.config }
+{
+    let mut right = true;
+    for time in 1..last + 1 {
+        let request = ask(alloc, session)??;
+        right = right && is_request(&request, time);
+    }
+    Ok(right)
+}
+
+// None where no reply is accepted; else whether it is the one of this time, with number 5 and result 7.
+fn accepts(session: &Session, time: u64) -> Option<bool> {
+    session.accepted().map(|reply| {
+        reply.client == ClientId(16)
+            && reply.time == time
+            && reply.number.0 == 5
+            && reply.result.as_slice() == [7].as_slice()
+    })
+}
+
+fn offer(session: &mut Session, message: &Checked) -> Result<(), SessionFault>
+    requires { message.now.config ≡ session.old.config }
+    ensures { session.new.config ≡ session.old.config }
+{
+    session.offer(message)
+}
+
+// Offers the replies one after another, and tells whether what is accepted after each is what its row says.
+fn answers(
+    alloc: Global,
+    config: &Arc<Config>,
+    replicas: &mut [Signer],
+    session: &mut Session,
+    rows: &[(Told, Option<bool>)],
+) -> Result<bool, Fail>
+    requires { session.old.config ≡ config.now.value }
+    ensures { session.new.config ≡ config.now.value }
+{
+    let mut right = true;
+    for (told, accepted) in rows {
+        let message = reply(alloc, config, replicas, told)?;
+        offer(session, &message)?;
+        right = right && accepts(session, told.3) == *accepted;
+    }
+    Ok(right)
+}
+
+// Replies at time 0, which no request has.
+static EARLY: [(Told, Option<bool>); 2] = [
+    ((0, 0, 16, 0, 5, 7), None),
+    ((1, 0, 16, 0, 5, 7), None),
+];
+
+// Replica, view, client, time, number and result of a Reply; what is accepted then.
+static LATER: [(Told, Option<bool>); 9] = [
+    ((0, 0, 17, 2, 5, 7), None),
+    ((3, 0, 16, 1, 5, 7), None),
+    ((1, 0, 16, 2, 5, 7), None),
+    ((1, 3, 16, 2, 5, 7), None),
+    ((2, 0, 16, 2, 6, 7), None),
+    ((3, 0, 16, 2, 5, 8), None),
+    ((0, 4, 16, 2, 5, 7), Some(true)),
+    ((3, 0, 16, 2, 6, 7), Some(true)),
+    ((2, 0, 16, 2, 5, 8), Some(true)),
+];
+
+#[test]
+fn what_2_replicas_reply_is_accepted(rt: HostRuntime) -> Result<(), Fail> {
+    let alloc = rt.alloc();
+    let mut replicas = signers(alloc)?;
+    let signer = signer(alloc, 16)?;
+    let config = config(alloc, &replicas, signer.public_key())?;
+    let mut session = session(&rt, alloc, &config, signer)?;
+    assert!(rt; session.client() == ClientId(16));
+    assert!(rt; answers(alloc, &config, &mut replicas, &mut session, &EARLY)?);
+    assert!(rt; ask_up_to(alloc, &mut session, 2)?);
+    assert!(rt; answers(alloc, &config, &mut replicas, &mut session, &LATER)?);
+    let request = ask(alloc, &mut session)??;
+    assert!(rt; is_request(&request, 3) && session.accepted().is_none());
+    Ok(())
+}
+
+static FIRST: [(Told, Option<bool>); 1] = [((2, 0, 16, 32, 5, 7), None)];
+
+static SECOND: [(Told, Option<bool>); 1] = [((3, 0, 16, 32, 5, 7), Some(true))];
+
+#[test]
+fn a_refused_request_leaves_the_open_one(rt: HostRuntime) -> Result<(), Fail> {
+    let alloc = rt.alloc();
+    let mut replicas = signers(alloc)?;
+    let signer = signer(alloc, 16)?;
+    let config = config(alloc, &replicas, signer.public_key())?;
+    let mut session = session(&rt, alloc, &config, signer)?;
+    assert!(rt; ask_up_to(alloc, &mut session, 32)?);
+    assert!(rt; answers(alloc, &config, &mut replicas, &mut session, &FIRST)?);
+    let refused = ask(alloc, &mut session)?;
+    assert!(rt; refused.err() == Some(SessionFault::Exhausted));
+    assert!(rt; answers(alloc, &config, &mut replicas, &mut session, &SECOND)?);
+    Ok(())
+}
+
+#[test]
+fn faults_have_names_and_numbers(rt: HostRuntime) -> Result<(), Fail> {
+    let rows = [
+        (SessionFault::Exhausted, "Exhausted", 1),
+        (SessionFault::NoQuorum, "NoQuorum", 2),
+        (SessionFault::Closed, "Closed", 3),
+        (SessionFault::Memory, "Memory", 4),
+    ];
+    for (fault, name, number) in rows {
+        let written = fault.to_string(rt.alloc())?;
+        assert!(rt;
+            written.as_str() == name && fault.number() == number,
+            "{name}"
+        );
+    }
+    Ok(())
+}
