@@ -28,7 +28,7 @@ pub record SessionState : Type 0 where
   -- what was replied to the open request, in the order of the offers, until a reply was accepted
   pub answers : List Answer
 
--- The session's signer has the key that is listed for the client, and has signed each request.
+-- The session's signer has the key that is listed for the client.
 pub record MaySign (s : SessionState) : Type 0 where
   pub key : List ℕ
   pub listed : key_of s.config Client s.client.0 ≡ Some key
