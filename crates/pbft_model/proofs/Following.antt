@@ -19,7 +19,7 @@ use Rattle.pbft_model.proofs.Found.{no_some, found_entry, found_keep}
 use Rattle.pbft_model.proofs.Origins.{executed_up}
 use Rattle.pbft_model.proofs.Rowed.{due_allowed}
 use Rattle.pbft_model.proofs.Later.{new_before}
-use Rattle.pbft_model.proofs.Reactions.{Reacting, IsReaction, timeout_reacting, reply_reacting, when_reacting, if_reacting, first_reacting, taken_reacting, answer_reacting, fetch_reacting, enter_reacting, install_reacting, rise_reacting, propose_reacting, prepare_reacting, commit_reacting}
+use Rattle.pbft_model.proofs.Reactions.{Reacting, IsOwn, timeout_reacting, reply_reacting, when_reacting, if_reacting, first_reacting, taken_reacting, answer_reacting, fetch_reacting, enter_reacting, install_reacting, rise_reacting, propose_reacting, prepare_reacting, commit_reacting}
 
 -- ---- before an execution nothing is due
 
@@ -39,12 +39,12 @@ passed_over (Some x) p n d h e = absurd (subst IsOther (same x (Executing n d) e
 
 nothing_before : (c : Setup) (me : ℕ) (s : Core) (n : ℕ) (d : List ℕ) → due c me s ≡ Some (Executing n d) → NothingBefore c me s
 nothing_before c me s n d e =
-    let acts : (a : Act) → IsReaction a → IsOther (Do a) = λ a h. tt in
+    let acts : (a : Act) → IsOwn a → IsOther (Do a) = λ a h. tt in
     let w0 = passed_over (due_on_timeout c me s) _ n d (timeout_reacting IsOther acts tt c me s) e in
     let w1 = passed_over (due_reply me s s.reply_due) _ n d (reply_reacting IsOther acts tt c me s s.reply_due) w0.1 in
     let w2 = passed_over (due_checkpoint c me s) _ n d (when_reacting IsOther acts tt s.checkpoint_due _ tt) w1.1 in
     let w3 = passed_over (due_answer me s) _ n d (if_reacting IsOther acts tt s.is_fresh _ (taken_reacting IsOther acts tt c me s (answer_to_request me s) s.taken (answer_reacting IsOther acts tt c me s))) w2.1 in
-    let w4 = passed_over (due_supply c me s) _ n d (if_reacting IsOther acts tt s.is_fresh _ (taken_reacting IsOther acts tt c me s (answer_to_fetch c me s) s.taken (fetch_reacting IsOther acts tt c me s))) w3.1 in
+    let w4 = passed_over (due_supply c me s) _ n d (if_reacting IsOther acts tt s.is_fresh _ (taken_reacting IsOther acts tt c me s (answer_to_fetch c me s) s.taken (fetch_reacting IsOther acts tt c me s (λ to m. tt)))) w3.1 in
     let w5 = passed_over (due_enter c s) _ n d (taken_reacting IsOther acts tt c me s (enter_by c s) s.taken (enter_reacting IsOther acts tt c me s)) w4.1 in
     let w6 = passed_over (due_install c s) _ n d (taken_reacting IsOther acts tt c me s (install_from c s) s.taken (install_reacting IsOther acts tt c me s)) w5.1 in
     let w7 = passed_over (due_rise c s) _ n d (rise_reacting IsOther acts tt c me s s.snapshots) w6.1 in

@@ -33,3 +33,4 @@ pub mod ExampleRows
 pub mod Later
 pub mod Following
 pub mod Halting
+pub mod Ending

@@ -1,5 +1,5 @@
 -- What is due is never to take a message or a timeout.
-use Rattle.std.proofs.Common.{◌≡◌, ℕ, ◌+◌, Bool, true, false, cond, List, [], ◌∷◌, Option, Some, None, subst, sym}
+use Rattle.std.proofs.Common.{◌≡◌, ℕ, ◌+◌, Bool, true, false, cond, List, [], ◌∷◌, Option, Some, None, refl, subst, sym}
 use Rattle.std.specs.Prelude.{nat_lt, nat_le, not, ◌&&◌, ◌==◌, find}
 use Rattle.pbft_model.specs.Words.{Signed, Body, RequestBody, PrePrepare, Snapshot, ViewChange, Reply, Fetch}
 use Rattle.pbft_codec.specs.declared.body.Body.TheVariants as bodies
@@ -9,7 +9,7 @@ use Rattle.pbft_model.specs.Setup.{Setup, span, view_limit, number_limit, digest
 use Rattle.pbft_model.specs.Tables.{Table, at, number_key, first_in, entries_in}
 use Rattle.pbft_model.specs.Certificates.{of_pre_prepare}
 use Rattle.pbft_model.specs.Core.{Core, inside, is_known, is_committed, held_with, next_number, pre_prepare_at, prepared_at, if_passes, is_new, is_proposed}
-use Rattle.pbft_model.specs.Acts.{Act, All, Take, Timeout, Send, Relay, Enter, Rise, Execute, Install}
+use Rattle.pbft_model.specs.Acts.{Act, Destination, All, Take, Timeout, Send, Relay, Enter, Rise, Execute, Install}
 use Rattle.pbft_model.specs.Rules.{pre_prepare_of}
 use Rattle.pbft_model.specs.Duties.{Duty, Do, Executing, WornOut, or_else, when, first_for, say, change_to, due_on_timeout, due_reply, due_checkpoint, answer_again, answer_to_request, pass_on, supply, answer_fetched, answer_to_fetch, enter_by, install_read, install_from, on_taken, due_answer, due_supply, due_enter, due_install, rise_with, rise_among, due_rise, leads, propose, due_propose, among, agree, prepare_for, due_prepare, commit_to, commit_for, due_commit, execute_at, due_execute, higher_changes, join, due_join, due_open, due_fetch_state, is_lacking, ask_for, due_fetch_request, due}
 use Rattle.pbft_model.specs.Rows.{Fulfils}
@@ -25,8 +25,30 @@ IsReaction (Rise n d) = Unit {0}
 IsReaction (Execute n d t o) = Unit {0}
 IsReaction (Install n b t) = Unit {0}
 
--- What holds of every act that is a reaction, and of wearing out, holds of each duty but that to execute.
-module _ (P : Duty → Type 0) (acts : (a : Act) → IsReaction a → P (Do a)) (worn_out : P WornOut) where
+-- nor another's message that is passed on
+abbrev pub IsOwn : Act → Type 0
+IsOwn (Take m r) = ⊥
+IsOwn Timeout = ⊥
+IsOwn (Send to m) = Unit {0}
+IsOwn (Relay to m) = ⊥
+IsOwn (Enter m) = Unit {0}
+IsOwn (Rise n d) = Unit {0}
+IsOwn (Execute n d t o) = Unit {0}
+IsOwn (Install n b t) = Unit {0}
+
+own_reaction : (a : Act) → IsOwn a → IsReaction a
+own_reaction (Take m r) h = h
+own_reaction Timeout h = h
+own_reaction (Send to m) h = h
+own_reaction (Relay to m) h = absurd h
+own_reaction (Enter m) h = h
+own_reaction (Rise n d) h = h
+own_reaction (Execute n d t o) h = h
+own_reaction (Install n b t) h = h
+
+-- What holds of every act that is an own reaction, and of wearing out, holds of each duty but those to pass on
+-- and to execute.
+module _ (P : Duty → Type 0) (acts : (a : Act) → IsOwn a → P (Do a)) (worn_out : P WornOut) where
   abbrev pub Reacting : Option Duty → Type 0
   Reacting None = Unit {0}
   Reacting (Some d) = P d
@@ -42,6 +64,10 @@ module _ (P : Duty → Type 0) (acts : (a : Act) → IsReaction a → P (Do a)) 
   pub if_reacting : (b : Bool) (o : Option Duty) → Reacting o → Reacting (cond b o None)
   if_reacting true o h = h
   if_reacting false o h = tt
+
+  where_reacting : (b : Bool) (o : Option Duty) → (b ≡ true → Reacting o) → Reacting (cond b o None)
+  where_reacting true o h = h refl
+  where_reacting false o h = tt
 
   unless_reacting : (b : Bool) (o : Option Duty) → Reacting o → Reacting (cond b None o)
   unless_reacting true o h = tt
@@ -78,26 +104,30 @@ module _ (P : Duty → Type 0) (acts : (a : Act) → IsReaction a → P (Do a)) 
     answer_reacting m (bodies.Fetch b) = tt
     answer_reacting m (bodies.Snapshot b) = tt
 
-    pass_reacting : (m : Signed Body) (o : Option (Signed RequestBody)) → Reacting (pass_on m o)
-    pass_reacting m None = tt
-    pass_reacting m (Some request) = acts _ tt
+    -- what holds of all that is passed on
+    abbrev pub ForRelays : Type 0
+    ForRelays = (to : Destination) (m : Signed Body) → P (Do (Relay to m))
+
+    pass_reacting : ForRelays → (m : Signed Body) (o : Option (Signed RequestBody)) → Reacting (pass_on m o)
+    pass_reacting relays m None = tt
+    pass_reacting relays m (Some request) = relays _ _
 
     supply_reacting : (m : Signed Body) (n : ℕ) (o : Option (List ℕ)) → Reacting (supply me s m n o)
     supply_reacting m n None = tt
     supply_reacting m n (Some bytes) = acts _ tt
 
-    pub fetch_reacting : (m : Signed Body) (b : Body) → Reacting (answer_to_fetch c me s m b)
-    fetch_reacting m (bodies.Request b) = tt
-    fetch_reacting m (bodies.PrePrepare b) = tt
-    fetch_reacting m (bodies.Prepare b) = tt
-    fetch_reacting m (bodies.Commit b) = tt
-    fetch_reacting m (bodies.Reply b) = tt
-    fetch_reacting m (bodies.Checkpoint b) = tt
-    fetch_reacting m (bodies.ViewChange b) = tt
-    fetch_reacting m (bodies.NewView b) = tt
-    fetch_reacting m (bodies.Fetch (fetches.Request d)) = pass_reacting m (held_with c s.held d.0)
-    fetch_reacting m (bodies.Fetch (fetches.State n)) = supply_reacting m n.0 (at s.snapshots (number_key n.0))
-    fetch_reacting m (bodies.Snapshot b) = tt
+    pub fetch_reacting : ForRelays → (m : Signed Body) (b : Body) → Reacting (answer_to_fetch c me s m b)
+    fetch_reacting relays m (bodies.Request b) = tt
+    fetch_reacting relays m (bodies.PrePrepare b) = tt
+    fetch_reacting relays m (bodies.Prepare b) = tt
+    fetch_reacting relays m (bodies.Commit b) = tt
+    fetch_reacting relays m (bodies.Reply b) = tt
+    fetch_reacting relays m (bodies.Checkpoint b) = tt
+    fetch_reacting relays m (bodies.ViewChange b) = tt
+    fetch_reacting relays m (bodies.NewView b) = tt
+    fetch_reacting relays m (bodies.Fetch (fetches.Request d)) = pass_reacting relays m (held_with c s.held d.0)
+    fetch_reacting relays m (bodies.Fetch (fetches.State n)) = supply_reacting m n.0 (at s.snapshots (number_key n.0))
+    fetch_reacting relays m (bodies.Snapshot b) = tt
 
     pub enter_reacting : (m : Signed Body) (b : Body) → Reacting (enter_by c s m b)
     enter_reacting m (bodies.Request b) = tt
@@ -174,13 +204,13 @@ module _ (P : Duty → Type 0) (acts : (a : Act) → IsReaction a → P (Do a)) 
     ask_reacting None = tt
     ask_reacting (Some m) = acts _ tt
 
-    pub due_reacting : ((n : ℕ) (d : List ℕ) → P (Executing n d)) → Reacting (due c me s)
-    due_reacting executing =
+    pub due_reacting : (s.is_fresh ≡ true → ForRelays) → ((n : ℕ) (d : List ℕ) → P (Executing n d)) → Reacting (due c me s)
+    due_reacting relays executing =
         or_reacting (due_on_timeout c me s) _ timeout_reacting
         (or_reacting (due_reply me s s.reply_due) _ (reply_reacting s.reply_due)
         (or_reacting (due_checkpoint c me s) _ (when_reacting s.checkpoint_due _ (acts _ tt))
         (or_reacting (due_answer me s) _ (if_reacting s.is_fresh _ (taken_reacting (answer_to_request me s) s.taken answer_reacting))
-        (or_reacting (due_supply c me s) _ (if_reacting s.is_fresh _ (taken_reacting (answer_to_fetch c me s) s.taken fetch_reacting))
+        (or_reacting (due_supply c me s) _ (where_reacting s.is_fresh _ (λ fresh. taken_reacting (answer_to_fetch c me s) s.taken (fetch_reacting (relays fresh))))
         (or_reacting (due_enter c s) _ (taken_reacting (enter_by c s) s.taken enter_reacting)
         (or_reacting (due_install c s) _ (taken_reacting (install_from c s) s.taken install_reacting)
         (or_reacting (due_rise c s) _ (rise_reacting s.snapshots)
@@ -198,7 +228,7 @@ IsFulfilled (Do a) = IsReaction a
 IsFulfilled (Executing n d) = Unit {0}
 IsFulfilled WornOut = Unit {0}
 
-fulfilled : (c : Setup) (s : Core) (o : Option Duty) (a : Act) → Reacting IsFulfilled (λ b h. h) tt o → Fulfils c s o a → IsReaction a
+fulfilled : (c : Setup) (s : Core) (o : Option Duty) (a : Act) → Reacting IsFulfilled own_reaction tt o → Fulfils c s o a → IsReaction a
 fulfilled c s None a h k = absurd k
 fulfilled c s (Some (Do b)) a h k = subst IsReaction (sym k) h
 fulfilled c s (Some (Executing n d)) a h (t, o, step, is) = subst IsReaction (sym is) tt
@@ -206,4 +236,4 @@ fulfilled c s (Some WornOut) a h k = absurd k
 
 -- what does what is due is no input
 pub is_reaction : (c : Setup) (me : ℕ) (s : Core) (a : Act) → Fulfils c s (due c me s) a → IsReaction a
-is_reaction c me s a h = fulfilled c s (due c me s) a (due_reacting IsFulfilled (λ b k. k) tt c me s (λ n d. tt)) h
+is_reaction c me s a h = fulfilled c s (due c me s) a (due_reacting IsFulfilled own_reaction tt c me s (λ fresh to m. tt) (λ n d. tt)) h

@@ -15,3 +15,4 @@ pub mod Agreement
 pub mod Journals
 pub mod Worked
 pub mod Example
+pub mod Ending

@@ -3,8 +3,9 @@
 //! function with an empty body.
 #![tactic(auto)]
 
-ghost use Rattle.pbft_model.specs.Setup.{Setup};
-ghost use Rattle.std.specs.Prelude.{◌≡◌, ◌≤◌, ◌⊎◌, ℕ, List, [], ◌∷◌, ◌++◌, Some, None, true};
+ghost use Rattle.pbft_model.specs.Setup.{Setup, number_limit, view_limit};
+ghost use Rattle.pbft_model.specs.Ending.{left_to_do};
+ghost use Rattle.std.specs.Prelude.{◌≡◌, ◌≤◌, ◌<◌, ◌⊎◌, ℕ, List, [], ◌∷◌, ◌++◌, Some, None, true};
 ghost use Rattle.std.specs.List.{AllByRecursion};
 ghost use Rattle.lms_tree.specs.SigningState.{SigningState};
 ghost use Rattle.pbft_model.specs.Acts.{Act, Execute, after};
@@ -14,7 +15,7 @@ ghost use Rattle.pbft_model.specs.Journals.{Journals, HasDone, HasGiven, IsHones
 ghost use Rattle.pbft_model.specs.Core.{Core, request_of, start_of};
 ghost use Rattle.pbft_model.specs.Duties.{Executing, due, NothingBefore};
 ghost use Rattle.pbft_model.specs.Received.{TakesBytes, ReceivesBytes};
-ghost use Rattle.pbft_model.specs.Rows.{Row, Input, TimedOut, Halt, Exhausted, Worn, HaltsBy, Begins, Follows, Executed, Fulfils, GoesOn, IsLawfulFrom, IsNext, FollowsWithout, RepliesAlone, leaves_in};
+ghost use Rattle.pbft_model.specs.Rows.{HasLeaves, Row, Input, TimedOut, Halt, Exhausted, Worn, HaltsBy, Begins, Follows, Executed, Fulfils, GoesOn, IsLawfulFrom, IsNext, FollowsWithout, RepliesAlone, leaves_in};
 ghost use Rattle.pbft_model.specs.Rules.{Allowed};
 ghost use Rattle.pbft_model.specs.Sequential.{Service, Outcome, IsStep};
 ghost use Rattle.host_types.specs.Configuration.{IsConfiguration};
@@ -91,6 +92,12 @@ pub fn a_duty_is_done_or_halts()
     ensures rows { (c : Setup) (me : ℕ) (signer : SigningState) → IsConfiguration c.config → signer.next_leaf ≤ leaf_count signer
         → (rows : List Row) (s : Core) → IsLawfulFrom c me (start_of c signer) rows s → (input : Input) → ReceivesBytes rows input
         → (first : Act) → Begins c input first → (acts : List Act) (t : Core) → Follows c me (after c s first) acts t → GoesOn c me t }
+{}
+
+/// What is due comes to an end: whatever act does it, less is left to do.
+pub fn what_is_due_comes_to_an_end()
+    ensures { (c : Setup) (me : ℕ) (s : Core) (a : Act) → s.low ≤ s.executed → s.executed < number_limit → s.view < view_limit
+        → Allowed c me s a → Fulfils c s (due c me s) a → HasLeaves s a → left_to_do (after c s a) < left_to_do s }
 {}
 
 /// The rows of a lawful journal are a history of acts, each of which was allowed, with the same core.

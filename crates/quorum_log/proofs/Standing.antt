@@ -1,5 +1,5 @@
 -- What stands in the tables of a log, and where.
-use Rattle.std.proofs.Common.{◌≡◌, ℕ, zero, suc, ◌+◌, ◌-◌, ◌≤◌, ◌==◌, Bool, true, false, cond, ◌||◌, ◌&&◌, List, [], ◌∷◌, length, map, Option, Some, None, refl, sym, ap, subst, ◌∙◌, arith, inl, inr, T}
+use Rattle.std.proofs.Common.{◌≡◌, ℕ, zero, suc, ◌+◌, ◌-◌, ◌<◌, ◌^◌, ◌≤◌, ◌==◌, Bool, true, false, cond, ◌||◌, ◌&&◌, List, [], ◌∷◌, length, map, Option, Some, None, refl, sym, ap, subst, ◌∙◌, arith, inl, inr, T}
 use Rattle.std.specs.Prelude.{nat_lt, is_some, bytes_eq, filter, IfSome, IsSome}
 use Rattle.std.specs.List.{AllByRecursion, list_any}
 use Rattle.std.specs.Option.{option_map_or}
@@ -24,7 +24,7 @@ use Rattle.quorum_log.specs.declared.slot.Slot.{Slot}
 use Rattle.quorum_log.specs.Ballots.{digest_in, is_digest}
 use Rattle.quorum_log.specs.Log.{AreInside, IsBetweenMarks}
 use Rattle.quorum_log.specs.Reading.{AreKept, as_commit, as_pre_prepare, as_prepare, log_in, read_by, table_of}
-use Rattle.quorum_log.specs.Slots.{IsVoteAt, digest_of_some, empty_slot, is_named, number_here, number_of_some, slot_in}
+use Rattle.quorum_log.specs.Slots.{IsSlotAt, IsVoteAt, digest_of_some, empty_slot, is_named, number_here, number_of_some, slot_in}
 use Rattle.quorum_log.specs.Windows.{IsLastAt, IsLastNumber, IsNamedSomewhere, if_by, slot_of, slots_at, vote_by, vote_at_key, keys_by_number}
 use Rattle.quorum_log.proofs.Accepting.{slot_was}
 use Rattle.quorum_log.proofs.Asking.{Proposes, proposes}
@@ -329,13 +329,23 @@ greatest_is c low ps view (Some n) k h w =
     let le = numbers_le c low ps view n.0 h (λ i m f. elim (cases_lt w.index i) [ inl above ↦ none_some m (sym (w.later i above) ∙ f) | inr below ↦ omega (arith, below, is) ]) in
     omega (arith, le, ge, is, own)
 
+small_here : (c : Configuration) (low : ℕ) (ps : List Place) (i view : ℕ) (o : Option CheckedMessage) → AreKept c low ps → (slots_at ps i view).pre_prepare ≡ o → is_some o ≡ true → low + 1 + i < 2 ^ 48
+small_here c low ps i view None h e t = absurd cc
+small_here c low ps i view (Some m) h e t =
+    let vote = vote_here c low ps i view m h e in
+    let small = vote.proper.number in
+    let own = vote.of_number in
+    omega (arith, small, own)
+
 pub greatest_inside : (c : Configuration) (v : ℕ) (floor : Option SeqNo) (low : ℕ) (ps : List Place) (view : ℕ) (told : Option SeqNo) → IsConfiguration c → AreKept c low ps → IsLastNumber view ps told
     → IfSome told (λ n. IsBetweenMarks (record { config = c; log = log_in v floor low ps }) n.0)
 greatest_inside c v floor low ps view None k h none = tt
 greatest_inside c v floor low ps view (Some n) k h w =
     let is = last_number c low ps view n k h w in
     elim (cases_lt w.index (length ps)) [
-      | inl lt ↦ record { above = omega (arith, is); within = omega (arith, is, lt, h.span) }
+      | inl lt ↦
+          let small = small_here c low ps w.index view (slots_at ps w.index view).pre_prepare h refl (numbered_some n (slots_at ps w.index view).pre_prepare w.here) in
+          record { above = omega (arith, is); within = omega (arith, is, lt, h.span); small = omega (arith, is, small) }
       | inr le ↦ none_some n (sym (ap number_here (beyond ps w.index view le)) ∙ w.here)
     ]
 
@@ -349,6 +359,25 @@ not_none : {X : Type 0} {P : Type 0} (o : Option X) → o ≡ None → IsSome o 
 not_none None e h = absurd cc
 not_none (Some x) e h = absurd cc
 
+-- the vote of a slot
+voted : (c : Configuration) (kind : VoteKind) (view number signer : ℕ) (s : Slot) (m : CheckedMessage) → IsSlotAt c view number s → vote_by kind signer s ≡ Some m → IsVoteAt c kind view number m
+voted c kinds.PrePrepare view number signer s m h e = h.pre_prepare m (by_signer signer s.pre_prepare m e)
+voted c kinds.Prepare view number signer s m h e = (h.prepares signer m e).0
+voted c kinds.Commit view number signer s m h e = (h.commits signer m e).0
+
+some_read : {B : Type 0} (pick : Signed Body → Body → Option (Signed B)) (o : Option CheckedMessage) → IsSome (read_by pick o) → (m : CheckedMessage) × (o ≡ Some m)
+some_read pick None s = absurd cc
+some_read pick (Some m) s = (m, refl)
+
+small_at : {B : Type 0} (pick : Signed Body → Body → Option (Signed B)) (kind : VoteKind) (c : Configuration) (low : ℕ) (ps : List Place) (number view signer : ℕ) → AreKept c low ps
+    → IsSome (read_by pick (vote_at_key kind low ps (number ∷ view ∷ signer ∷ []))) → number < 2 ^ 48
+small_at pick kind c low ps number view signer h s =
+    let w = some_read pick (vote_at_key kind low ps (number ∷ view ∷ signer ∷ [])) s in
+    let vote = voted c kind view number signer (slot_of low ps number view) w.0 (h.slots number view) (if_true (nat_lt signer 10) (vote_by kind signer (slot_of low ps number view)) w.0 w.1) in
+    let small = vote.proper.number in
+    let own = vote.of_number in
+    omega (arith, small, own)
+
 inside_at : {B : Type 0} (pick : Signed Body → Body → Option (Signed B)) (kind : VoteKind) (c : Configuration) (v : ℕ) (floor : Option SeqNo) (low : ℕ) (ps : List Place) (key : Key) → AreKept c low ps
     → IsSome (read_by pick (vote_at_key kind low ps key)) → IsBetweenMarks (record { config = c; log = log_in v floor low ps }) (first_in key)
 inside_at pick kind c v floor low ps [] h s = absurd cc
@@ -356,7 +385,7 @@ inside_at pick kind c v floor low ps (number ∷ []) h s = absurd cc
 inside_at pick kind c v floor low ps (number ∷ view ∷ []) h s = absurd cc
 inside_at pick kind c v floor low ps (number ∷ view ∷ signer ∷ []) h s = elim (cases_lt low number) [
   | inl above ↦ elim (cases_lt (number - low - 1) (length ps)) [
-    | inl lt ↦ record { above = above; within = omega (arith, above, lt, h.span) }
+    | inl lt ↦ record { above = above; within = omega (arith, above, lt, h.span); small = small_at pick kind c low ps number view signer h s }
     | inr le ↦ not_none (read_by pick (vote_at_key kind low ps (number ∷ view ∷ signer ∷ [])))
         (ap (read_by pick) (nothing_there kind low ps number view signer (slot_was low number view ps above ∙ beyond ps (number - low - 1) view le))) s
   ]

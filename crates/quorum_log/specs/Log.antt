@@ -1,5 +1,5 @@
 -- Statement: what a replica records of votes, as the protocol's core keeps it, and what is done with it.
-use Rattle.std.specs.Prelude.{◌≡◌, ℕ, ◌+◌, ◌*◌, ◌==◌, ◌<◌, ◌≤◌, Bool, true, false, ◌&&◌, not, cond, nat_lt, nat_le, List, [], ◌∷◌, map, Option, Some, None, IsSome, bytes_eq, if◌then◌else◌}
+use Rattle.std.specs.Prelude.{◌≡◌, ℕ, ◌+◌, ◌*◌, ◌==◌, ◌<◌, ◌≤◌, ◌^◌, Bool, true, false, ◌&&◌, not, cond, nat_lt, nat_le, List, [], ◌∷◌, map, Option, Some, None, IsSome, bytes_eq, if◌then◌else◌}
 use Rattle.host_types.specs.Configuration.{Configuration}
 use Rattle.pbft_codec.specs.declared.body.Body.{Body}
 use Rattle.pbft_codec.specs.declared.body.Body.TheVariants as bodies
@@ -167,10 +167,11 @@ pub record KeptLog : Type 0 where
   pub config : Configuration
   pub log : Log
 
--- above the low and not above the high water mark
+-- a sequence number above the low and not above the high water mark
 pub record IsBetweenMarks (k : KeptLog) (number : ℕ) : Type 0 where
   pub above : k.log.low < number
   pub within : number ≤ k.log.low + 2 * k.config.k
+  pub small : number < 2 ^ 48
 
 -- Each recorded vote is for such a number.
 pub record AreInside (k : KeptLog) : Type 0 where

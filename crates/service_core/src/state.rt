@@ -1,6 +1,6 @@
 //! The state of the service, and what the next request makes of it.
 
-ghost use Rattle.std.specs.Prelude.{◌≡◌, ◌+◌, ◌^◌, ◌<◌, ◌≤◌, ◌++◌, flat_map, IfOk, IfErr, IsSome, is_some, OnOk, IfSome, length, map};
+ghost use Rattle.std.specs.Prelude.{◌≡◌, ◌+◌, ◌^◌, ◌<◌, ◌≤◌, ◌++◌, flat_map, IfOk, IfErr, IsSome, is_some, OnOk, OnErr, IfSome, length, map};
 ghost use Rattle.std.specs.List.{filter_map};
 ghost use Rattle.std.specs.Option.{option_copied, option_map};
 ghost use Rattle.std.specs.Arc.{arc_value};
@@ -102,11 +102,12 @@ impl State {
 
     /// Takes the next request, or the null request, which raises the number and does nothing else. The
     /// client has to be listed, and the number has to stay below 2^48. When it runs out of memory the
-    /// state is unusable: nothing is promised of it.
+    /// state is unusable: it has its configuration and its number, and nothing is promised of its tenants.
     pub fn apply(&mut self, request: Option<&Request>) -> Result<Outcome, AllocError>
         requires number { self.old.number + 1 < 2 ^ 48 }
         requires listed { IfSome (option_copied request) (λ taken. IsSome (entry_of self.old.config.clients taken.client.0)) }
-        ensures { IfOk result (λ outcome. IsStep self.old (option_copied request.entry) self.new outcome) }
+        ensures step { IfOk result (λ outcome. IsStep self.old (option_copied request.entry) self.new outcome) }
+        ensures rest { OnErr result (self.new ≡ record self.old { tenants = self.new.tenants }) }
     {
         let number = self.number + 1;
         let Some(request) = request else {

@@ -1,5 +1,5 @@
 use Rattle.std.proofs.Common.{◌+◌, set, eqb, sym, ap, ◌∙◌, subst, Option, Some}
-use Rattle.std.specs.Prelude.{IfSome, IsSome}
+use Rattle.std.specs.Prelude.{IfSome, IsSome, Result, Ok, Err, OnErr}
 use Rattle.std.specs.Option.{option_copied}
 use Rattle.std.specs.Arc.{arc_value}
 use Rattle.host_types.specs.declared.SeqNo.{SeqNo}
@@ -25,8 +25,8 @@ pub invariant_of-self-2 : goal.invariant_of-self-2
 invariant_of-self-2 c =
     tenants-set c.self.inside.tenants.items c.in-Some-client_index.index c.index_mut-tenant.result.now c.apply_at.new.self c.index_mut-tenant.ensures.value c.in_ok-outcome.ensures.tenant ∙ c.self.invariant
 
-pub returns : goal.returns
-returns c =
+pub returns-clause-step : goal.returns-clause-step
+returns-clause-step c =
     let after : Service = record {
       config = arc_value c.self.inside.config;
       number = c.self.inside.number + 1;
@@ -37,3 +37,11 @@ returns c =
     (taken (arc_value c.self.inside.config) c.self.inside.number c.self.inside.tenants.items c.in-Some.request.now c.in-Some-client_index.index c.index_mut-tenant.result.now c.apply_at.new.self c.in_ok-outcome.outcome
     (ap (λ (s : Service). client_index s c.in-Some.request.now.client.0) c.self.view_is ∙ sym c.in-Some-client_index.ensures) c.index_mut-tenant.ensures.value
     c.in_ok-outcome.ensures.step.0 c.in_ok-outcome.ensures.tenant (ap (λ (n : SeqNo). n.0) c.in_ok-outcome.ensures.step.1)))
+
+after_error : {T E A : Type 0} (r : Result T E) → A → OnErr r A
+after_error (Ok x) a = tt
+after_error (Err e) a = a
+
+pub returns-in_err-outcome-clause-rest : goal.returns-in_err-outcome-clause-rest
+returns-in_err-outcome-clause-rest c =
+    after_error c.from_residual.result (ap (λ (s : Service). record s { tenants = set c.self.inside.tenants.items c.in-Some-client_index.index c.apply_at.new.self }) c.self.view_is)
