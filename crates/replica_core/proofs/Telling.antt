@@ -1,0 +1,55 @@
+-- The ViewChange that is made of what a replica keeps.
+use Rattle.std.proofs.Common.{◌≡◌, ℕ, Bool, cond, List, [], ◌∷◌, refl, sym, ap, subst, ◌∙◌}
+use Rattle.std.specs.Prelude.{map}
+use Rattle.std.proofs.lemmas.Bool.{eq-eqb}
+use Rattle.host_types.specs.Configuration.{Configuration}
+use Rattle.host_types.specs.declared.SeqNo.{SeqNo}
+use Rattle.host_types.specs.declared.View.{View}
+use Rattle.pbft_codec.specs.declared.body.Body.TheVariants as bodies
+use Rattle.pbft_model.specs.Words.{Certificate, Checkpoint, Signed}
+use Rattle.pbft_model.specs.Tables.{entries_in}
+use Rattle.checkpoints.specs.Kept.{by_sha256, proof_at, proof_for, proof_list, stable_digest}
+use Rattle.quorum_log.specs.declared.certificate.CheckedCertificate.{CheckedCertificate}
+use Rattle.quorum_log.specs.Log.{shown}
+use Rattle.seal.specs.Lists.{CheckedMessages}
+use Rattle.seal.specs.Parts.{as_message}
+use Rattle.view_change.specs.Made.{IsCertificateOf, IsMadeOf, OneForOne}
+use Rattle.view_change.specs.Sealable.{AreUnder}
+use Rattle.replica_core.specs.Replicas.{AreOne, KeptReplica, Parts, kept_in}
+use Rattle.replica_core.specs.Told.{told_by}
+
+each_shown : (c : Configuration) (xs : List Certificate) → OneForOne IsCertificateOf (map (shown c) xs) xs
+each_shown c [] = tt
+each_shown c (x ∷ xs) = (record { pre_prepare = refl; prepares = refl }, each_shown c xs)
+
+each_under : (c d : Configuration) (xs : List Certificate) → c ≡ d → AreUnder d (map (shown c) xs)
+each_under c d [] e = tt
+each_under c d (x ∷ xs) e = ((e, e), each_under c d xs e)
+
+module _ (c : Configuration) (me : ℕ) (p : Parts) (one : AreOne c me p) (k : KeptReplica) (e : kept_in c me p ≡ k) (low : SeqNo) (proof : CheckedMessages) (certificates : List CheckedCertificate)
+    (low_is : low.0 ≡ k.core.low) (proof_is : proof ≡ proof_list p.table low.0) (are : certificates ≡ map (shown p.kept.config) (entries_in p.kept.kept)) where
+  at_mark : low.0 ≡ p.table.low
+  at_mark = low_is ∙ sym (ap (λ (t : KeptReplica). t.core.low) e) ∙ sym one.low
+
+  proof_kept : proof_at p.table low.0 ≡ p.table.proof
+  proof_kept = ap (λ (b : Bool). cond b p.table.proof (proof_for (by_sha256 p.table.config) p.table.checkpoints low.0 (stable_digest (by_sha256 p.table.config) p.table.checkpoints low.0))) (eq-eqb low.0 p.table.low at_mark)
+
+  pub made_of : (view : View) → IsMadeOf view low proof certificates (told_by k.core view)
+  made_of view = record {
+    view_is = refl;
+    low_is = λ i. record { 0 = sym low_is i };
+    checkpoints =
+        ap (λ (l : CheckedMessages). l.messages) proof_is ∙ ap (λ (ms : List (Signed Checkpoint)). map (as_message bodies.Checkpoint) ms) proof_kept
+        ∙ ap (λ (t : KeptReplica). map (as_message bodies.Checkpoint) t.core.proof) e;
+    carries =
+        subst (λ (xs : List CheckedCertificate). OneForOne IsCertificateOf xs (entries_in k.core.kept)) (sym are)
+        (subst (λ (t : KeptReplica). OneForOne IsCertificateOf (map (shown p.kept.config) (entries_in p.kept.kept)) (entries_in t.core.kept)) e (each_shown p.kept.config (entries_in p.kept.kept)));
+  }
+
+  pub under_one : AreUnder proof.config certificates
+  under_one =
+      subst (AreUnder proof.config) (sym are)
+      (each_under p.kept.config proof.config (entries_in p.kept.kept) (one.kept ∙ sym one.table ∙ sym (ap (λ (l : CheckedMessages). l.config) proof_is)))
+
+  pub its_config : proof.config ≡ k.config
+  its_config = ap (λ (l : CheckedMessages). l.config) proof_is ∙ one.table ∙ ap (λ (t : KeptReplica). t.config) e

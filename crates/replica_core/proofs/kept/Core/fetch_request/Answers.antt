@@ -1,0 +1,14 @@
+use Rattle.std.proofs.Common.{rules}
+use Rattle.pbft_codec.specs.declared.body.fetch.Fetch.TheVariants as fetches
+use Rattle.pbft_model.specs.Acts.{All}
+use Rattle.view_change.proofs.Sealing.{fetch_is_sealable}
+use Rattle.replica_core.proofs.Admitting.{on_ok}
+use Rattle.replica_core.proofs.Said.{says_fetch_request}
+use Rattle.replica_core.proofs.kept.Core.fetch_request.Goals as goal
+
+pub send-requires-clause-sealable : goal.send-requires-clause-sealable
+send-requires-clause-sealable c = fetch_is_sealable _ (fetches.Request c.args.digest) tt (search rules)
+
+pub returns-clause-sent : goal.returns-clause-sent
+returns-clause-sent c =
+    on_ok c.note_asked_request.result (says_fetch_request c.args.self.now c.send.new.self c.note_asked_request.new.self All c.args.digest c.in_ok-send.ensures.after) c.note_asked_request.ensures.noted

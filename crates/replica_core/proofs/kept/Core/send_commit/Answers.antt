@@ -1,0 +1,18 @@
+use Rattle.std.proofs.Common.{rules, subst}
+use Rattle.pbft_codec.specs.declared.body.Body.TheVariants as bodies
+use Rattle.pbft_model.specs.Acts.{All}
+use Rattle.pbft_model.specs.Words.{View}
+use Rattle.view_change.proofs.Sealing.{commit_is_sealable}
+use Rattle.replica_core.specs.Doing.{Says}
+use Rattle.replica_core.proofs.Admitting.{on_ok}
+use Rattle.replica_core.proofs.Said.{says_commit}
+use Rattle.replica_core.proofs.kept.Core.send_commit.Goals as goal
+
+pub send-requires-clause-sealable : goal.send-requires-clause-sealable
+send-requires-clause-sealable c = commit_is_sealable _ _ c.requires.number (search rules)
+
+pub returns-clause-sent : goal.returns-clause-sent
+returns-clause-sent c = on_ok c.note_commit.result (λ noted.
+    subst (λ (v : View). Says c.args.self.now All (bodies.Commit (record { view = v; number = c.args.number; digest = c.args.digest })) c.note_commit.new.self) (λ i. record { 0 = c.view-view.ensures i })
+    (says_commit c.args.self.now c.send.new.self c.record_vote.new.self c.note_commit.new.self All c.in_ok-message.message (record { view = c.view-view.result; number = c.args.number; digest = c.args.digest })
+    c.in_ok-message.ensures.after c.in_ok-message.ensures.signed c.in_ok-record_vote.ensures.recorded noted)) c.note_commit.ensures.noted

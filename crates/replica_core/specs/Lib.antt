@@ -1,0 +1,16 @@
+pub mod Halts
+pub mod Stores
+pub mod Entries
+pub mod Sent
+pub mod Certificates
+pub mod Changes
+pub mod Requests
+pub mod Shown
+pub mod Replicas
+pub mod Doing
+pub mod Meanings
+pub mod Settling
+pub mod Told
+pub mod Opens
+pub mod Answering
+pub mod Steps

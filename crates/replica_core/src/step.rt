@@ -1,0 +1,56 @@
+//! What passes with one message or one timeout.
+
+ghost use Rattle.std.specs.Prelude.{◌≡◌, [], false, None};
+
+use crate::row::{Dest, Done, Output};
+use host_types::Reply;
+use seal::Checked;
+use service_core::State;
+use std::alloc::{AllocError, Global};
+
+/// What a replica keeps only while it does what one message or one timeout asks for.
+#[derive(Drop)]
+pub(crate) struct Step {
+    /// The message just taken.
+    pub taken: Option<Checked>,
+    /// Its reading as a state.
+    pub reading: Option<State>,
+    /// Nothing was done since it was taken.
+    pub is_fresh: bool,
+    /// A timeout has come, and nothing was done since.
+    pub timed_out: bool,
+    /// What the last execution still has to send.
+    pub reply_due: Option<Reply>,
+    pub checkpoint_due: bool,
+    /// What was done so far.
+    pub outputs: Vec<Output>,
+    pub done: Vec<Done>,
+    pub leaves: u32,
+}
+
+impl Step {
+    /// Nothing was taken, and nothing was done. It takes no memory.
+    pub fn none(alloc: Global) -> Step
+        ensures taken { result.taken ≡ None }
+        ensures reading { result.reading ≡ None }
+        ensures fresh { result.is_fresh ≡ false }
+        ensures timed { result.timed_out ≡ false }
+        ensures reply { result.reply_due ≡ None }
+        ensures checkpoint { result.checkpoint_due ≡ false }
+        ensures outputs { result.outputs.items ≡ [] }
+        ensures done { result.done.items ≡ [] }
+        ensures leaves { result.leaves ≡ 0 }
+    {
+        Step {
+            taken: None,
+            reading: None,
+            is_fresh: false,
+            timed_out: false,
+            reply_due: None,
+            checkpoint_due: false,
+            outputs: Vec::new(alloc),
+            done: Vec::new(alloc),
+            leaves: 0,
+        }
+    }
+}
