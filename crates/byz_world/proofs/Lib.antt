@@ -1,0 +1,9 @@
+mod NotedLaws
+mod Lists
+mod HistoryLaws
+mod AuditLaws
+mod HandingLaws
+mod OutputLaws
+mod HonestLaws
+mod FirstLaws
+mod RunLaws

@@ -1,0 +1,28 @@
+use Rattle.std.proofs.Common.{◌≡◌, List, set, sym, ap, subst, ◌∙◌}
+use Rattle.std.proofs.lemmas.List.Quantifiers.{position-Some}
+use Rattle.replica_core.specs.declared.row.Input.TheVariants as inputs
+use Rattle.byz_world.specs.Handing.{AreFrom, UnlessMemory, index_in}
+use Rattle.byz_world.specs.Worlds.{Comes, MemberFacts, WorldFacts}
+use Rattle.byz_world.proofs.HandingLaws.{comes_at, comes_none, config_at, members_kept}
+use Rattle.byz_world.proofs.world.World.hand_timeout.Goals as goal
+
+pub returns-in_default : goal.returns-in_default
+returns-in_default c = comes_none c.args.self.now c.args.id.0 (inputs.Timeout) (sym c.index_of.ensures ∙ c.in_default.is)
+
+pub invariant_of-self : goal.invariant_of-self
+invariant_of-self c =
+    let kept : WorldFacts = record { config = c.self.inside.config.value; members = c.self.inside.members.items } in
+    let view : kept ≡ c.args.self.now = c.self.view_is in (
+      c.self.invariant.0,
+      members_kept c.self.inside.config.value c.self.inside.members.items c.args.id.0 c.in-Some.index c.index_mut-member.result.now c.timeout.new.self _ c.self.invariant.1
+          (ap (λ (w : WorldFacts). index_in w.members c.args.id.0) view ∙ sym c.index_of.ensures ∙ c.in-Some.is) c.index_mut-member.ensures.value c.timeout.ensures.id c.timeout.ensures.config,
+    )
+
+pub returns : goal.returns
+returns c =
+    let kept : WorldFacts = record { config = c.self.inside.config.value; members = c.self.inside.members.items } in
+    let view : kept ≡ c.args.self.now = c.self.view_is in
+    let after : WorldFacts = record { config = kept.config; members = set kept.members c.in-Some.index c.timeout.new.self } in
+    subst (λ (w : WorldFacts). UnlessMemory c.timeout.result (Comes w c.args.id.0 (inputs.Timeout) c.timeout.result after)) view
+    (comes_at kept c.args.id.0 c.in-Some.index (inputs.Timeout) c.timeout.result c.index_mut-member.result.now c.timeout.new.self _ c.self.invariant.1
+    (ap (λ (w : WorldFacts). index_in w.members c.args.id.0) view ∙ sym c.index_of.ensures ∙ c.in-Some.is) c.index_mut-member.ensures.value c.timeout.ensures.id c.timeout.ensures.steps)

@@ -1,0 +1,6 @@
+pub mod Audits
+pub mod Faults
+pub mod Handing
+pub mod Noting
+pub mod WorldFaults
+pub mod Worlds

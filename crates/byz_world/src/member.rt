@@ -1,0 +1,145 @@
+//! A correct replica and its rows.
+
+ghost use Rattle.std.specs.Prelude.{◌≡◌, ◌<◌, ◌++◌, ◌∷◌, [], Some, slice_get, IfErr, IfOk, IsSomeAnd, OnOk};
+ghost use Rattle.std.specs.Option.{option_copied};
+ghost use Rattle.host_types.specs.Configuration.{replicas_for};
+ghost use Rattle.lms_tree.specs.Keys.{IsKeyOf};
+ghost use Rattle.pbft_codec.specs.declared.signed.Role.TheVariants as roles;
+ghost use Rattle.seal.specs.Signers.{key_of};
+ghost use Rattle.replica_core.specs.Steps.{first_with};
+ghost use Rattle.replica_core.specs.declared.row.Input.TheVariants as inputs;
+ghost use Rattle.byz_world.specs.Handing.{MemberSteps};
+ghost use Rattle.byz_world.specs.Worlds.{facts_of, outcome_of, output_at};
+ghost use Rattle.byz_world.specs.declared.fault.WorldFault.TheVariants as faults;
+
+use crate::fault::WorldFault;
+use crate::report::Outcome;
+use host_types::{Config, ReplicaId};
+use lms_tree::Signer;
+use replica_core::{Output, Replica, Row};
+use seal::Checked;
+use std::alloc::{AllocError, Global};
+use std::marker::Model;
+use std::sync::Arc;
+
+/// A correct replica and its rows.
+#[derive(Drop)]
+pub(crate) struct Member {
+    id: ReplicaId,
+    replica: Replica,
+    rows: Vec<Row>,
+}
+
+impl Model for Member {
+    ghost use Rattle.std.specs.Prelude.{◌≡◌};
+    ghost use Rattle.std.specs.Coded.{codes};
+    ghost use Rattle.service_core.specs.Codes.{service_code};
+    ghost use Rattle.byz_world.specs.Worlds.{MemberFacts};
+
+    ghost Value = { MemberFacts };
+
+    ghost coded = { Prim.hlevel (codes, service_code) };
+
+    ghost view = { λ m. record { replica = m.replica; rows = m.rows.items } };
+
+    ghost invariant = { λ m. m.id.0 ≡ m.replica.me };
+}
+
+impl Member {
+    /// A replica before its first message.
+    pub fn new(
+        alloc: Global,
+        config: &Arc<Config>,
+        id: ReplicaId,
+        signer: Signer,
+    ) -> Result<Member, AllocError>
+        requires replica { id.0 < replicas_for config.now.value.f }
+        requires key { IsSomeAnd (key_of config.now.value roles.Replica id.0) (λ key. IsKeyOf key signer) }
+        ensures { IfOk result (λ m. m ≡ record { replica = first_with config.now.value id.0 signer; rows = [] }) }
+    {
+        let replica = Replica::new(alloc, config, id, signer)?;
+        let rows = Vec::new(alloc);
+        Ok(Member { id, replica, rows })
+    }
+
+    pub fn id(&self) -> ReplicaId
+        ensures { result.0 ≡ self.now.replica.me }
+    {
+        self.id
+    }
+
+    pub fn replica(&self) -> &Replica
+        ensures { result.now ≡ self.now.replica }
+    {
+        &self.replica
+    }
+
+    /// Takes a message: the row that it gives, if it gives one.
+    pub fn take(&mut self, message: &Checked) -> Result<Option<Row>, WorldFault>
+        requires config { message.now.config ≡ self.old.replica.config }
+        ensures steps { MemberSteps self.old (inputs.Message message.now) result self.new }
+        ensures config { self.new.replica.config ≡ self.old.replica.config }
+        ensures id { self.new.replica.me ≡ self.old.replica.me }
+    {
+        match self.replica.take(message) {
+            Ok(row) => self.keep(row),
+            Err(_) => Ok(None),
+        }
+    }
+
+    /// Takes a timeout: the row that it gives, if it gives one.
+    pub fn timeout(&mut self) -> Result<Option<Row>, WorldFault>
+        ensures steps { MemberSteps self.old inputs.Timeout result self.new }
+        ensures config { self.new.replica.config ≡ self.old.replica.config }
+        ensures id { self.new.replica.me ≡ self.old.replica.me }
+    {
+        match self.replica.timeout() {
+            Ok(row) => self.keep(row),
+            Err(_) => Ok(None),
+        }
+    }
+
+    /// Keeps a row, and returns one more handle of it.
+    fn keep(&mut self, row: Row) -> Result<Option<Row>, WorldFault>
+        ensures kept { OnOk result (self.new ≡ record self.old { rows = self.old.rows ++ row ∷ [] }) }
+        ensures answer { IfOk result (λ answer. answer ≡ Some row) }
+        ensures memory { IfErr result (λ fault. fault ≡ faults.Memory) }
+        ensures replica { self.new.replica ≡ self.old.replica }
+    {
+        let copy = row.copy()?;
+        self.rows.push(row)?;
+        Ok(Some(copy))
+    }
+
+    /// The output of this number, over all rows.
+    pub fn output(&self, number: u64) -> Option<&Output>
+        ensures { option_copied result ≡ output_at self.now.rows number }
+    {
+        let mut left = number;
+        for row in &self.rows {
+            let outputs = row.outputs();
+            if left < outputs.len() as u64 {
+                return item_at(outputs, left);
+            }
+            left -= outputs.len() as u64;
+        }
+        None
+    }
+
+    /// What it did.
+    pub fn outcome(self) -> Outcome
+        ensures { facts_of result ≡ outcome_of self }
+    {
+        Outcome {
+            id: self.id,
+            halted: self.replica.status().halted,
+            rows: self.rows,
+        }
+    }
+}
+
+fn item_at(outputs: &[Output], number: u64) -> Option<&Output>
+    ensures { option_copied result ≡ slice_get outputs.now number }
+{
+    outputs.get(number as usize)
+}
