@@ -7,6 +7,7 @@ use bpf_decode::{decode_all, encode_all};
 use bpf_machine::{Finished, run};
 use bpf_verifier::{Procedure, verify};
 use clap::{Arg, ArgMatches, Command, value_parser};
+use host_script::run_script;
 use host_types::ClientId;
 use std::alloc::{AllocError, Global};
 use std::io::{Read, Write};
@@ -69,7 +70,10 @@ fn command_line<'a>(alloc: Global) -> Result<Command<'a>, AllocError> {
         ))?
         .subcommand(Command::new(alloc, "disasm").about("Prints the assembler text of code"))?
         .subcommand(Command::new(alloc, "verify").about("Verifies code and prints the verdict"))?
-        .subcommand(exec_command(alloc)?)
+        .subcommand(exec_command(alloc)?)?
+        .subcommand(Command::new(alloc, "world").about(
+            "Runs a script of replicas, some of them faulty",
+        ))
 }
 
 /// `exec` and its options.
@@ -102,6 +106,10 @@ fn dispatch<'a, I: Read, O: Write>(
         Some(("verify", _)) => {
             let code = read_code(alloc, reader)?;
             write_verdict(alloc, &code, writer)?;
+            Ok(())
+        }
+        Some(("world", _)) => {
+            run_script(alloc, reader, writer)?;
             Ok(())
         }
         Some((_, options)) => exec(alloc, options, reader, writer),

@@ -3,6 +3,7 @@
 use bpf_asm::{AsmFault, AsmKind};
 use bpf_decode::DecodeFault;
 use bpf_verifier::{Refusal, VerifyFault};
+use host_script::{ScriptFault, ScriptKind};
 use std::alloc::{AllocError, AllocFailed};
 use std::io;
 use thiserror::Error;
@@ -28,6 +29,9 @@ pub enum Failure {
     /// The assembler text has a fault.
     #[error("{0}")]
     Assembler(AsmFault),
+    /// A script has a fault, or ended early; its line is written already.
+    #[error("{0}")]
+    Script(ScriptFault),
     /// The words of the command line are wrong, or ask for help.
     #[error("{0}")]
     CommandLine(clap::Error),
@@ -52,6 +56,11 @@ impl Failure {
             | Failure::Refused(_)
             | Failure::NoCode(_)
             | Failure::Assembler(_) => 1,
+            Failure::Script(fault) => match fault.kind {
+                ScriptKind::Memory => 3,
+                ScriptKind::Read | ScriptKind::Write => 4,
+                _ => 1,
+            },
             Failure::CommandLine(_) | Failure::WordNotUtf8 => 2,
             Failure::Memory => 3,
             Failure::Stream(_) => 4,
@@ -67,9 +76,13 @@ impl Failure {
         }
     }
 
-    /// Whether its text is written: nothing is said where memory ran out or a stream failed.
+    /// Whether its text is still to be written: nothing is said where memory ran out or a stream failed,
+    /// and a script says it itself.
     pub(crate) fn is_reported(&self) -> bool {
-        self.status() < 3
+        match self {
+            Failure::Script(_) => false,
+            _ => self.status() < 3,
+        }
     }
 }
 
@@ -115,6 +128,12 @@ impl From<AsmFault> for Failure {
             AsmKind::Memory => Failure::Memory,
             _ => Failure::Assembler(fault),
         }
+    }
+}
+
+impl From<ScriptFault> for Failure {
+    fn from(fault: ScriptFault) -> Failure {
+        Failure::Script(fault)
     }
 }
 

@@ -8,6 +8,7 @@ use std::test::Fail;
 mod instructions;
 mod rows;
 mod texts;
+mod worlds;
 
 /// Words, input, status and output of a run.
 type Case = (&'static [&'static str], &'static str, u8, &'static str);
@@ -56,6 +57,39 @@ fn run_rows<R: Abort + AllocGlobal>(rt: &R, rows: &str) -> Result<(), Fail> {
         assert!(rt; ends_so(rt, &words, input, status, &wanted)?, "{row}");
     }
     Ok(())
+}
+
+/// What the word SECRET stands for in a row's script.
+const SECRET: &str = "0000000000000000000000000000000000000000000000000000000000000000";
+
+/// Runs each row of a table of scripts and compares status and output.
+fn run_scripts<R: Abort + AllocGlobal>(rt: &R, rows: &str) -> Result<(), Fail> {
+    for row in rows.lines() {
+        let (words, script, status, output) = fields_of(row).ok_or("a field is missing")?;
+        let words = words_of(rt.alloc(), words)?;
+        let script = script
+            .replace(rt.alloc(), "; ", "\n")?
+            .replace(rt.alloc(), "SECRET", SECRET)?;
+        let wanted = output.replace(rt.alloc(), "/", "\n")?;
+        let status = status.parse::<u8>()?;
+        assert!(rt; ends_so(rt, &words, &script, status, &wanted)?, "{row}");
+    }
+    Ok(())
+}
+
+#[test]
+fn days_of_a_world(rt: HostRuntime) -> Result<(), Fail> {
+    run_scripts(&rt, worlds::DAYS)
+}
+
+#[test]
+fn what_a_world_refuses(rt: HostRuntime) -> Result<(), Fail> {
+    run_scripts(&rt, worlds::REFUSALS)
+}
+
+#[test]
+fn scripts_that_are_none(rt: HostRuntime) -> Result<(), Fail> {
+    run_scripts(&rt, worlds::FAULTS)
 }
 
 #[test]

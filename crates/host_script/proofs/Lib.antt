@@ -1,0 +1,2 @@
+mod Legal
+mod Listed

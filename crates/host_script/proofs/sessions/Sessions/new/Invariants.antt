@@ -1,0 +1,9 @@
+use Rattle.std.proofs.Common.{◌≡◌, drop}
+use Rattle.std.specs.List.{All}
+use Rattle.host_script.proofs.Listed.{HaveKeysOf}
+use Rattle.host_script.proofs.sessions.Sessions.new.Given as goal
+
+abbrev pub invariant-loop-entry : goal.invariant-loop-entry
+invariant-loop-entry l =
+    HaveKeysOf (drop l.entry-index l.entry-items) l.signers.rest.items
+    × All (λ s. s.config ≡ l.config.value) l.sessions.items

@@ -1,0 +1,139 @@
+//! The keys of a script's replicas and clients, made of its secret.
+
+ghost use Rattle.std.specs.Prelude.{◌≡◌, IfOk, length, map};
+ghost use Rattle.host_types.specs.Configuration.{replicas_for};
+ghost use Rattle.host_types.specs.declared.config.ClientEntry.{ClientEntry};
+ghost use Rattle.script_text.specs.Heads.{keyless};
+ghost use Rattle.host_script.specs.Keys.{AreKeys, key_of, unkeyed};
+
+use host_types::{ClientEntry, ClientId, Config, ReplicaId};
+use lms_tree::{Height, Signer};
+use script_text::{Head, Secret};
+use sha2::{Digest, Sha256};
+use std::alloc::{AllocError, Global};
+
+/// Whose key is made.
+#[derive(Clone, Copy, Debug, PartialEq, Eq)]
+enum Owner {
+    Replica(ReplicaId),
+    Client(ClientId),
+}
+
+impl Owner {
+    /// What tells the keys of replicas from those of clients.
+    fn mark(self) -> u8 {
+        match self {
+            Owner::Replica(_) => 0x52,
+            Owner::Client(_) => 0x43,
+        }
+    }
+
+    fn number(self) -> u32 {
+        match self {
+            Owner::Replica(id) => u32::from(id.0),
+            Owner::Client(id) => id.0,
+        }
+    }
+}
+
+/// Which part of a key is made.
+#[derive(Clone, Copy, Debug, PartialEq, Eq)]
+enum Part {
+    Identity = 0,
+    Seed = 1,
+}
+
+/// A configuration, and fresh signers of the keys that it lists.
+#[derive(Drop)]
+pub(crate) struct Keys {
+    pub config: Config,
+    /// One for each replica, ids ascending.
+    pub replicas: Vec<Signer>,
+    /// One for each client, in the order of the head.
+    pub clients: Vec<Signer>,
+    ghost are_keys: { AreKeys config replicas.items clients.items },
+}
+
+/// The configuration of a head, with fresh signers.
+pub(crate) fn make_keys(alloc: Global, head: &Head) -> Result<Keys, AllocError> {
+    let replicas = replica_signers(alloc, head)?;
+    let keys = public_keys(alloc, &replicas)?;
+    let (entries, clients) = client_signers(alloc, head)?;
+    let Ok(config) = Config::new(head.f(), head.k(), keys, entries) else {
+        unreachable!()
+    };
+    Ok(Keys {
+        config,
+        replicas,
+        clients,
+    })
+}
+
+/// A signer for each replica, ids ascending.
+fn replica_signers(alloc: Global, head: &Head) -> Result<Vec<Signer>, AllocError>
+    ensures { IfOk result (λ signers. length signers.items ≡ replicas_for head.now.f) }
+{
+    let mut signers = Vec::new(alloc);
+    for id in 0..head.replica_count() {
+        let id = ReplicaId(id);
+        let owner = Owner::Replica(id);
+        signers.push(make_signer(alloc, owner, head.height(id), head.secret())?)?;
+    }
+    Ok(signers)
+}
+
+/// The public keys of signers.
+fn public_keys(alloc: Global, signers: &[Signer]) -> Result<Vec<[u8; 56]>, AllocError>
+    ensures { IfOk result (λ keys. keys.items ≡ map key_of signers.now) }
+{
+    signers.iter().map(public_key).collect(alloc)
+}
+
+fn public_key(signer: &Signer) -> [u8; 56]
+    ensures { result ≡ key_of signer.now }
+{
+    signer.public_key()
+}
+
+/// What is listed of the clients, in the order of the head, and a signer for each.
+fn client_signers(alloc: Global, head: &Head) -> Result<(Vec<ClientEntry>, Vec<Signer>), AllocError>
+    ensures keys { IfOk result (λ made. map (λ (e : ClientEntry). e.key) made.0.items ≡ map key_of made.1.items) }
+    ensures entries { IfOk result (λ made. map unkeyed made.0.items ≡ map keyless head.now.clients) }
+{
+    let mut entries = Vec::new(alloc);
+    let mut signers = Vec::new(alloc);
+    for client in head.clients() {
+        let owner = Owner::Client(client.id);
+        let signer = make_signer(alloc, owner, head.client_height(), head.secret())?;
+        entries.push(ClientEntry {
+            id: client.id,
+            tenant: client.tenant,
+            key: signer.public_key(),
+        })?;
+        signers.push(signer)?;
+    }
+    Ok((entries, signers))
+}
+
+/// A signer whose identity and seed are hashes of the secret.
+fn make_signer(
+    alloc: Global,
+    owner: Owner,
+    height: Height,
+    secret: &Secret,
+) -> Result<Signer, AllocError> {
+    let hash = hash_of(owner, Part::Identity, secret);
+    let mut identity = [0; 16];
+    identity.copy_from_slice(&hash[..16]);
+    let seed = hash_of(owner, Part::Seed, secret);
+    Signer::from_seed(alloc, height, identity, seed)
+}
+
+fn hash_of(owner: Owner, part: Part, secret: &Secret) -> [u8; 32] {
+    let mut hasher = Sha256::new();
+    hasher.update([owner.mark()]);
+    hasher.update(owner.number().to_be_bytes());
+    hasher.update([part as u8]);
+    hasher.update(secret.0);
+    hasher.finalize()
+}

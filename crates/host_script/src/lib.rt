@@ -1,0 +1,21 @@
+//! Scripts: a group of replicas, its clients and a queue of messages between them, moved by the steps of
+//! a TOML document.
+//!
+//!     let status = match run_script(alloc, &mut reader, &mut writer) {
+//!         Ok(()) => 0,
+//!         Err(fault) => fault.kind.number(),
+//!     };
+#![tactic(auto)]
+
+mod fault;
+mod forging;
+mod input;
+mod keys;
+mod lines;
+mod play;
+mod queue;
+mod sessions;
+mod stage;
+
+pub use play::run_script;
+pub use script_text::{Script, ScriptFault, ScriptKind, read_script};

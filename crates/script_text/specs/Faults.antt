@@ -1,0 +1,50 @@
+-- Statement: the numbers of faults, and which of two faults is reported.
+use Rattle.std.specs.Prelude.{◌≡◌, ℕ, nat_le, Result, Ok, Err, if◌then◌else◌}
+use Rattle.script_text.specs.declared.fault.ScriptFault.{ScriptFault}
+use Rattle.script_text.specs.declared.fault.ScriptKind.{ScriptKind}
+use Rattle.script_text.specs.declared.fault.ScriptKind.TheVariants as kinds
+use Rattle.script_text.specs.declared.fault.TableFault.{TableFault}
+use Rattle.script_text.specs.declared.fault.TableFault.TheVariants.{Memory, MissingKey, WrongValue, UnknownKey, BadConfig}
+
+abbrev pub number_of : ScriptKind → ℕ
+number_of kinds.NotToml = 1
+number_of kinds.MissingKey = 2
+number_of kinds.WrongValue = 3
+number_of kinds.UnknownKey = 4
+number_of kinds.BadConfig = 5
+number_of kinds.TooManyDeliveries = 6
+number_of kinds.TooLong = 7
+number_of kinds.Read = 8
+number_of kinds.Write = 9
+number_of kinds.Memory = 10
+
+abbrev pub kind_of : TableFault → ScriptKind
+kind_of Memory = kinds.Memory
+kind_of MissingKey = kinds.MissingKey
+kind_of WrongValue = kinds.WrongValue
+kind_of UnknownKey = kinds.UnknownKey
+kind_of BadConfig = kinds.BadConfig
+
+-- a fault of the head, which is step 0
+abbrev pub at_head : ScriptKind → ScriptFault
+at_head kind = record { kind = kind; step = 0 }
+
+-- out of memory comes before all faults of the text
+abbrev pub rank : TableFault → ℕ
+rank Memory = 0
+rank MissingKey = 1
+rank WrongValue = 2
+rank UnknownKey = 3
+rank BadConfig = 4
+
+abbrev pub least : TableFault → TableFault → TableFault
+least a b = if nat_le (rank a) (rank b) then a else b
+
+-- What was read is this, unless memory ran out.
+abbrev pub IsUnlessMemory : {A : Type 0} → Result A TableFault → Result A TableFault → Type 0
+IsUnlessMemory (Ok x) is = is ≡ Ok x
+IsUnlessMemory (Err Memory) is = Unit {0}
+IsUnlessMemory (Err MissingKey) is = is ≡ Err MissingKey
+IsUnlessMemory (Err WrongValue) is = is ≡ Err WrongValue
+IsUnlessMemory (Err UnknownKey) is = is ≡ Err UnknownKey
+IsUnlessMemory (Err BadConfig) is = is ≡ Err BadConfig

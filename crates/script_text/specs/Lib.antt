@@ -1,0 +1,6 @@
+pub mod Faults
+pub mod Forms
+pub mod Heads
+pub mod Kinds
+pub mod Scripts
+pub mod Steps

@@ -1,0 +1,126 @@
+//! A script from its text.
+
+ghost use Rattle.std.specs.Prelude.{◌≡◌, ◌⊎◌, [], None, Ok, Some, MatchResult, Result};
+ghost use Rattle.std.specs.Option.{option_map};
+ghost use Rattle.toml.specs.Parse.{parse_document};
+ghost use Rattle.toml.specs.View.{items_view, table_view};
+ghost use Rattle.script_text.specs.Faults.{IsUnlessMemory, at_head};
+ghost use Rattle.script_text.specs.declared.fault.TableFault.{TableFault};
+ghost use Rattle.script_text.specs.declared.fault.ScriptKind.TheVariants.{Memory, NotToml};
+ghost use Rattle.script_text.specs.declared.script.Step.{Step as StepSaid};
+ghost use Rattle.script_text.specs.Scripts.{IsScriptUnlessMemory, document, items_in, listed_steps, next_step, script_in, script_of, steps_from, steps_in, with_step};
+
+use crate::fault::{ScriptFault, ScriptKind, TableFault};
+use crate::form::value_at;
+use crate::head::Head;
+use crate::head_keys::read_head;
+use crate::script::{Script, Step};
+use crate::step_keys::read_step;
+use pbft_codec::Sequence;
+use std::alloc::Global;
+use toml::{Table, Value};
+
+/// The most bytes of a script.
+pub const MAX_SCRIPT: usize = 1_048_576;
+
+/// The script that a text is. Of several faults that of the least step is reported, the head being step
+/// 0, and of those of one step the one of least number; a text of more than 1,048,576 bytes is
+/// `TooLong`, whatever is in it. `Memory` may come instead of any of these.
+pub fn read_script(alloc: Global, bytes: &[u8]) -> Result<Script, ScriptFault>
+    ensures { IsScriptUnlessMemory result (script_of bytes.now) }
+{
+    if bytes.len() > MAX_SCRIPT {
+        return Err(ScriptFault::at_head(ScriptKind::TooLong));
+    }
+    let table = read_document(alloc, bytes)?;
+    read_table(alloc, &table)
+}
+
+/// The script that a document is.
+fn read_table(alloc: Global, table: &Table) -> Result<Script, ScriptFault>
+    ensures { IsScriptUnlessMemory result (script_in (Some (table_view table.now))) }
+{
+    let head = match read_head(alloc, table) {
+        Ok(head) => head,
+        Err(fault) => return Err(fault.at_step(0)),
+    };
+    let steps = read_steps(alloc, &head, table)?;
+    Ok(Script {
+        head,
+        steps: Sequence::from_vec(steps),
+    })
+}
+
+/// The document that a text is.
+#[tactic(auto, using(crate::proofs::Documents::document_of_text, crate::proofs::Documents::document_of_others))]
+fn read_document(alloc: Global, bytes: &[u8]) -> Result<Table, ScriptFault>
+    ensures { MatchResult result (λ table. document bytes.now ≡ Some (table_view table)) (λ fault. (fault.kind ≡ Memory) ⊎ ((document bytes.now ≡ None) × (fault ≡ at_head NotToml))) }
+{
+    match str::from_utf8(bytes) {
+        Ok(text) => parsed(alloc, text),
+        Err(_) => Err(ScriptFault::at_head(ScriptKind::NotToml)),
+    }
+}
+
+fn parsed(alloc: Global, text: &str) -> Result<Table, ScriptFault>
+    ensures { MatchResult result (λ table. parse_document text.now ≡ Some (table_view table)) (λ fault. (fault.kind ≡ Memory) ⊎ ((parse_document text.now ≡ None) × (fault ≡ at_head NotToml))) }
+{
+    match toml::table_from_str(alloc, text) {
+        Ok(table) => Ok(table),
+        Err(error) if error.is_memory() => Err(ScriptFault::at_head(ScriptKind::Memory)),
+        Err(_) => Err(ScriptFault::at_head(ScriptKind::NotToml)),
+    }
+}
+
+/// The steps of a document, none of which has a fault.
+fn read_steps(alloc: Global, head: &Head, table: &Table) -> Result<Vec<Step>, ScriptFault>
+    ensures { IsScriptUnlessMemory (items_in result) (steps_in head.now (listed_steps (table_view table.now))) }
+{
+    match listed_steps(table) {
+        Some(values) => read_each_step(alloc, head, values),
+        None => Ok(Vec::new(alloc)),
+    }
+}
+
+/// The values of a document's steps.
+fn listed_steps(table: &Table) -> Option<&Vec<Value>>
+    ensures { option_map (λ values. items_view values.now.items) result ≡ listed_steps (table_view table.now) }
+{
+    value_at(table, "step")?.as_array()
+}
+
+fn read_each_step(alloc: Global, head: &Head, values: &[Value]) -> Result<Vec<Step>, ScriptFault>
+    ensures { IsScriptUnlessMemory (items_in result) (steps_from head.now 0 (Ok []) (items_view values.now)) }
+{
+    let mut steps = Vec::new(alloc);
+    let mut number = 0;
+    for value in values {
+        number = next_step(number);
+        steps = with_step(steps, number, read_step(alloc, head, value))?;
+    }
+    Ok(steps)
+}
+
+/// The number behind a step's; the last of 32 bits stays.
+fn next_step(number: u32) -> u32
+    ensures { result ≡ next_step number }
+{
+    number.saturating_add(1)
+}
+
+/// Steps with one more, of this number.
+fn with_step(
+    mut steps: Vec<Step>,
+    number: u32,
+    step: Result<Step, TableFault>,
+) -> Result<Vec<Step>, ScriptFault>
+    ensures { (s : Result StepSaid TableFault) → IsUnlessMemory step s → IsScriptUnlessMemory (items_in result) (with_step steps.items number s) }
+{
+    match step {
+        Ok(step) => match steps.push(step) {
+            Ok(()) => Ok(steps),
+            Err(_) => Err(TableFault::Memory.at_step(number)),
+        },
+        Err(fault) => Err(fault.at_step(number)),
+    }
+}

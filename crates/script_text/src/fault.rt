@@ -1,0 +1,146 @@
+//! Why a script is refused, or ends early.
+
+use std::alloc::{AllocError, AllocFailed};
+use thiserror::Error;
+
+/// Why a script is refused, or ends early.
+#[derive(Clone, Copy, Debug, PartialEq, Eq, Error)]
+pub enum ScriptKind {
+    /// The text is no TOML document.
+    #[error("NotToml")]
+    NotToml = 1,
+    /// A key that is needed is absent.
+    #[error("MissingKey")]
+    MissingKey = 2,
+    /// A value has the wrong type, or names what is not there.
+    #[error("WrongValue")]
+    WrongValue = 3,
+    /// A key has no meaning here.
+    #[error("UnknownKey")]
+    UnknownKey = 4,
+    /// The head is that of no configuration.
+    #[error("BadConfig")]
+    BadConfig = 5,
+    /// A step would deliver more than 1,000,000 messages.
+    #[error("TooManyDeliveries")]
+    TooManyDeliveries = 6,
+    /// The script has more than 1,048,576 bytes.
+    #[error("TooLong")]
+    TooLong = 7,
+    /// A read failed.
+    #[error("Read")]
+    Read = 8,
+    /// A write failed.
+    #[error("Write")]
+    Write = 9,
+    /// Memory ran out.
+    #[error("Memory")]
+    Memory = 10,
+}
+
+impl ScriptKind {
+    ghost use Rattle.std.specs.Prelude.{◌≡◌};
+    ghost use Rattle.script_text.specs.Faults.{number_of};
+
+    /// The fault's number.
+    pub fn number(&self) -> u8
+        ensures { result ≡ number_of self.now }
+    {
+        *self as u8
+    }
+}
+
+/// A fault of a script, and the step that has it: 0 for the head.
+#[derive(Clone, Copy, Debug, PartialEq, Eq, Error)]
+#[error("script fault {} {} step {}", .kind.number(), .kind, .step)]
+pub struct ScriptFault {
+    pub kind: ScriptKind,
+    pub step: u32,
+}
+
+impl ScriptFault {
+    ghost use Rattle.std.specs.Prelude.{◌≡◌};
+    ghost use Rattle.script_text.specs.Faults.{at_head};
+
+    /// A fault of the head, or before the first step.
+    pub fn at_head(kind: ScriptKind) -> ScriptFault
+        ensures { result ≡ at_head kind }
+    {
+        ScriptFault { kind, step: 0 }
+    }
+}
+
+/// Why a table of a document is refused. Of several faults the first of this list is reported.
+#[derive(Clone, Copy, Debug, PartialEq, Eq)]
+pub(crate) enum TableFault {
+    Memory = 0,
+    MissingKey = 1,
+    WrongValue = 2,
+    UnknownKey = 3,
+    BadConfig = 4,
+}
+
+impl From<AllocError> for TableFault {
+    ghost use Rattle.std.specs.Prelude.{◌≡◌};
+    ghost use Rattle.script_text.specs.declared.fault.TableFault.TheVariants.{Memory};
+
+    ghost from_gives = { λ _ gives. gives ≡ Memory };
+
+    fn from(_: AllocError) -> TableFault {
+        TableFault::Memory
+    }
+}
+
+impl<T: Drop> From<AllocFailed<T>> for TableFault {
+    ghost use Rattle.std.specs.Prelude.{◌≡◌};
+    ghost use Rattle.script_text.specs.declared.fault.TableFault.TheVariants.{Memory};
+
+    ghost from_gives = { λ _ gives. gives ≡ Memory };
+
+    fn from(_: AllocFailed<T>) -> TableFault {
+        TableFault::Memory
+    }
+}
+
+impl TableFault {
+    ghost use Rattle.std.specs.Prelude.{◌≡◌};
+    ghost use Rattle.script_text.specs.Faults.{kind_of, least};
+
+    /// The one of two faults that is reported.
+    pub fn least(self, other: TableFault) -> TableFault
+        ensures { result ≡ least self other }
+    {
+        if self as u8 <= other as u8 {
+            self
+        } else {
+            other
+        }
+    }
+
+    /// The fault, at a step.
+    pub fn at_step(self, step: u32) -> ScriptFault
+        ensures { result ≡ record { kind = kind_of self; step = step } }
+    {
+        ScriptFault {
+            kind: self.into(),
+            step,
+        }
+    }
+}
+
+impl From<TableFault> for ScriptKind {
+    ghost use Rattle.std.specs.Prelude.{◌≡◌};
+    ghost use Rattle.script_text.specs.Faults.{kind_of};
+
+    ghost from_gives = { λ fault gives. gives ≡ kind_of fault };
+
+    fn from(fault: TableFault) -> ScriptKind {
+        match fault {
+            TableFault::Memory => ScriptKind::Memory,
+            TableFault::MissingKey => ScriptKind::MissingKey,
+            TableFault::WrongValue => ScriptKind::WrongValue,
+            TableFault::UnknownKey => ScriptKind::UnknownKey,
+            TableFault::BadConfig => ScriptKind::BadConfig,
+        }
+    }
+}

@@ -1,0 +1,290 @@
+//! The keys of a script's head.
+
+ghost use Rattle.std.specs.Prelude.{◌≡◌, IfOk, is_none, map, replicate};
+ghost use Rattle.host_types.specs.Configuration.{fault_of};
+ghost use Rattle.toml.specs.View.{table_view};
+ghost use Rattle.script_text.specs.Faults.{IsUnlessMemory};
+ghost use Rattle.script_text.specs.Forms.{needed_head};
+ghost use Rattle.script_text.specs.Heads.{byte_of, count_of_faulty, given_or, head_from, head_in, head_of, if_legal, optional_faulty, optional_heights, keyless, keyless_configuration, listed_clients, named_count, no_key, optional_head, replica_count};
+
+use crate::fault::TableFault;
+use crate::form::{Form, both, needed, optional, value_at, with_only};
+use crate::head::Head;
+use crate::script::{Client, Secret};
+use crate::values::{
+    AnyTable, Integer, KeyHeight, ListOf, PerReplica, ReplicaIndex, SecretDigits, Word, table_of,
+};
+use host_types::{ClientEntry, ClientId, Config, ReplicaId, TenantId};
+use lms_tree::Height;
+use pbft_codec::Sequence;
+use std::alloc::{AllocError, Global};
+use toml::{Table, Value};
+
+/// The keys of a head.
+const HEAD_KEYS: [&str; 8] = [
+    "f",
+    "k",
+    "secret",
+    "heights",
+    "client_height",
+    "faulty",
+    "client",
+    "step",
+];
+
+/// The keys of a client.
+const CLIENT_KEYS: [&str; 2] = ["id", "tenant"];
+
+/// A key that no signature verifies under.
+const NO_KEY: [u8; 56] = [0; 56];
+
+/// The most replicas that may be faulty.
+const MAX_FAULTY: u8 = 3;
+
+/// What is needed of a head, as it is written.
+#[derive(Drop)]
+struct Needed {
+    f: i64,
+    k: i64,
+    secret: Secret,
+}
+
+/// What may be left out.
+#[derive(Drop)]
+struct Optional {
+    heights: Option<Sequence<Height>>,
+    client_height: Option<Height>,
+    faulty: Option<Sequence<ReplicaId>>,
+}
+
+/// The head of a document. Its first fault is reported.
+pub(crate) fn read_head(alloc: Global, table: &Table) -> Result<Head, TableFault>
+    ensures { IsUnlessMemory result (head_in (table_view table.now)) }
+{
+    let named = both(
+        read_needed(alloc, table),
+        both(read_optional(alloc, table), read_lists(alloc, table)),
+    );
+    let (needed, (optional, clients)) = with_only(named, table, &HEAD_KEYS)?;
+    head_from(alloc, needed, optional, clients)
+}
+
+/// The head of these values, or `BadConfig`.
+fn head_from(
+    alloc: Global,
+    needed: Needed,
+    optional: Optional,
+    clients: Option<Sequence<Client>>,
+) -> Result<Head, TableFault>
+    ensures { IsUnlessMemory result (head_from (byte_of needed.f) (byte_of needed.k) needed.secret optional clients) }
+{
+    match (byte_of(needed.f), byte_of(needed.k)) {
+        (Some(f), Some(k)) => legal_head(alloc, f, k, needed.secret, optional, clients),
+        _ => Err(TableFault::BadConfig),
+    }
+}
+
+/// An integer that is a byte.
+fn byte_of(integer: i64) -> Option<u8>
+    ensures { result ≡ byte_of integer }
+{
+    match u8::try_from(integer) {
+        Ok(byte) => Some(byte),
+        Err(_) => None,
+    }
+}
+
+/// The head of these values, if it is that of a configuration.
+fn legal_head(
+    alloc: Global,
+    f: u8,
+    k: u8,
+    secret: Secret,
+    optional: Optional,
+    clients: Option<Sequence<Client>>,
+) -> Result<Head, TableFault>
+    ensures { IsUnlessMemory result (if_legal (head_of f k secret optional clients)) }
+{
+    let clients = given_or(clients, Sequence::from_vec(Vec::new(alloc)));
+    let legal = is_legal(alloc, f, k, clients.as_slice())?;
+    let faulty = given_or(optional.faulty, Sequence::from_vec(Vec::new(alloc)));
+    if !legal {
+        return Err(TableFault::BadConfig);
+    }
+    Ok(Head {
+        f,
+        k,
+        secret,
+        heights: optional.heights,
+        client_height: given_or(optional.client_height, Height::H5),
+        faulty,
+        clients,
+    })
+}
+
+/// The number of replicas for a legal number of faulty ones.
+fn replica_count(f: i64) -> Option<u8>
+    ensures { result ≡ replica_count f }
+{
+    match f {
+        1 => Some(4),
+        2 => Some(7),
+        3 => Some(10),
+        _ => None,
+    }
+}
+
+/// The number of replicas for the number of faulty ones that a table names.
+fn named_count(table: &Table) -> Option<u8>
+    ensures { result ≡ named_count (table_view table.now) }
+{
+    let value = value_at(table, "f")?;
+    replica_count(value.as_integer()?)
+}
+
+fn read_needed(alloc: Global, table: &Table) -> Result<Needed, TableFault>
+    ensures { IsUnlessMemory result (needed_head (table_view table.now)) }
+{
+    let (f, (k, secret)) = both(
+        needed(alloc, table, "f", &Integer),
+        both(
+            needed(alloc, table, "k", &Integer),
+            needed(alloc, table, "secret", &SecretDigits),
+        ),
+    )?;
+    Ok(Needed { f, k, secret })
+}
+
+fn read_optional(alloc: Global, table: &Table) -> Result<Optional, TableFault>
+    ensures { IsUnlessMemory result (optional_head (table_view table.now)) }
+{
+    let (heights, (client_height, faulty)) = both(
+        read_heights(alloc, table),
+        both(
+            optional(alloc, table, "client_height", &KeyHeight),
+            read_faulty(alloc, table),
+        ),
+    )?;
+    Ok(Optional {
+        heights,
+        client_height,
+        faulty,
+    })
+}
+
+/// The heights of the replicas' keys, one for each of them.
+fn read_heights(alloc: Global, table: &Table) -> Result<Option<Sequence<Height>>, TableFault>
+    ensures { IsUnlessMemory result (optional_heights (table_view table.now)) }
+{
+    let form = PerReplica {
+        count: named_count(table),
+        form: KeyHeight,
+    };
+    optional(alloc, table, "heights", &form)
+}
+
+/// The faulty ones among the replicas.
+fn read_faulty(alloc: Global, table: &Table) -> Result<Option<Sequence<ReplicaId>>, TableFault>
+    ensures { IsUnlessMemory result (optional_faulty (table_view table.now)) }
+{
+    let form = ReplicaIndex {
+        count: count_of_faulty(table),
+    };
+    optional(alloc, table, "faulty", &ListOf(form))
+}
+
+/// Below which count a faulty replica's index is: any byte's where the number of replicas isn't known.
+fn count_of_faulty(table: &Table) -> u8
+    ensures { result ≡ count_of_faulty (table_view table.now) }
+{
+    match named_count(table) {
+        Some(count) => count,
+        None => u8::MAX,
+    }
+}
+
+/// The clients, if the steps are a list of tables too.
+fn read_lists(alloc: Global, table: &Table) -> Result<Option<Sequence<Client>>, TableFault>
+    ensures { IsUnlessMemory result (listed_clients (table_view table.now)) }
+{
+    let (clients, _) = both(
+        optional(alloc, table, "client", &ListOf(ClientTable)),
+        optional(alloc, table, "step", &ListOf(AnyTable)),
+    )?;
+    Ok(clients)
+}
+
+/// A client's table.
+#[derive(Clone, Copy)]
+struct ClientTable;
+
+impl Form for ClientTable {
+    ghost use Rattle.script_text.specs.Forms.{client};
+
+    ghost reads = { λ _ d. client d };
+
+    type Says = Client;
+
+    fn read(&self, alloc: Global, value: &Value) -> Result<Client, TableFault> {
+        let table = table_of(value)?;
+        let named = both(
+            needed(alloc, table, "id", &Word),
+            needed(alloc, table, "tenant", &Word),
+        );
+        let (id, tenant) = with_only(named, table, &CLIENT_KEYS)?;
+        Ok(Client {
+            id: ClientId(id),
+            tenant: TenantId(tenant),
+        })
+    }
+}
+
+/// Whether this is the head of a configuration, whatever the keys.
+fn is_legal(alloc: Global, f: u8, k: u8, clients: &[Client]) -> Result<bool, AllocError>
+    ensures { IfOk result (λ legal. legal ≡ is_none (fault_of (keyless_configuration f k clients.now))) }
+{
+    if f > MAX_FAULTY {
+        return Ok(false);
+    }
+    let keys = no_keys(alloc, 3 * f + 1)?;
+    let clients = keyless_entries(alloc, clients)?;
+    Ok(Config::new(f, k, keys, clients).is_ok())
+}
+
+/// So many keys that no signature verifies under.
+fn no_keys(alloc: Global, count: u8) -> Result<Vec<[u8; 56]>, AllocError>
+    ensures { IfOk result (λ keys. keys.items ≡ replicate count no_key) }
+{
+    let mut keys = Vec::new(alloc);
+    for _ in 0..count {
+        keys.push(NO_KEY)?;
+    }
+    Ok(keys)
+}
+
+/// Entries of clients whose keys no signature verifies under.
+fn keyless_entries(alloc: Global, clients: &[Client]) -> Result<Vec<ClientEntry>, AllocError>
+    ensures { IfOk result (λ entries. entries.items ≡ map keyless clients.now) }
+{
+    clients.iter().map(keyless).collect(alloc)
+}
+
+fn keyless(client: &Client) -> ClientEntry
+    ensures { result ≡ keyless client.now }
+{
+    ClientEntry {
+        id: client.id,
+        tenant: client.tenant,
+        key: NO_KEY,
+    }
+}
+
+/// What is given, or else another.
+fn given_or<T: Drop>(given: Option<T>, other: T) -> T
+    ensures { result ≡ given_or given other }
+{
+    match given {
+        Some(given) => given,
+        None => other,
+    }
+}

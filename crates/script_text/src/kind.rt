@@ -1,0 +1,73 @@
+//! The kinds of messages, by their names in a script.
+
+use pbft_codec::Body;
+use seal::VoteKind;
+
+/// A kind of message, by its name in a script.
+#[derive(Clone, Copy, Debug, PartialEq, Eq)]
+pub enum Kind {
+    Request,
+    PrePrepare,
+    Prepare,
+    Commit,
+    Reply,
+    Checkpoint,
+    ViewChange,
+    NewView,
+    Fetch,
+    Snapshot,
+}
+
+impl Kind {
+    ghost use Rattle.std.specs.Prelude.{◌≡◌};
+    ghost use Rattle.script_text.specs.Forms.{kind_named};
+    ghost use Rattle.script_text.specs.Kinds.{kind_of_body, kind_of_vote};
+
+    /// The kind of a body.
+    pub fn of(body: &Body) -> Kind
+        ensures { result ≡ kind_of_body body.now }
+    {
+        match body {
+            Body::Request(_) => Kind::Request,
+            Body::PrePrepare(_) => Kind::PrePrepare,
+            Body::Prepare(_) => Kind::Prepare,
+            Body::Commit(_) => Kind::Commit,
+            Body::Reply(_) => Kind::Reply,
+            Body::Checkpoint(_) => Kind::Checkpoint,
+            Body::ViewChange(_) => Kind::ViewChange,
+            Body::NewView(_) => Kind::NewView,
+            Body::Fetch(_) => Kind::Fetch,
+            Body::Snapshot(_) => Kind::Snapshot,
+        }
+    }
+
+    /// The kind of a vote.
+    pub fn of_vote(vote: VoteKind) -> Kind
+        ensures { result ≡ kind_of_vote vote }
+    {
+        match vote {
+            VoteKind::PrePrepare => Kind::PrePrepare,
+            VoteKind::Prepare => Kind::Prepare,
+            VoteKind::Commit => Kind::Commit,
+        }
+    }
+
+    /// The kind of this name.
+    pub(crate) fn named(name: &str) -> Option<Kind>
+        ensures { result ≡ kind_named name.now }
+    {
+        match name {
+            "request" => Some(Kind::Request),
+            "pre-prepare" => Some(Kind::PrePrepare),
+            "prepare" => Some(Kind::Prepare),
+            "commit" => Some(Kind::Commit),
+            "reply" => Some(Kind::Reply),
+            "checkpoint" => Some(Kind::Checkpoint),
+            "view-change" => Some(Kind::ViewChange),
+            "new-view" => Some(Kind::NewView),
+            "fetch" => Some(Kind::Fetch),
+            "snapshot" => Some(Kind::Snapshot),
+            _ => None,
+        }
+    }
+}

@@ -1,0 +1,26 @@
+//! The text of a script: a TOML document of a group of replicas, its clients, and steps. Every step is
+//! judged before the first one runs.
+//!
+//!     let script = read_script(alloc, &bytes)?;
+//!     for step in script.steps.as_slice() {
+//!         run(step)?;
+//!     }
+#![tactic(auto)]
+
+mod document;
+mod fault;
+mod form;
+mod head;
+mod head_keys;
+mod kind;
+mod script;
+mod step_keys;
+mod values;
+
+pub use document::{MAX_SCRIPT, read_script};
+pub use fault::{ScriptFault, ScriptKind};
+pub use head::Head;
+pub use kind::Kind;
+pub use script::{
+    Client, Filter, Forgery, Number, Operation, Order, Place, Script, ScriptBytes, Secret, Step,
+};

@@ -1,0 +1,192 @@
+//! What a script says.
+
+ghost use Rattle.std.specs.Prelude.{◌≡◌, ◌≤◌, ◌<◌, ◌^◌, length};
+
+use crate::head::Head;
+use crate::kind::Kind;
+use host_types::{Bytes, ClientId, ReplicaId, SeqNo, TenantId, View};
+use pbft_codec::Sequence;
+use seal::VoteKind;
+use std::marker::Model;
+
+/// A script that was read: its head, and its steps in order.
+#[derive(Drop)]
+pub struct Script {
+    pub head: Head,
+    pub steps: Sequence<Step>,
+}
+
+/// What all keys of a script are made of.
+#[derive(Clone, Copy)]
+pub struct Secret(pub [u8; 32]);
+
+/// A client of a script.
+#[derive(Clone, Copy, Debug, PartialEq, Eq)]
+pub struct Client {
+    pub id: ClientId,
+    pub tenant: TenantId,
+}
+
+/// A replica or a client.
+#[derive(Clone, Copy, Debug, PartialEq, Eq)]
+pub enum Place {
+    Replica(ReplicaId),
+    Client(ClientId),
+}
+
+/// Which messages of the queue are meant. A list that is left out matches every message.
+#[derive(Drop)]
+pub struct Filter {
+    pub from: Option<Sequence<Place>>,
+    pub to: Option<Sequence<Place>>,
+    pub kinds: Option<Sequence<Kind>>,
+}
+
+/// A vote that a faulty replica signs.
+#[derive(Drop)]
+pub struct Forgery {
+    pub from: ReplicaId,
+    pub to: Sequence<Place>,
+    pub kind: VoteKind,
+    pub view: View,
+    pub number: Number,
+    /// The client and the time of the request that is named; none for the null request.
+    pub request: Option<(ClientId, u64)>,
+}
+
+/// Bytes that a script gives: at most 524,288, since a script has no more than twice as many digits.
+#[derive(Drop)]
+pub struct ScriptBytes {
+    bytes: Bytes,
+}
+
+impl Model for ScriptBytes {
+    ghost use Rattle.std.specs.Prelude.{ℕ, ◌≤◌, List, length};
+
+    ghost Value = { List ℕ };
+
+    ghost view = { λ b. b.bytes };
+
+    ghost invariant = { λ b. length b.bytes ≤ 524288 };
+}
+
+impl ScriptBytes {
+    pub(crate) fn new(bytes: Bytes) -> ScriptBytes
+        requires { length bytes ≤ 524288 }
+        ensures { result ≡ bytes }
+    {
+        ScriptBytes { bytes }
+    }
+
+    /// The bytes as a slice.
+    pub fn as_slice(&self) -> &[u8]
+        ensures value { result.now ≡ self.now }
+        ensures short { length result.now ≤ 524288 }
+    {
+        self.bytes.as_slice()
+    }
+}
+
+/// A sequence number: below 2^48.
+#[derive(Drop)]
+pub struct Number {
+    number: SeqNo,
+}
+
+impl Model for Number {
+    ghost use Rattle.std.specs.Prelude.{◌<◌, ◌^◌};
+    ghost use Rattle.host_types.specs.declared.SeqNo.{SeqNo};
+
+    ghost Value = { SeqNo };
+
+    ghost view = { λ n. n.number };
+
+    ghost invariant = { λ n. n.number.0 < 2 ^ 48 };
+}
+
+impl Number {
+    pub(crate) fn new(number: SeqNo) -> Number
+        requires { number.0 < 2 ^ 48 }
+        ensures { result ≡ number }
+    {
+        Number { number }
+    }
+
+    /// The sequence number.
+    pub fn get(&self) -> SeqNo
+        ensures value { result ≡ self.now }
+        ensures small { result.0 < 2 ^ 48 }
+    {
+        self.number
+    }
+}
+
+/// What a client asks for: at most 1,048,576 bytes.
+#[derive(Drop)]
+pub struct Operation {
+    bytes: Bytes,
+}
+
+impl Model for Operation {
+    ghost use Rattle.std.specs.Prelude.{ℕ, ◌≤◌, List, length};
+
+    ghost Value = { List ℕ };
+
+    ghost view = { λ op. op.bytes };
+
+    ghost invariant = { λ op. length op.bytes ≤ 1048576 };
+}
+
+impl Operation {
+    pub(crate) fn new(bytes: Bytes) -> Operation
+        requires { length bytes ≤ 1048576 }
+        ensures { result ≡ bytes }
+    {
+        Operation { bytes }
+    }
+
+    /// The bytes as a slice.
+    pub fn as_slice(&self) -> &[u8]
+        ensures value { result.now ≡ self.now }
+        ensures short { length result.now ≤ 1048576 }
+    {
+        self.bytes.as_slice()
+    }
+}
+
+/// A client's request.
+#[derive(Drop)]
+pub struct Order {
+    pub client: ClientId,
+    pub op: Operation,
+    /// Whom it is queued for; all replicas where it is left out.
+    pub to: Option<Sequence<Place>>,
+}
+
+/// A step of a script.
+#[derive(Drop)]
+pub enum Step {
+    /// Queues a signed request.
+    Request(Order),
+    /// Delivers each message that is meant, and what comes of it where that is meant too.
+    Deliver(Filter),
+    /// Removes each message that is meant.
+    Drop(Filter),
+    /// Queues each message that is meant once more.
+    Repeat(Filter),
+    /// Timeouts at these replicas, in this order.
+    Timeout(Sequence<ReplicaId>),
+    /// Queues a vote that a faulty replica signs.
+    Forge(Forgery),
+    /// Queues these bytes, which have no sender or kind.
+    Raw {
+        to: Sequence<Place>,
+        bytes: ScriptBytes,
+    },
+    /// Prints where each correct replica stands.
+    Show,
+    /// Prints the digest of each correct replica's state.
+    Digest,
+    /// Prints the bytes of a replica's state.
+    State(ReplicaId),
+}
