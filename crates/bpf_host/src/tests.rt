@@ -5,6 +5,8 @@ use std::io::{self, Read, Write};
 use std::process::Abort;
 use std::test::Fail;
 
+mod calls;
+mod helpers;
 mod instructions;
 mod rows;
 mod texts;
@@ -98,8 +100,42 @@ fn results_of_accepted_code(rt: HostRuntime) -> Result<(), Fail> {
 }
 
 #[test]
+fn results_of_every_helper(rt: HostRuntime) -> Result<(), Fail> {
+    run_rows(&rt, helpers::RESULTS)
+}
+
+#[test]
 fn results_of_every_instruction(rt: HostRuntime) -> Result<(), Fail> {
     run_rows(&rt, instructions::RESULTS)
+}
+
+#[test]
+fn results_of_local_calls(rt: HostRuntime) -> Result<(), Fail> {
+    run_rows(&rt, calls::CALLS)
+}
+
+/// The code of seven functions that each call the next one twice, the last of them one of straight code.
+fn code_of_two_calls_each<R: AllocGlobal>(rt: &R, moves: usize) -> Result<String, Fail> {
+    let mut code = "851000000200000085100000010000009500000000000000".repeat(rt.alloc(), 7)?;
+    code.push_str("b700000000000000".repeat(rt.alloc(), moves)?.as_str())?;
+    code.push_str("9500000000000000")?;
+    Ok(code)
+}
+
+#[test]
+fn bounds_near_the_greatest(rt: HostRuntime) -> Result<(), Fail> {
+    let cases = [
+        (508, 0, "accepted bound 65533"),
+        (509, 1, "refused 20 TooComplex at 413"),
+    ];
+    for (moves, status, output) in cases {
+        let code = code_of_two_calls_each(&rt, moves)?;
+        assert!(rt;
+            ends_so(&rt, &["bpf_host", "verify"], &code, status, output)?,
+            "{output}"
+        );
+    }
+    Ok(())
 }
 
 #[test]
@@ -196,7 +232,7 @@ fn runs_of_the_program(rt: HostRuntime) -> Result<(), Fail> {
         ),
         (
             &["bpf_host", "verify"],
-            "8500000003000000 9500000000000000",
+            "8500000008000000 9500000000000000",
             1,
             "refused 14 UnknownHelper at 0\n",
         ),

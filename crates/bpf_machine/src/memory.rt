@@ -5,21 +5,21 @@ ghost use Rattle.bpf_decode.specs.declared.insn.Size.TheVariants.{B, H, W};
 ghost use Rattle.bpf_machine.specs.Represents.{InBounds, index_of, extended};
 
 use bpf_decode::Size;
-use bpf_model::layout::{ARGUMENTS_SIZE, ARGUMENTS_START, FRAME_SIZE, FRAME_START};
+use bpf_model::layout::{ARGUMENTS_SIZE, ARGUMENTS_START, FRAME_START, STACK_SIZE};
 
-/// The bytes that code can reach: the frame's, and behind them those of the arguments. A byte of the
-/// frame that was never written has some value that is never read.
+/// The bytes that code can reach: the stack's, and behind them those of the arguments. A byte of the
+/// stack that isn't initialized has some value that is never read.
 #[derive(Drop)]
 pub struct Memory {
-    bytes: [u8; FRAME_SIZE + ARGUMENTS_SIZE],
+    bytes: [u8; STACK_SIZE + ARGUMENTS_SIZE],
 }
 
 impl Memory {
-    ghost use Rattle.std.specs.Prelude.{◌≡◌, ℕ, List, ◌<◌, ◌≤◌, Some, length};
+    ghost use Rattle.std.specs.Prelude.{◌≡◌, ◌⊎◌, ℕ, List, ◌<◌, ◌≤◌, Some, length, take, drop};
     ghost use Rattle.tenant_maps.specs.Entries.{Entries};
     ghost use Rattle.bpf_model.specs.Machine.{Memory as Bytes, bytes_at, start, stored};
     ghost use Rattle.bpf_model.specs.Access.{bytes_of, loaded, stored_bytes};
-    ghost use Rattle.bpf_machine.specs.Represents.{InBounds, RepresentsMemory, call_of};
+    ghost use Rattle.bpf_machine.specs.Represents.{InBounds, RepresentsMemory, call_of, index_of};
 
     /// As a call begins: the arguments, with zeros behind them.
     pub fn at_start(args: &[u8]) -> Memory
@@ -27,8 +27,8 @@ impl Memory {
         ensures { (client : ℕ) (entries : Entries) →
             let m = start (call_of args.now client entries) in RepresentsMemory result.bytes m.memory }
     {
-        let mut bytes = [0; FRAME_SIZE + ARGUMENTS_SIZE];
-        bytes[FRAME_SIZE..FRAME_SIZE + args.len()].copy_from_slice(args);
+        let mut bytes = [0; STACK_SIZE + ARGUMENTS_SIZE];
+        bytes[STACK_SIZE..STACK_SIZE + args.len()].copy_from_slice(args);
         Memory { bytes }
     }
 
@@ -73,6 +73,29 @@ impl Memory {
         bytes
     }
 
+    /// So many bytes from an address on; none where that is 0.
+    pub fn slice(&self, address: u64, size: u64) -> &[u8]
+        requires { (size ≡ 0) ⊎ InBounds address size }
+        ensures { result.now ≡ take size (drop (index_of address) self.now.bytes) }
+    {
+        if size == 0 {
+            return &[];
+        }
+        let at = index_of(address);
+        &self.bytes[at..at + size as usize]
+    }
+
+    /// Writes bytes, at least one, from an address on.
+    pub fn put_slice(&mut self, address: u64, bytes: &[u8])
+        requires some { 0 < length bytes.now }
+        requires inside { InBounds address (length bytes.now) }
+        ensures { (memory : Bytes) → RepresentsMemory self.old.bytes memory →
+            RepresentsMemory self.new.bytes (stored memory address bytes.now) }
+    {
+        let at = index_of(address);
+        self.bytes[at..at + bytes.len()].copy_from_slice(bytes);
+    }
+
     /// Writes bytes from an address on.
     pub fn put_bytes<const N: usize>(&mut self, address: u64, bytes: [u8; N])
         requires some { 0 < N }
@@ -93,7 +116,7 @@ fn index_of(address: u64) -> usize
     if address < ARGUMENTS_START {
         (address - FRAME_START) as usize
     } else {
-        FRAME_SIZE + (address - ARGUMENTS_START) as usize
+        STACK_SIZE + (address - ARGUMENTS_START) as usize
     }
 }
 

@@ -1,17 +1,18 @@
 -- Edges of code whose structure has no fault lead forward, each to an instruction.
 use Rattle.std.proofs.Common.{◌≡◌, ◌⊎◌, ℕ, zero, suc, ◌+◌, ◌<◌, ◌≤◌, true, false, ◌&&◌, leb, List, [], ◌∷◌, ◌++◌, length, Option, Some, None, ℤ, pos, negsuc, refl, sym, ap, subst, ◌∙◌, arith, inl, inr}
+use Rattle.std.specs.Prelude.{option_and_then}
 use Rattle.std.specs.Option.{is_none}
 use Rattle.std.proofs.lemmas.Bool.{leb-false}
 use Rattle.bpf_decode.specs.declared.insn.Insn.{Insn}
 use Rattle.bpf_decode.specs.declared.insn.Insn.TheVariants.{Alu, Swap, LoadImm, Load, StoreImm, Store, Jump, JumpLong, Test, CallHelper, CallLocal, Exit}
-use Rattle.bpf_decode.specs.Faults.{IsCode}
+use Rattle.bpf_num.specs.Bind.{◌>>=◌}
 use Rattle.bpf_model.specs.Code.{slots_of, insns_by_slot, insn_at, target_of}
 use Rattle.bpf_model.specs.declared.fault.VerifyFault.TheVariants.{JumpBackward, JumpOutside, FallsOffEnd, UnknownHelper, WritesFramePointer}
 use Rattle.bpf_model.specs.AbstractState.{AbstractState, Edge, edge, edge_if, edges, after_test, IsOneOf}
-use Rattle.bpf_model.specs.Dataflow.{edges_of, state_at, edges_at, Path}
+use Rattle.bpf_model.specs.Dataflow.{Activation, called, behind, edges_of, state_at, edges_at}
 use Rattle.bpf_model.specs.Verdict.{structure_fault, insn_structure_fault, slot_structure_fault, jumps_back, is_backward, offset_of, leads_outside, falls_through, calls_unknown, writes_r10}
 use Rattle.bpf_model.proofs.Options.{some_is, no_fault_of_five}
-use Rattle.bpf_model.proofs.Slots.{some_slots, insn_at_less, next_at, few}
+use Rattle.bpf_model.proofs.Slots.{some_slots, insn_at_less, next_at}
 
 -- what a slot's having no fault of structure says
 pub record Stands (code : List Insn) (slot : ℕ) (x : Insn) : Type 0 where
@@ -79,23 +80,23 @@ one_of_append e (x ∷ xs) ys (inl is) = inl (inl is)
 one_of_append e (x ∷ xs) ys (inr h) = elim (one_of_append e xs ys h) [ inl l ↦ inl (inr l) | inr r ↦ inr r ]
 
 -- each edge out of an instruction that has no fault does
-pub edge_leads : (code : List Insn) (slot : ℕ) (state : AbstractState) (x : Insn) (e : Edge) → insn_at code slot ≡ Some x → Stands code slot x → IsOneOf e (edges slot state x) → LeadsOn code slot e
-edge_leads code slot state (Alu width op dst src) e is ok h = onward_leads code slot (Alu width op dst src) _ e is ok.behind h
-edge_leads code slot state (Swap kind width dst) e is ok h = onward_leads code slot (Swap kind width dst) _ e is ok.behind h
-edge_leads code slot state (LoadImm dst value) e is ok h = onward_leads code slot (LoadImm dst value) _ e is ok.behind h
-edge_leads code slot state (Load size signed dst base offset) e is ok h =
+pub edge_leads : (b : ℕ → AbstractState → Option AbstractState) (code : List Insn) (slot : ℕ) (state : AbstractState) (x : Insn) (e : Edge) → insn_at code slot ≡ Some x → Stands code slot x → IsOneOf e (edges b slot state x) → LeadsOn code slot e
+edge_leads b code slot state (Alu width op dst src) e is ok h = onward_leads code slot (Alu width op dst src) _ e is ok.behind h
+edge_leads b code slot state (Swap kind width dst) e is ok h = onward_leads code slot (Swap kind width dst) _ e is ok.behind h
+edge_leads b code slot state (LoadImm dst value) e is ok h = onward_leads code slot (LoadImm dst value) _ e is ok.behind h
+edge_leads b code slot state (Load size signed dst base offset) e is ok h =
     onward_leads code slot (Load size signed dst base offset) _ e is ok.behind h
-edge_leads code slot state (StoreImm size base offset imm) e is ok h =
+edge_leads b code slot state (StoreImm size base offset imm) e is ok h =
     onward_leads code slot (StoreImm size base offset imm) _ e is ok.behind h
-edge_leads code slot state (Store size base offset src) e is ok h =
+edge_leads b code slot state (Store size base offset src) e is ok h =
     onward_leads code slot (Store size base offset src) _ e is ok.behind h
-edge_leads code slot state (Jump offset) e is ok h =
+edge_leads b code slot state (Jump offset) e is ok h =
     let lands = jump_lands code slot offset ok.forward ok.lands in
     if_leads code slot lands.target (target_of slot offset) (Some state) e lands.target_is lands.later lands.begins h
-edge_leads code slot state (JumpLong offset) e is ok h =
+edge_leads b code slot state (JumpLong offset) e is ok h =
     let lands = jump_lands code slot offset ok.forward ok.lands in
     if_leads code slot lands.target (target_of slot offset) (Some state) e lands.target_is lands.later lands.begins h
-edge_leads code slot state (Test narrow test dst src offset) e is ok h =
+edge_leads b code slot state (Test narrow test dst src offset) e is ok h =
     let lands = jump_lands code slot offset ok.forward ok.lands in
     elim (one_of_append e (edge_if (Some (slot + 1)) (after_test state narrow test dst.number src false)) (edge_if (target_of slot offset) (after_test state narrow test dst.number src true)) h) [
       | inl l ↦
@@ -103,36 +104,42 @@ edge_leads code slot state (Test narrow test dst src offset) e is ok h =
       | inr r ↦
           if_leads code slot lands.target (target_of slot offset) (after_test state narrow test dst.number src true) e lands.target_is lands.later lands.begins r
     ]
-edge_leads code slot state (CallHelper number) e is ok h = onward_leads code slot (CallHelper number) _ e is ok.behind h
-edge_leads code slot state (CallLocal offset) e is ok h = absurd h
-edge_leads code slot state Exit e is ok h = absurd h
+edge_leads b code slot state (CallHelper number) e is ok h = onward_leads code slot (CallHelper number) _ e is ok.behind h
+edge_leads b code slot state (CallLocal offset) e is ok h =
+    if_leads code slot (slot + 1) (Some (slot + 1)) (target_of slot offset >>= λ target. b target state) e refl (omega arith) (falls_to code slot (CallLocal offset) is ok.behind) h
+edge_leads b code slot state Exit e is ok h = absurd h
 
 -- where an edge comes from
-pub edge_from : (s : ℕ) (o : Option AbstractState) (i : Option Insn) (e : Edge) → IsOneOf e (edges_of s o i) → (state : AbstractState) × (x : Insn) × (o ≡ Some state) × (i ≡ Some x) × IsOneOf e (edges s state x)
-edge_from s None i e h = absurd h
-edge_from s (Some state) None e h = absurd h
-edge_from s (Some state) (Some x) e h = (state, x, refl, refl, h)
+pub edge_from : (a : Activation) (s : ℕ) (o : Option AbstractState) (i : Option Insn) (e : Edge) → IsOneOf e (edges_of a s o i) → (state : AbstractState) × (x : Insn) × (o ≡ Some state) × (i ≡ Some x) × IsOneOf e (edges (behind a) s state x)
+edge_from a s None i e h = absurd h
+edge_from a s (Some state) None e h = absurd h
+edge_from a s (Some state) (Some x) e h = (state, x, refl, refl, h)
 
 -- so does each edge out of a slot
-pub edges_lead : (code : List Insn) (slot : ℕ) (e : Edge) → structure_fault code slot ≡ None → IsOneOf e (edges_at code slot) → LeadsOn code slot e
-edges_lead code slot e sound one =
-    let from = edge_from slot (state_at code slot) (insn_at code slot) e one in
-    edge_leads code slot from.0 from.1 e from.3 (stands code slot from.1 sound from.3) from.4
+pub edges_lead : (code : List Insn) (a : Activation) (slot : ℕ) (e : Edge) → structure_fault code slot ≡ None → IsOneOf e (edges_at code a slot) → LeadsOn code slot e
+edges_lead code a slot e sound one =
+    let from = edge_from a slot (state_at code a slot) (insn_at code slot) e one in
+    edge_leads (behind a) code slot from.0 from.1 e from.3 (stands code slot from.1 sound from.3) from.4
 
 -- an edge leads to a later slot of the code
-pub edge_within : (code : List Insn) (slot : ℕ) (e : Edge) → structure_fault code slot ≡ None → IsOneOf e (edges_at code slot) → (slot < e.target) × (e.target < length (insns_by_slot code))
-edge_within code slot e sound one =
-    let leads = edges_lead code slot e sound one in
+pub edge_within : (code : List Insn) (a : Activation) (slot : ℕ) (e : Edge) → structure_fault code slot ≡ None → IsOneOf e (edges_at code a slot) → (slot < e.target) × (e.target < length (insns_by_slot code))
+edge_within code a slot e sound one =
+    let leads = edges_lead code a slot e sound one in
     let begins = leads.begins in
     (leads.later, insn_at_less code e.target begins.0 begins.1)
 
--- a path leads to a slot of the code, and has no more edges than slots before it
-pub path_within : (bytes : List ℕ) (code : List Insn) → IsCode bytes code → ((slot : ℕ) → structure_fault code slot ≡ None) → (n t : ℕ) → Path code n t → (n ≤ t) × (t < length (insns_by_slot code))
-path_within bytes code c structure zero t e = let some = (few bytes code c).0 in (omega arith, omega arith)
-path_within bytes code c structure (suc n) t (s, e, path, one_of, target) =
-    let before = path_within bytes code c structure n s path in
-    let within = edge_within code s e (structure s) one_of in
-    let later = within.0 in
-    let inside = within.1 in
-    let most = before.0 in
-    (omega arith, omega arith)
+-- the slot that a local call leads to, which lies in the code
+pub called_begins : (code : List Insn) (slot : ℕ) (x : Insn) (t : ℕ) → Stands code slot x → called slot x ≡ Some t → BeginsAt code t
+called_begins code slot (Alu width op dst src) t ok e = absurd cc
+called_begins code slot (Swap kind width dst) t ok e = absurd cc
+called_begins code slot (LoadImm dst value) t ok e = absurd cc
+called_begins code slot (Load size signed dst base offset) t ok e = absurd cc
+called_begins code slot (StoreImm size base offset imm) t ok e = absurd cc
+called_begins code slot (Store size base offset src) t ok e = absurd cc
+called_begins code slot (Jump offset) t ok e = absurd cc
+called_begins code slot (JumpLong offset) t ok e = absurd cc
+called_begins code slot (Test narrow test dst src offset) t ok e = absurd cc
+called_begins code slot (CallHelper number) t ok e = absurd cc
+called_begins code slot (CallLocal offset) t ok e =
+    begins_there (insn_at code t) (sym (ap (λ (o : Option ℕ). is_none (option_and_then (insn_at code) o)) e) ∙ ok.lands)
+called_begins code slot Exit t ok e = absurd cc

@@ -1,24 +1,34 @@
--- What an instruction leaves as it was: the output, and but for a helper the tenant's map.
-use Rattle.std.proofs.Common.{◌≡◌, ℕ, ◌+◌, Bool, true, false, cond, eqb, List, [], ◌∷◌, length, Some, None, ℤ, refl, sym, ap, subst}
+-- What an instruction leaves: the output within 256 bytes, and but for a helper the tenant's map as it was.
+use Rattle.std.proofs.Common.{◌≡◌, ℕ, ◌+◌, ◌≤◌, Bool, true, false, cond, eqb, List, [], ◌∷◌, length, Some, None, ℤ, refl, sym, ap, subst}
+use Rattle.std.specs.Prelude.{nat_lt}
 use Rattle.std.specs.FinMap as finite
 use Rattle.bpf_decode.specs.declared.insn.Insn.{Insn}
 use Rattle.bpf_decode.specs.declared.insn.Insn.TheVariants.{Alu, Swap, LoadImm, Load, StoreImm, Store, Jump, JumpLong, Test, CallHelper, CallLocal, Exit}
 use Rattle.tenant_maps.specs.Entries.{Entries}
-use Rattle.bpf_model.specs.declared.helper.Helper.{Helper}
+use Rattle.map_helpers.specs.declared.helper.Helper.{Helper}
+use Rattle.map_helpers.specs.Helpers.{helper_of, reads}
+use Rattle.map_helpers.specs.Effects.{effect_of}
+use Rattle.map_helpers.proofs.Kept.{output_short}
 use Rattle.bpf_model.specs.Access.{bytes_of, address_of, stored_bytes}
 use Rattle.bpf_model.specs.Code.{insn_at, target_of}
-use Rattle.bpf_model.specs.Machine.{Machine, Frame, Memory, is_in_bounds, bytes_at}
-use Rattle.bpf_model.specs.Helpers.{Answer, answer_of, helper_of}
-use Rattle.bpf_model.specs.Step.{Next, Continues, Ends, source_value, destination_value, tested_value, written, stores, jumps, branches, after_answer, returned, effect, step}
+use Rattle.bpf_model.specs.Machine.{Machine, Frame, Memory, frames, is_in_bounds, bytes_at}
+use Rattle.bpf_model.specs.HelperCalls.{bytes_read, context, answer_of}
+use Rattle.bpf_model.specs.Step.{Next, Continues, Ends, source_value, destination_value, tested_value, written, stores, jumps, branches, after_answer, enters, returned, effect, step}
 use Rattle.bpf_model.proofs.Options.{bind_some, some_is}
+use Rattle.bpf_model.proofs.Calls.{entered_at}
 use Rattle.bpf_model.proofs.Runs.{continues_is}
+use Rattle.bpf_model.proofs.HelperCalls.{called}
 
--- a property of maps that is kept, and the same output
+-- the output within 256 bytes
+abbrev IsShort : List ℕ → Type 0
+IsShort output = length output ≤ 256
+
+-- a property of maps that is kept, and so is the output's limit
 abbrev pub Keeps : (Entries → Type 0) → Machine → Machine → Type 0
-Keeps P m next = (P m.entries → P next.entries) × (next.output ≡ m.output)
+Keeps P m next = (P m.entries → P next.entries) × (length m.output ≤ 256 → length next.output ≤ 256)
 
 same_map : (P : Entries → Type 0) (m next : Machine) → next.entries ≡ m.entries → next.output ≡ m.output → Keeps P m next
-same_map P m next e o = ((λ p. subst P (sym e) p), o)
+same_map P m next e o = ((λ p. subst P (sym e) p), (λ short. subst IsShort (sym o) short))
 
 -- the machine in which a step continues, or the other
 abbrev machine_of : Machine → Next → Machine
@@ -58,10 +68,16 @@ branches_keeps P m next slots offset true e = jumps_keeps P m next offset e
 branches_keeps P m next slots offset false e =
     machine_keeps P m (record m { frame = record { pc = m.frame.pc + slots; registers = m.frame.registers } }) next e refl refl
 
--- a helper's answer keeps the property
+enters_keeps : (P : Entries → Type 0) (m next : Machine) (slots target : ℕ) → enters m slots target ≡ Some (Continues next) → Keeps P m next
+enters_keeps P m next slots target e = cases (nat_lt (length m.callers + 1) frames) e where
+  cases : (b : Bool) → cond b (Some (Continues (entered_at m slots target))) None ≡ Some (Continues next) → Keeps P m next
+  cases true h = machine_keeps P m (entered_at m slots target) next h refl refl
+  cases false h = absurd cc
+
+-- a helper's effect keeps the property
 abbrev pub AnswersKeep : (Entries → Type 0) → Type 0
 AnswersKeep P =
-    (helper : Helper) (m : Machine) (first second : ℕ) (answer : Answer) → answer_of helper m first second ≡ Some answer → P m.entries → P answer.entries
+    (helper : Helper) (m : Machine) (bytes : List ℕ) → bytes_read m (reads helper) ≡ Some bytes → P m.entries → P (effect_of helper (context m) bytes).entries
 
 pub effect_keeps : (P : Entries → Type 0) → AnswersKeep P → (m next : Machine) (x : Insn) → effect m x ≡ Some (Continues next) → Keeps P m next
 effect_keeps P answers m next (Alu width op dst src) e =
@@ -90,12 +106,14 @@ effect_keeps P answers m next (Test narrow test dst src offset) e =
     branches_keeps P m next 1 offset _ a.2
 effect_keeps P answers m next (CallHelper number) e =
     let helper = bind_some (helper_of number) _ (Continues next) e in
-    let first = bind_some (finite.get m.frame.registers 1) _ (Continues next) helper.2 in
-    let second = bind_some (finite.get m.frame.registers 2) _ (Continues next) first.2 in
-    let answer = bind_some (answer_of helper.0 m first.0 second.0) _ (Continues next) second.2 in
+    let answer = bind_some (answer_of helper.0 m) _ (Continues next) helper.2 in
     let is = next_is m next (after_answer m 1 answer.0) answer.2 in
-    ((λ p. subst P (ap (λ (k : Machine). k.entries) is) (answers helper.0 m first.0 second.0 answer.0 answer.1 p)), ap (λ (k : Machine). k.output) (sym is))
-effect_keeps P answers m next (CallLocal offset) e = absurd cc
+    let call = called helper.0 m answer.0 answer.1 in (
+      (λ p. subst P (ap (λ (k : Machine). k.entries) is) (subst P (sym call.entries_are) (answers helper.0 m call.bytes call.bytes_are p))),
+      (λ short. subst IsShort (ap (λ (k : Machine). k.output) is) (subst IsShort (sym call.output_is) (output_short helper.0 (context m) call.bytes short))),
+    )
+effect_keeps P answers m next (CallLocal offset) e =
+    let t = bind_some (target_of m.frame.pc offset) _ (Continues next) e in enters_keeps P m next 1 t.0 t.2
 effect_keeps P answers m next Exit e =
     let result = bind_some (finite.get m.frame.registers 0) _ (Continues next) e in
     cases m.callers result.0 result.2 where

@@ -4,7 +4,9 @@ use Rattle.std.proofs.lemmas.Bool.{cases_lt, eq-eqb}
 use Rattle.bpf_decode.specs.declared.insn.Insn.{Insn}
 use Rattle.reg_ranges.specs.Ranges.{Range}
 use Rattle.bpf_model.specs.AbstractState.{AbstractState, Edge, join_option, join, join_all, IsOneOf}
-use Rattle.bpf_model.specs.Dataflow.{flows_to, incoming, state_at, edges_at}
+use Rattle.bpf_decode.specs.declared.insn.Insn.TheVariants.{Exit}
+use Rattle.bpf_model.specs.Code.{insn_at}
+use Rattle.bpf_model.specs.Dataflow.{Activation, flows_to, incoming, state_at, edges_at, exit_of, exits_below}
 use Rattle.bpf_model.proofs.Options.{and_true, some_is, IsOneOf-left, IsOneOf-right}
 
 -- all that is certain in a is certain in b
@@ -49,7 +51,7 @@ IsBelow-trans a b c p q = record {
   initialized = λ address h. q.initialized address (p.initialized address h);
 }
 
-IsBelow-self : (a : AbstractState) → IsBelow a a
+pub IsBelow-self : (a : AbstractState) → IsBelow a a
 IsBelow-self a = record { ranges = λ r x e. (x, e, omega arith, omega arith); initialized = λ address h. h }
 
 fold_below_first : (s : AbstractState) (ss : List AbstractState) → IsBelow (fold join s ss) s
@@ -82,16 +84,43 @@ flows_to_one t e (d ∷ es) (inr h) same =
       | false ↦ later
     ]
 
-incoming_one : (code : List Insn) (s : ℕ) (e : Edge) (n : ℕ) → IsOneOf e (edges_at code s) → s < n → IsOneOf e.state (incoming code n e.target)
-incoming_one code s e zero h lt = absurd (omega arith)
-incoming_one code s e (suc n) h lt =
+incoming_one : (code : List Insn) (a : Activation) (s : ℕ) (e : Edge) (n : ℕ) → IsOneOf e (edges_at code a s) → s < n → IsOneOf e.state (incoming code a n e.target)
+incoming_one code a s e zero h lt = absurd (omega arith)
+incoming_one code a s e (suc n) h lt =
     elim (cases_lt s n) [
-      | inl less ↦ IsOneOf-left e.state (incoming code n e.target) _ (incoming_one code s e n h less)
+      | inl less ↦ IsOneOf-left e.state (incoming code a n e.target) _ (incoming_one code a s e n h less)
       | inr more ↦
           let same : s ≡ n = omega arith in
-          IsOneOf-right e.state (incoming code n e.target) _ (flows_to_one e.target e (edges_at code n) (subst (λ (k : ℕ). IsOneOf e (edges_at code k)) same h) refl)
+          IsOneOf-right e.state (incoming code a n e.target) _ (flows_to_one e.target e (edges_at code a n) (subst (λ (k : ℕ). IsOneOf e (edges_at code a k)) same h) refl)
     ]
 
 -- an edge to a later slot: the slot's state is below the edge's
-pub arrives : (code : List Insn) (s : ℕ) (e : Edge) → IsOneOf e (edges_at code s) → s < e.target → (j : AbstractState) × (state_at code e.target ≡ Some j) × IsBelow j e.state
-arrives code s e h lt = join_all_below (incoming code e.target e.target) e.state (incoming_one code s e e.target h lt)
+pub arrives : (code : List Insn) (a : Activation) (s : ℕ) (e : Edge) → IsOneOf e (edges_at code a s) → s < e.target → (j : AbstractState) × (state_at code a e.target ≡ Some j) × IsBelow j e.state
+arrives code a s e h lt =
+    join_all_below (incoming code a e.target e.target) e.state (incoming_one code a s e e.target h lt)
+
+-- the state with which a function is entered
+at_entry : (code : List Insn) (a : Activation) (n : ℕ) → IsOneOf a.state (incoming code a n a.entry)
+at_entry code a zero = let same : eqb a.entry a.entry ≡ true = eq-eqb a.entry a.entry refl in rw same (inl refl)
+at_entry code a (suc n) = IsOneOf-left a.state (incoming code a n a.entry) _ (at_entry code a n)
+
+-- that of its slot is below it
+pub enters_below : (code : List Insn) (a : Activation) → (j : AbstractState) × (state_at code a a.entry ≡ Some j) × IsBelow j a.state
+enters_below code a = join_all_below (incoming code a a.entry a.entry) a.state (at_entry code a a.entry)
+
+-- the states at exits
+exits_below_one : (code : List Insn) (a : Activation) (t n : ℕ) (s : AbstractState) → IsOneOf s (exit_of (state_at code a t) (insn_at code t)) → t < n → IsOneOf s (exits_below code a n)
+exits_below_one code a t zero s h lt = absurd (omega arith)
+exits_below_one code a t (suc n) s h lt =
+    elim (cases_lt t n) [
+      | inl less ↦ IsOneOf-left s (exits_below code a n) _ (exits_below_one code a t n s h less)
+      | inr more ↦
+          let same : t ≡ n = omega arith in
+          IsOneOf-right s (exits_below code a n) _ (subst (λ (k : ℕ). IsOneOf s (exit_of (state_at code a k) (insn_at code k))) same h)
+    ]
+
+-- the join over the exits is below that at each exit
+pub exit_below : (code : List Insn) (a : Activation) (t n : ℕ) (s : AbstractState) → state_at code a t ≡ Some s → insn_at code t ≡ Some Exit → t < n → (j : AbstractState) × (join_all (exits_below code a n) ≡ Some j) × IsBelow j s
+exit_below code a t n s known is lt =
+    let here : exit_of (state_at code a t) (insn_at code t) ≡ s ∷ [] = ap (λ (o : Option AbstractState). exit_of o (insn_at code t)) known ∙ ap (exit_of (Some s)) is in
+    join_all_below (exits_below code a n) s (exits_below_one code a t n s (subst (λ (xs : List AbstractState). IsOneOf s xs) (sym here) (inl refl)) lt)

@@ -6,7 +6,11 @@ pub mod Joins
 pub mod Memories
 pub mod RangeLaws
 pub mod Soundness
+pub mod HelperCalls
 pub mod WellFormedness
+pub mod Visits
+pub mod Bounds
+pub mod Calls
 pub mod Safety
 pub mod Totality
 pub mod Runs

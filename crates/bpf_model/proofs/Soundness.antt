@@ -1,14 +1,11 @@
 -- The abstract state at a slot is true of the machines that come there, and stays true over an instruction.
 use Rattle.std.proofs.Common.{◌≡◌, ℕ, zero, suc, ◌+◌, ◌-◌, ◌/◌, ◌^◌, ◌<◌, ◌≤◌, Bool, true, false, ◌&&◌, ◌||◌, cond, eqb, leb, ltb, List, [], ◌∷◌, ◌++◌, length, replicate, get_or, Option, Some, None, ℤ, refl, sym, ap, subst, ◌∙◌, arith, inl, inr}
 use Rattle.std.specs.Prelude.{IsSome, FitsSigned}
-use Rattle.std.specs.List.{list_all, list_any, enumerate_from}
+use Rattle.std.specs.List.{list_all, enumerate_from}
 use Rattle.std.specs.Option.{is_some, option_map}
 use Rattle.std.specs.Int.{w16, w32, w64, cast_unsigned, byte_at, byte_len, bytes_low_first}
-use Rattle.std.specs.Ordering.{nat_cmp, eq_by_cmp}
+use Rattle.std.specs.Ordering.{nat_cmp}
 use Rattle.std.specs.Cmp.{nat_cmp_total, unsigned_tied}
-use Rattle.std.specs.Cmp.Lexicographic.{slice_cmp}
-use Rattle.std.proofs.lemmas.Cmp.{nat_list_cmp_total}
-use Rattle.std.specs.Prelude.{nat_le}
 use Rattle.std.specs.FinMap as map
 use Rattle.std.proofs.Math.Facts.{Fits-of_z, sfits_widen}
 use Rattle.std.proofs.lemmas.List.{length-append, length-replicate}
@@ -23,7 +20,7 @@ use Rattle.bpf_num.specs.declared.swap.SwapKind.{SwapKind}
 use Rattle.bpf_num.specs.declared.swap.Width.{Width}
 use Rattle.bpf_num.specs.declared.jump.Test as tests
 use Rattle.bpf_decode.specs.declared.insn.Insn.{Insn}
-use Rattle.bpf_decode.specs.declared.insn.Insn.TheVariants.{Alu, Swap, LoadImm, Load, StoreImm, Store, Test, CallHelper}
+use Rattle.bpf_decode.specs.declared.insn.Insn.TheVariants.{Alu, Swap, LoadImm, Load, StoreImm, Store, Test}
 use Rattle.bpf_decode.specs.declared.insn.Reg.{Reg}
 use Rattle.bpf_decode.specs.declared.insn.Size.{Size}
 use Rattle.bpf_decode.specs.declared.insn.Size.TheVariants.{B, H, W, Dw}
@@ -36,19 +33,15 @@ use Rattle.bpf_num.specs.Jump.{jump_test_of}
 use Rattle.reg_ranges.specs.Ranges.{Range, In, single, is_single, swap_range_of}
 use Rattle.reg_ranges.specs.Refine.{Ranges, refine_of, Keeps}
 use Rattle.reg_ranges.proofs.Edges.{refine_keeps}
-use Rattle.tenant_maps.specs.Entries.{Entries, has_room, put}
 use Rattle.bpf_model.specs.Access.{bytes_of, word_of, address_of, loaded, stored_bytes}
 use Rattle.bpf_model.specs.Code.{slots_of}
-use Rattle.bpf_model.specs.Machine.{Machine, Frame, Memory, Registers, Call, IsCall, start, arguments_start, frame_end, is_in_bounds, bytes_at, stored}
-use Rattle.bpf_model.specs.declared.helper.Helper.{Helper}
-use Rattle.bpf_model.specs.declared.helper.Helper.TheVariants.{Get, Put}
-use Rattle.bpf_model.specs.Helpers.{Answer, helper_of, reads, writes, get_effect, put_effect, zeros, answer_of}
+use Rattle.bpf_model.specs.Machine.{Machine, Memory, Registers, Call, IsCall, start, arguments_start, frames, frame_end, is_in_bounds, bytes_at, stored}
 use Rattle.bpf_model.specs.Step.{Continues, source_value, destination_value, tested_immediate, tested_value, effect}
-use Rattle.bpf_model.specs.AbstractState.{AbstractState, start_state, has_all, source_operands, alu_operands, all_initialized, extent, in_bounds, is_initialized, source_range, destination_range, transfer, with_range, alu_range, address_range, loaded_range, is_written, after_store, after_helper, after_insn, tested_range, with_ranges, after_test, all_in_bounds, are_initialized}
+use Rattle.bpf_model.specs.AbstractState.{AbstractState, start_state, has_all, source_operands, alu_operands, all_initialized, extent, in_bounds, is_initialized, source_range, destination_range, transfer, with_range, alu_range, address_range, loaded_range, is_written, after_store, after_insn, tested_range, with_ranges, after_test}
 use Rattle.bpf_model.proofs.Options.{some_is, is_some_of, and_true}
 use Rattle.bpf_model.proofs.RangeLaws.{IsRange, transfer_in, swap_in, loaded_in}
 use Rattle.bpf_model.proofs.Joins.{IsBelow}
-use Rattle.bpf_model.proofs.Memories.{HoldsBytes, find_enumerate, find_inside, bytes_found, bytes_small, initialized_each, stored_within, stored_stays, stored_small, in_bounds_cases, in_bounds_from, or_true}
+use Rattle.bpf_model.proofs.Memories.{HoldsBytes, find_enumerate, find_inside, bytes_found, bytes_small, initialized_each, stored_within, stored_stays, in_bounds_cases, in_bounds_from, or_true}
 
 -- a register holds a number of the range
 pub record Holds (registers : Registers) (r : ℕ) (x : Range) : Type 0 where
@@ -146,16 +139,18 @@ start_means call is = record {
 
 -- ---- accesses
 
-record Reaches (m : Machine) (a size : ℕ) : Type 0 where
-  there : (k : ℕ) → a ≤ k → k < a + size → IsSome (map.get m.memory k)
+-- a machine runs in frame d
+pub record RunsAt (d : ℕ) (m : Machine) : Type 0 where
+  pub depth : length m.callers ≡ d
+  pub has_frame : d < frames
 
 -- an access that may touch only what is there
-access_there : (state : AbstractState) (m : Machine) (x : Range) (a size : ℕ) → Abstracts state m → In a x → is_in_bounds 0 x.lo (extent x size) ≡ true → (leb arguments_start x.lo || all_initialized state.initialized x.lo (extent x size)) ≡ true → (k : ℕ) → a ≤ k → k < a + size → IsSome (map.get m.memory k)
-access_there state m x a size means i inside present k p q =
+pub access_there : (state : AbstractState) (m : Machine) (d : ℕ) (x : Range) (a size : ℕ) → Abstracts state m → d < frames → In a x → is_in_bounds d x.lo (extent x size) ≡ true → (leb arguments_start x.lo || all_initialized state.initialized x.lo (extent x size)) ≡ true → (k : ℕ) → a ≤ k → k < a + size → IsSome (map.get m.memory k)
+access_there state m d x a size means shallow i inside present k p q =
     let low = i.low in
     let high = i.high in
     elim (leb_tells arguments_start x.lo) [
-      | inl (e, far) ↦ elim (in_bounds_cases 0 x.lo (extent x size) inside) [
+      | inl (e, far) ↦ elim (in_bounds_cases d x.lo (extent x size) inside) [
         | inl (f, g) ↦ absurd (omega arith)
         | inr (f, g) ↦ means.arguments k (omega arith) (omega arith)
       ]
@@ -164,11 +159,11 @@ access_there state m x a size means i inside present k p q =
           means.initialized k (initialized_each state.initialized x.lo (extent x size) initialized k (omega arith) (omega arith))
     ]
 
-access_inside : (x : Range) (a size : ℕ) → In a x → is_in_bounds 0 x.lo (extent x size) ≡ true → is_in_bounds 0 a size ≡ true
-access_inside x a size i inside =
+pub access_inside : (d : ℕ) (x : Range) (a size : ℕ) → In a x → is_in_bounds d x.lo (extent x size) ≡ true → is_in_bounds d a size ≡ true
+access_inside d x a size i inside =
     let low = i.low in
     let high = i.high in
-    in_bounds_from 0 a size (elim (in_bounds_cases 0 x.lo (extent x size) inside) [
+    in_bounds_from d a size (elim (in_bounds_cases d x.lo (extent x size) inside) [
       | inl (f, g) ↦ inl (omega arith, omega arith)
       | inr (f, g) ↦ inr (omega arith, omega arith)
     ])
@@ -194,7 +189,7 @@ start_bytes call is a byte e =
 
 -- ---- the machine goes on
 
-wider : (v : ℕ) (x y : Range) → x.lo ≤ y.lo → y.hi ≤ x.hi → In v y → In v x
+pub wider : (v : ℕ) (x y : Range) → x.lo ≤ y.lo → y.hi ≤ x.hi → In v y → In v x
 wider v x y low high i = let l = i.low in let h = i.high in record { low = omega arith; high = omega arith }
 
 -- the machine at another slot
@@ -386,16 +381,16 @@ wide_moves state m dst value ten = record {
 -- ---- loads and stores
 
 -- where a load or a store accesses memory
-record Place (state : AbstractState) (m : Machine) (base : ℕ) (offset : ℤ) (size : ℕ) : Type 0 where
+record Place (state : AbstractState) (m : Machine) (d base : ℕ) (offset : ℤ) (size : ℕ) : Type 0 where
   range : Range
   range_is : address_range state base offset ≡ Some range
   base_value : ℕ
   base_is : map.get m.frame.registers base ≡ Some base_value
   in_range : In (address_of base_value offset) range
-  inside : is_in_bounds 0 range.lo (extent range size) ≡ true
+  inside : is_in_bounds d range.lo (extent range size) ≡ true
 
-place : (state : AbstractState) (m : Machine) (base : ℕ) (offset : ℤ) (size : ℕ) → Abstracts state m → IsWellFormed state → FitsSigned w16 offset → is_some (state.ranges base) ≡ true → in_bounds (address_range state base offset) size ≡ true → Place state m base offset size
-place state m base offset size means fit small has inside =
+place : (state : AbstractState) (m : Machine) (d base : ℕ) (offset : ℤ) (size : ℕ) → Abstracts state m → IsWellFormed state → FitsSigned w16 offset → is_some (state.ranges base) ≡ true → in_bounds d (address_range state base offset) size ≡ true → Place state m d base offset size
+place state m d base offset size means fit small has inside =
     let a = register_operand state m base means fit has in
     let b = single_operand (cast_unsigned w64 offset) (offset_64 offset small) in
     let sum = transfer W64 Add a.range (single (cast_unsigned w64 offset)) in
@@ -406,17 +401,17 @@ place state m base offset size means fit small has inside =
       base_value = a.value;
       base_is = a.value_is;
       in_range = transfer_in W64 Add a.range (single (cast_unsigned w64 offset)) a.value (cast_unsigned w64 offset) a.fits (record { below = offset_64 offset small }) a.in_range (record { low = omega arith; high = omega arith });
-      inside = sym (ap (λ (o : Option Range). in_bounds o size) is) ∙ inside;
+      inside = sym (ap (λ (o : Option Range). in_bounds d o size) is) ∙ inside;
     }
 
 load_effect : (m : Machine) (size : Size) (signed : Bool) (dst base : Reg) (offset : ℤ) (a : ℕ) (bytes : List ℕ) → map.get m.frame.registers base.number ≡ Some a → bytes_at m.memory (address_of a offset) (bytes_of size) ≡ Some bytes → eqb dst.number 10 ≡ false → effect m (Load size signed dst base offset) ≡ Some (Continues (moved m (slots_of (Load size signed dst base offset)) dst.number (loaded size signed bytes)))
 load_effect m size signed dst base offset a bytes a-is bytes-is ten = rw (a-is, bytes-is, ten) refl
 
-pub load_moves : (state : AbstractState) (m : Machine) (size : Size) (signed : Bool) (dst base : Reg) (offset : ℤ) → Abstracts state m → IsWellFormed state → HoldsBytes m.memory → FitsSigned w16 offset → has_all state.ranges (base.number ∷ []) ≡ true → in_bounds (address_range state base.number offset) (bytes_of size) ≡ true → is_initialized state.initialized (address_range state base.number offset) (bytes_of size) ≡ true → eqb dst.number 10 ≡ false → Moves state m (Load size signed dst base offset) dst.number
-load_moves state m size signed dst base offset means fit small_memory small has inside there ten =
-    let p = place state m base.number offset (bytes_of size) means fit small (and_true _ _ has).0 inside in
+pub load_moves : (state : AbstractState) (m : Machine) (d : ℕ) (size : Size) (signed : Bool) (dst base : Reg) (offset : ℤ) → Abstracts state m → d < frames → IsWellFormed state → HoldsBytes m.memory → FitsSigned w16 offset → has_all state.ranges (base.number ∷ []) ≡ true → in_bounds d (address_range state base.number offset) (bytes_of size) ≡ true → is_initialized state.initialized (address_range state base.number offset) (bytes_of size) ≡ true → eqb dst.number 10 ≡ false → Moves state m (Load size signed dst base offset) dst.number
+load_moves state m d size signed dst base offset means shallow fit small_memory small has inside there ten =
+    let p = place state m d base.number offset (bytes_of size) means fit small (and_true _ _ has).0 inside in
     let present = sym (ap (λ (o : Option Range). is_initialized state.initialized o (bytes_of size)) p.range_is) ∙ there in
-    let found = bytes_found m.memory (address_of p.base_value offset) (bytes_of size) (access_there state m p.range (address_of p.base_value offset) (bytes_of size) means p.in_range p.inside present) in
+    let found = bytes_found m.memory (address_of p.base_value offset) (bytes_of size) (access_there state m d p.range (address_of p.base_value offset) (bytes_of size) means shallow p.in_range p.inside present) in
     record {
       value = loaded size signed found.0;
       goes = load_effect m size signed dst base offset p.base_value found.0 p.base_is found.1 ten;
@@ -463,43 +458,43 @@ store_imm_effect m size base offset imm a a-is inside = rw (a-is, inside) refl
 store_effect : (m : Machine) (size : Size) (base : Reg) (offset : ℤ) (src : Reg) (a b : ℕ) → map.get m.frame.registers base.number ≡ Some a → map.get m.frame.registers src.number ≡ Some b → is_in_bounds (length m.callers) (address_of a offset) (length (stored_bytes size b)) ≡ true → effect m (Store size base offset src) ≡ Some (Continues (kept m (slots_of (Store size base offset src)) (address_of a offset) (stored_bytes size b)))
 store_effect m size base offset src a b a-is b-is inside = rw (a-is, b-is, inside) refl
 
-store_inside : (state : AbstractState) (m : Machine) (base : ℕ) (offset : ℤ) (size : Size) (value : ℕ) → m.callers ≡ [] → (p : Place state m base offset (bytes_of size)) → is_in_bounds (length m.callers) (address_of p.base_value offset) (length (stored_bytes size value)) ≡ true
-store_inside state m base offset size value alone p =
-    ap (λ (cs : List Frame). is_in_bounds (length cs) (address_of p.base_value offset) (length (stored_bytes size value))) alone
-    ∙ ap (λ (n : ℕ). is_in_bounds 0 (address_of p.base_value offset) n) (stored_long size value)
-    ∙ access_inside p.range (address_of p.base_value offset) (bytes_of size) p.in_range p.inside
+store_inside : (state : AbstractState) (m : Machine) (d base : ℕ) (offset : ℤ) (size : Size) (value : ℕ) → RunsAt d m → (p : Place state m d base offset (bytes_of size)) → is_in_bounds (length m.callers) (address_of p.base_value offset) (length (stored_bytes size value)) ≡ true
+store_inside state m d base offset size value at p =
+    ap (λ (n : ℕ). is_in_bounds n (address_of p.base_value offset) (length (stored_bytes size value))) at.depth
+    ∙ ap (λ (n : ℕ). is_in_bounds d (address_of p.base_value offset) n) (stored_long size value)
+    ∙ access_inside d p.range (address_of p.base_value offset) (bytes_of size) p.in_range p.inside
 
-stored_after : (state : AbstractState) (m : Machine) (base : ℕ) (offset : ℤ) (size : Size) (value : ℕ) → (p : Place state m base offset (bytes_of size)) → after_store state (address_range state base offset) (bytes_of size) ≡ after_store state (Some p.range) (length (stored_bytes size value))
-stored_after state m base offset size value p =
+stored_after : (state : AbstractState) (m : Machine) (d base : ℕ) (offset : ℤ) (size : Size) (value : ℕ) → (p : Place state m d base offset (bytes_of size)) → after_store state (address_range state base offset) (bytes_of size) ≡ after_store state (Some p.range) (length (stored_bytes size value))
+stored_after state m d base offset size value p =
     ap (λ (o : Option Range). after_store state o (bytes_of size)) p.range_is
     ∙ ap (λ (n : ℕ). after_store state (Some p.range) n) (sym (stored_long size value))
 
-pub imm_stores : (state : AbstractState) (m : Machine) (size : Size) (base : Reg) (offset imm : ℤ) → Abstracts state m → IsWellFormed state → m.callers ≡ [] → FitsSigned w16 offset → has_all state.ranges (base.number ∷ []) ≡ true → in_bounds (address_range state base.number offset) (bytes_of size) ≡ true → Stores state m (StoreImm size base offset imm)
-imm_stores state m size base offset imm means fit alone small has inside =
-    let p = place state m base.number offset (bytes_of size) means fit small (and_true _ _ has).0 inside in
+pub imm_stores : (state : AbstractState) (m : Machine) (d : ℕ) (size : Size) (base : Reg) (offset imm : ℤ) → Abstracts state m → IsWellFormed state → RunsAt d m → FitsSigned w16 offset → has_all state.ranges (base.number ∷ []) ≡ true → in_bounds d (address_range state base.number offset) (bytes_of size) ≡ true → Stores state m (StoreImm size base offset imm)
+imm_stores state m d size base offset imm means fit at small has inside =
+    let p = place state m d base.number offset (bytes_of size) means fit small (and_true _ _ has).0 inside in
     record {
       address = address_of p.base_value offset;
       bytes = stored_bytes size (cast_unsigned w64 imm);
-      goes = store_imm_effect m size base offset imm p.base_value p.base_is (store_inside state m base.number offset size (cast_unsigned w64 imm) alone p);
+      goes = store_imm_effect m size base offset imm p.base_value p.base_is (store_inside state m d base.number offset size (cast_unsigned w64 imm) at p);
       small = low_small 0 (byte_len (word_of size)) (cast_unsigned w64 imm);
       range = p.range;
       in_range = p.in_range;
-      after_is = stored_after state m base.number offset size (cast_unsigned w64 imm) p;
+      after_is = stored_after state m d base.number offset size (cast_unsigned w64 imm) p;
     }
 
-pub register_stores : (state : AbstractState) (m : Machine) (size : Size) (base : Reg) (offset : ℤ) (src : Reg) → Abstracts state m → IsWellFormed state → m.callers ≡ [] → FitsSigned w16 offset → has_all state.ranges (base.number ∷ src.number ∷ []) ≡ true → in_bounds (address_range state base.number offset) (bytes_of size) ≡ true → Stores state m (Store size base offset src)
-register_stores state m size base offset src means fit alone small has inside =
+pub register_stores : (state : AbstractState) (m : Machine) (d : ℕ) (size : Size) (base : Reg) (offset : ℤ) (src : Reg) → Abstracts state m → IsWellFormed state → RunsAt d m → FitsSigned w16 offset → has_all state.ranges (base.number ∷ src.number ∷ []) ≡ true → in_bounds d (address_range state base.number offset) (bytes_of size) ≡ true → Stores state m (Store size base offset src)
+register_stores state m d size base offset src means fit at small has inside =
     let both = and_true (is_some (state.ranges base.number)) (is_some (state.ranges src.number) && true) has in
-    let p = place state m base.number offset (bytes_of size) means fit small both.0 inside in
+    let p = place state m d base.number offset (bytes_of size) means fit small both.0 inside in
     let b = register_operand state m src.number means fit (and_true (is_some (state.ranges src.number)) true both.1).0 in
     record {
       address = address_of p.base_value offset;
       bytes = stored_bytes size b.value;
-      goes = store_effect m size base offset src p.base_value b.value p.base_is b.value_is (store_inside state m base.number offset size b.value alone p);
+      goes = store_effect m size base offset src p.base_value b.value p.base_is b.value_is (store_inside state m d base.number offset size b.value at p);
       small = low_small 0 (byte_len (word_of size)) b.value;
       range = p.range;
       in_range = p.in_range;
-      after_is = stored_after state m base.number offset size b.value p;
+      after_is = stored_after state m d base.number offset size b.value p;
     }
 
 -- bytes that a write marked were written
@@ -590,207 +585,3 @@ test_means state m narrow test d src means fit small has =
       after_is = after_test_is state narrow test d src (jump_test_of test narrow x.value y.value) x.range y.range r.0 y.range_is x.range_is r.1;
       means = with_ranges_means state m narrow d src x.value y.value r.0 means x.value_is y.value_is r.2 r.3;
     }
-
--- ---- helpers
-
--- a value of the map: 32 bytes
-pub record IsLong (value : List ℕ) : Type 0 where
-  pub long : length value ≡ 32
-  pub small : (i : ℕ) → get_or value i 0 < 256
-
--- each value of the map is one
-unfoldable pub AreValues : Entries → Type 0
-AreValues entries = (key value : List ℕ) → map.get entries key ≡ Some value → IsLong value
-
--- the machine behind a helper
-abbrev pub after : Machine → ℕ → Answer → Machine
-after m slots answer =
-    record m {
-      frame = record {
-        pc = m.frame.pc + slots;
-        registers = map.insert (map.retain_keys m.frame.registers (λ r. nat_le 6 r)) 0 answer.value;
-      };
-      memory = answer.memory;
-      entries = answer.entries;
-    }
-
--- what a helper does, and the abstract state behind it
-pub record Answers (state : AbstractState) (m : Machine) (helper : Helper) (number : ℤ) : Type 0 where
-  pub answer : Answer
-  pub goes : effect m (CallHelper number) ≡ Some (Continues (after m (slots_of (CallHelper number)) answer))
-  pub small : answer.value ≤ 1
-  pub stays : (k : ℕ) → IsSome (map.get m.memory k) → IsSome (map.get answer.memory k)
-  pub initialized : (k : ℕ) → list_any (λ access. is_written (state.ranges access.register) access.size k) (writes helper) ≡ true → IsSome (map.get answer.memory k)
-  pub values : AreValues answer.entries
-  pub bytes : HoldsBytes answer.memory
-
-helper_effect : (m : Machine) (number : ℤ) (helper : Helper) (first second : ℕ) (answer : Answer) → helper_of number ≡ Some helper → map.get m.frame.registers 1 ≡ Some first → map.get m.frame.registers 2 ≡ Some second → answer_of helper m first second ≡ Some answer → effect m (CallHelper number) ≡ Some (Continues (after m (slots_of (CallHelper number)) answer))
-helper_effect m number helper first second answer a b c d = rw (a, b, c, d) refl
-
-get_answer : (m : Machine) (first second : ℕ) (key : List ℕ) → bytes_at m.memory first 16 ≡ Some key → is_in_bounds (length m.callers) second 32 ≡ true → answer_of Get m first second ≡ Some (get_effect m second (map.get m.entries key))
-get_answer m first second key a b = rw (a, b) refl
-
-put_answer : (m : Machine) (first second : ℕ) (key value : List ℕ) → bytes_at m.memory first 16 ≡ Some key → bytes_at m.memory second 32 ≡ Some value → answer_of Put m first second ≡ Some (put_effect m key value)
-put_answer m first second key value a b = rw (a, b) refl
-
--- what get writes: 32 bytes
-record GetWrites (m : Machine) (address : ℕ) (answer : Answer) : Type 0 where
-  bytes : List ℕ
-  is_value : IsLong bytes
-  memory_is : answer.memory ≡ stored m.memory address bytes
-  entries_are : answer.entries ≡ m.entries
-  small : answer.value ≤ 1
-
-zeros_small : (n i : ℕ) → get_or (replicate n 0) i 0 < 256
-zeros_small zero i = omega arith
-zeros_small (suc n) zero = omega arith
-zeros_small (suc n) (suc i) = zeros_small n i
-
-get_writes : (m : Machine) (address : ℕ) (o : Option (List ℕ)) → ((value : List ℕ) → o ≡ Some value → IsLong value) → GetWrites m address (get_effect m address o)
-get_writes m address None values =
-    record { bytes = zeros; is_value = record { long = refl; small = zeros_small 32 }; memory_is = refl; entries_are = refl; small = omega arith }
-get_writes m address (Some value) values =
-    record { bytes = value; is_value = values value refl; memory_is = refl; entries_are = refl; small = omega arith }
-
-put_values : (entries : Entries) (key value : List ℕ) → IsLong value → AreValues entries → AreValues (put entries key value)
-unfolding AreValues
-put_values entries key value long values q v h = cases (has_room entries key) refl where
-  found : (b : Bool) → cond b (Some value) (map.get entries q) ≡ Some v → IsLong v
-  found true e = let same : value ≡ v = some_is _ _ e in subst (λ (w : List ℕ). IsLong w) same long
-  found false e = values q v e
-
-  cases : (b : Bool) → has_room entries key ≡ b → IsLong v
-  cases true e =
-      found (eq_by_cmp (slice_cmp nat_cmp) q key) (sym (map.get-insert nat_list_cmp_total entries key value q) ∙ sym (ap (λ (p : Bool). map.get (cond p (map.insert entries key value) entries) q) e) ∙ h)
-  cases false e = values q v (sym (ap (λ (p : Bool). map.get (cond p (map.insert entries key value) entries) q) e) ∙ h)
-
-put_value_small : (b : Bool) → cond b 0 1 ≤ 1
-put_value_small true = omega arith
-put_value_small false = omega arith
-
--- a register of a helper, and what may be accessed through it
-record Address (state : AbstractState) (m : Machine) (r size : ℕ) : Type 0 where
-  range : Range
-  range_is : state.ranges r ≡ Some range
-  value : ℕ
-  value_is : map.get m.frame.registers r ≡ Some value
-  in_range : In value range
-  inside : is_in_bounds 0 range.lo (extent range size) ≡ true
-
-address : (state : AbstractState) (m : Machine) (r size : ℕ) → Abstracts state m → is_some (state.ranges r) ≡ true → in_bounds (state.ranges r) size ≡ true → Address state m r size
-address state m r size means has inside =
-    let x = some_here (state.ranges r) has in
-    let holds = means.ranges r x.0 x.1 in
-    record {
-      range = x.0;
-      range_is = x.1;
-      value = holds.value;
-      value_is = holds.is;
-      in_range = holds.in_range;
-      inside = sym (ap (λ (o : Option Range). in_bounds o size) x.1) ∙ inside;
-    }
-
-reading : (state : AbstractState) (m : Machine) (r size : ℕ) → Abstracts state m → (at : Address state m r size) → is_initialized state.initialized (state.ranges r) size ≡ true → (bytes : List ℕ) × (bytes_at m.memory at.value size ≡ Some bytes) × (length bytes ≡ size)
-reading state m r size means at there =
-    let present = sym (ap (λ (o : Option Range). is_initialized state.initialized o size) at.range_is) ∙ there in
-    bytes_found m.memory at.value size (access_there state m at.range at.value size means at.in_range at.inside present)
-
-in_frame : (m : Machine) (a size : ℕ) → m.callers ≡ [] → is_in_bounds 0 a size ≡ true → is_in_bounds (length m.callers) a size ≡ true
-in_frame m a size alone h = rw alone h
-
-pub get_answers : (state : AbstractState) (m : Machine) (number : ℤ) → helper_of number ≡ Some Get → Abstracts state m → m.callers ≡ [] → AreValues m.entries → HoldsBytes m.memory → list_all (λ r. is_some (state.ranges r)) (1 ∷ 2 ∷ []) ≡ true → all_in_bounds state.ranges (reads Get ++ writes Get) ≡ true → are_initialized state.initialized state.ranges (reads Get) ≡ true → Answers state m Get number
-unfolding AreValues
-get_answers state m number is means alone values small_memory has inside there =
-    let has1 = and_true (is_some (state.ranges 1)) (is_some (state.ranges 2) && true) has in
-    let has2 = and_true (is_some (state.ranges 2)) true has1.1 in
-    let in1 = and_true (in_bounds (state.ranges 1) 16) (in_bounds (state.ranges 2) 32 && true) inside in
-    let in2 = and_true (in_bounds (state.ranges 2) 32) true in1.1 in
-    let there1 = and_true (is_initialized state.initialized (state.ranges 1) 16) true there in
-    let a = address state m 1 16 means has1.0 in1.0 in
-    let b = address state m 2 32 means has2.0 in2.0 in
-    let key = reading state m 1 16 means a there1.0 in
-    let g = get_writes m b.value (map.get m.entries key.0) (λ value e. values key.0 value e) in
-    let answer = get_effect m b.value (map.get m.entries key.0) in
-    record {
-      answer = answer;
-      goes = helper_effect m number Get a.value b.value answer is a.value_is b.value_is (get_answer m a.value b.value key.0 key.1 (in_frame m b.value 32 alone (access_inside b.range b.value 32 b.in_range b.inside)));
-      small = g.small;
-      stays = λ k h. subst (λ (memory : Memory). IsSome (map.get memory k)) (sym g.memory_is) (stored_stays m.memory b.value g.bytes k h);
-      initialized = λ k h.
-          let written = or_false (is_written (state.ranges 2) 32 k) h in
-          let here : is_written (Some b.range) 32 k ≡ true = sym (ap (λ (o : Option Range). is_written o 32 k) b.range_is) ∙ written in
-          let sized : is_written (Some b.range) (length g.bytes) k ≡ true = ap (λ (n : ℕ). is_written (Some b.range) n k) g.is_value.long ∙ here in
-          subst (λ (memory : Memory). IsSome (map.get memory k)) (sym g.memory_is) (written_there m.memory b.range b.value g.bytes k b.in_range sized);
-      bytes = subst (λ (memory : Memory). HoldsBytes memory) (sym g.memory_is) (stored_small m.memory b.value g.bytes small_memory g.is_value.small);
-      values = λ q v e. values q v (sym (ap (λ (es : Entries). map.get es q) g.entries_are) ∙ e);
-    } where
-      or_false : (b : Bool) → (b || false) ≡ true → b ≡ true
-      or_false true e = refl
-      or_false false e = e
-
-pub put_answers : (state : AbstractState) (m : Machine) (number : ℤ) → helper_of number ≡ Some Put → Abstracts state m → AreValues m.entries → HoldsBytes m.memory → list_all (λ r. is_some (state.ranges r)) (1 ∷ 2 ∷ []) ≡ true → all_in_bounds state.ranges (reads Put ++ writes Put) ≡ true → are_initialized state.initialized state.ranges (reads Put) ≡ true → Answers state m Put number
-put_answers state m number is means values small_memory has inside there =
-    let has1 = and_true (is_some (state.ranges 1)) (is_some (state.ranges 2) && true) has in
-    let has2 = and_true (is_some (state.ranges 2)) true has1.1 in
-    let in1 = and_true (in_bounds (state.ranges 1) 16) (in_bounds (state.ranges 2) 32 && true) inside in
-    let in2 = and_true (in_bounds (state.ranges 2) 32) true in1.1 in
-    let there1 = and_true (is_initialized state.initialized (state.ranges 1) 16) (is_initialized state.initialized (state.ranges 2) 32 && true) there in
-    let there2 = and_true (is_initialized state.initialized (state.ranges 2) 32) true there1.1 in
-    let a = address state m 1 16 means has1.0 in1.0 in
-    let b = address state m 2 32 means has2.0 in2.0 in
-    let key = reading state m 1 16 means a there1.0 in
-    let value = reading state m 2 32 means b there2.0 in
-    record {
-      answer = put_effect m key.0 value.0;
-      goes = helper_effect m number Put a.value b.value (put_effect m key.0 value.0) is a.value_is b.value_is (put_answer m a.value b.value key.0 value.0 key.1 value.1);
-      small = put_value_small (has_room m.entries key.0);
-      stays = λ k h. h;
-      initialized = λ k h. absurd cc;
-      values = put_values m.entries key.0 value.0 (record { long = value.2; small = bytes_small m.memory b.value 32 value.0 small_memory value.1 }) values;
-      bytes = small_memory;
-    }
-
--- the registers after a helper
-pub register_after_helper : (registers : Registers) (r value : ℕ) → map.get (map.insert (map.retain_keys registers (λ r. nat_le 6 r)) 0 value) r ≡ cond (eqb r 0) (Some value) (cond (nat_le 6 r) (map.get registers r) None)
-register_after_helper registers r value =
-    map.get-insert nat_cmp_total (map.retain_keys registers (λ r. nat_le 6 r)) 0 value r
-    ∙ ap (λ (b : Bool). cond b (Some value) (map.get (map.retain_keys registers (λ r. nat_le 6 r)) r)) (unsigned_tied r 0)
-    ∙ ap (λ (o : Option ℕ). cond (eqb r 0) (Some value) o) (map.get-retain_keys registers (λ r. nat_le 6 r) r (λ x e. ap (λ (k : ℕ). nat_le 6 k) (sym (map.nat_cmp-IsAntisymmetric r x e))))
-
-pub helper_means : (state j : AbstractState) (m : Machine) (helper : Helper) (number : ℤ) → Abstracts state m → (answers : Answers state m helper number) → IsBelow j (after_helper state (writes helper)) → Abstracts j (after m (slots_of (CallHelper number)) answers.answer)
-helper_means state j m helper number means answers below = record {
-  ranges = λ r y h.
-      let known = below.ranges r y h in
-      let at = register_after_helper m.frame.registers r answers.answer.value in
-      elim (eqb_tells r 0) [
-        | inl (e, same) ↦
-            let is : record { lo = 0; hi = 1 } ≡ known.0 = some_is _ _ (sym (ap (λ (b : Bool). cond b (Some (record { lo = 0; hi = 1 })) (cond (nat_le 6 r) (state.ranges r) None)) e) ∙ known.1) in
-            let small = answers.small in
-            let one : In answers.answer.value (record { lo = 0; hi = 1 }) = record { low = omega arith; high = small } in
-            record {
-              value = answers.answer.value;
-              is = at ∙ ap (λ (b : Bool). cond b (Some answers.answer.value) (cond (nat_le 6 r) (map.get m.frame.registers r) None)) e;
-              in_range = wider answers.answer.value y known.0 known.2 known.3 (subst (λ (z : Range). In answers.answer.value z) is one);
-            }
-        | inr (e, other) ↦
-            let rest : cond (nat_le 6 r) (state.ranges r) None ≡ Some known.0 = sym (ap (λ (b : Bool). cond b (Some (record { lo = 0; hi = 1 })) (cond (nat_le 6 r) (state.ranges r) None)) e) ∙ known.1 in
-            let stays = at ∙ ap (λ (b : Bool). cond b (Some answers.answer.value) (cond (nat_le 6 r) (map.get m.frame.registers r) None)) e in
-            elim (leb_tells 6 r) [
-              | inl (f, high) ↦
-                  let before : state.ranges r ≡ Some known.0 = sym (ap (λ (b : Bool). cond b (state.ranges r) None) f) ∙ rest in
-                  let holds = means.ranges r known.0 before in
-                  record {
-                    value = holds.value;
-                    is = stays ∙ ap (λ (b : Bool). cond b (map.get m.frame.registers r) None) f ∙ holds.is;
-                    in_range = wider holds.value y known.0 known.2 known.3 holds.in_range;
-                  }
-              | inr (f, low) ↦ absurd (let none = sym (ap (λ (b : Bool). cond b (state.ranges r) None) f) ∙ rest in cc)
-            ]
-      ];
-  initialized = λ k h.
-      elim (or_true (list_any (λ access. is_written (state.ranges access.register) access.size k) (writes helper)) (state.initialized k) (below.initialized k h)) [
-        | inl new ↦ answers.initialized k new
-        | inr old ↦ answers.stays k (means.initialized k old)
-      ];
-  arguments = λ k p q. answers.stays k (means.arguments k p q);
-}

@@ -1,37 +1,20 @@
--- All code has a verdict: a slot has a first fault, or none has one, and then some path is the longest.
+-- All code has one verdict: a slot or a visit has a first fault, or none has one, and then there is a bound.
 use Rattle.std.proofs.Common.{◌≡◌, ◌⊎◌, ℕ, zero, suc, ◌+◌, ◌<◌, ◌≤◌, List, [], ◌∷◌, length, Option, Some, None, refl, sym, ap, subst, ◌∙◌, arith, inl, inr}
+use Rattle.std.specs.Prelude.{slice_get}
 use Rattle.std.proofs.lemmas.Bool.{cases_lt}
-use Rattle.std.proofs.lemmas.Bool.Decides.{eqb_tells}
 use Rattle.bpf_decode.specs.declared.insn.Insn.{Insn}
 use Rattle.bpf_decode.specs.Faults.{IsCode}
 use Rattle.bpf_model.specs.declared.fault.VerifyFault.{VerifyFault}
 use Rattle.bpf_model.specs.Code.{insns_by_slot, insn_at}
-use Rattle.bpf_model.specs.AbstractState.{AbstractState, Edge, IsOneOf}
-use Rattle.bpf_model.specs.Dataflow.{state_at, edges_at, Path, IsBound}
-use Rattle.bpf_model.specs.Verdict.{structure_fault, slot_structure_fault, dataflow_fault, slot_dataflow_fault, IsFirst, IsAccepted, IsRejected}
-use Rattle.bpf_model.proofs.Slots.{insn_at_less}
-use Rattle.bpf_model.proofs.Edges.{path_within}
+use Rattle.bpf_model.specs.Machine.{frames}
+use Rattle.bpf_model.specs.AbstractState.{start_state}
+use Rattle.bpf_model.specs.Verdict.{structure_fault, slot_structure_fault, Visit, visits, max_visits, visit_fault, dataflow_fault, IsFirst, IsFirstVisit, IsAccepted, IsRejected}
+use Rattle.bpf_model.proofs.Options.{some_is}
+use Rattle.bpf_model.proofs.Slots.{insn_at_less, first_at, few}
+use Rattle.bpf_model.proofs.Visits.{visit_there}
+use Rattle.bpf_model.proofs.Bounds.{one_bound, some_bound}
 
 -- ---- search
-
--- it holds, or it doesn't
-abbrev pub Decided : Type 0 → Type 0
-Decided P = P ⊎ (P → ⊥)
-
--- below n: one that has the property, or none has it
-pub search_below : (P : ℕ → Type 0) → ((k : ℕ) → Decided (P k)) → (n : ℕ) → ((k : ℕ) × P k) ⊎ ((k : ℕ) → k < n → P k → ⊥)
-search_below P decide zero = inr (λ k h p. absurd (omega arith))
-search_below P decide (suc n) =
-    elim (search_below P decide n) [
-      | inl found ↦ inl found
-      | inr none ↦ elim (decide n) [
-        | inl p ↦ inl (n, p)
-        | inr never ↦ inr (λ k h p. elim (cases_lt k n) [
-          | inl less ↦ none k less p
-          | inr more ↦ let same : k ≡ n = omega arith in never (subst P same p)
-        ])
-      ]
-    ]
 
 -- below n: a first fault, or none
 pub first_below : (fault_at : ℕ → Option VerifyFault) (n : ℕ) → ((fault : VerifyFault) × (slot : ℕ) × IsFirst fault_at fault slot) ⊎ ((k : ℕ) → k < n → fault_at k ≡ None)
@@ -60,104 +43,60 @@ none_beyond code k h = cases (insn_at code k) refl where
 pub structure_beyond : (code : List Insn) (k : ℕ) → length (insns_by_slot code) ≤ k → structure_fault code k ≡ None
 structure_beyond code k h = ap (slot_structure_fault code k) (none_beyond code k h)
 
-pub dataflow_beyond : (code : List Insn) (k : ℕ) → length (insns_by_slot code) ≤ k → dataflow_fault code k ≡ None
-dataflow_beyond code k h = ap (slot_dataflow_fault (state_at code k)) (none_beyond code k h) ∙ nothing (state_at code k) where
-  nothing : (o : Option AbstractState) → slot_dataflow_fault o None ≡ None
-  nothing None = refl
-  nothing (Some state) = refl
-
 everywhere : (fault_at : ℕ → Option VerifyFault) (n : ℕ) → ((k : ℕ) → k < n → fault_at k ≡ None) → ((k : ℕ) → n ≤ k → fault_at k ≡ None) → (k : ℕ) → fault_at k ≡ None
 everywhere fault_at n low high k = elim (cases_lt k n) [ inl less ↦ low k less | inr more ↦ high k more ]
 
--- ---- the longest path
-
-edge_to : (es : List Edge) (t : ℕ) → Decided ((e : Edge) × IsOneOf e es × (e.target ≡ t))
-edge_to [] t = inr (λ found. absurd found.1)
-edge_to (d ∷ ds) t =
-    elim (eqb_tells d.target t) [
-      | inl (e, same) ↦ inl (d, inl refl, same)
-      | inr (e, other) ↦ elim (edge_to ds t) [
-        | inl (f, one, lands) ↦ inl (f, inr one, lands)
-        | inr none ↦ inr (λ found. not_here d ds t other none found.0 found.1 found.2)
-      ]
-    ] where
-      not_here : (d : Edge) (ds : List Edge) (t : ℕ) → (d.target ≡ t → ⊥) → (((e : Edge) × IsOneOf e ds × (e.target ≡ t)) → ⊥) → (e : Edge) → IsOneOf e (d ∷ ds) → e.target ≡ t → ⊥
-      not_here d ds t other none e (inl is) lands = other (ap (λ (x : Edge). x.target) (sym is) ∙ lands)
-      not_here d ds t other none e (inr one) lands = none (e, one, lands)
-
-module _ (bytes : List ℕ) (code : List Insn) (c : IsCode bytes code) (structure : (slot : ℕ) → structure_fault code slot ≡ None) where
-  slots : ℕ
-  slots = length (insns_by_slot code)
-
-  -- a path of one edge more, by way of slot s
-  abbrev By : ℕ → ℕ → ℕ → Type 0
-  By n t s = (e : Edge) × Path code n s × IsOneOf e (edges_at code s) × (e.target ≡ t)
-
-  path_decided : (n t : ℕ) → Decided (Path code n t)
-  path_decided zero t = elim (eqb_tells t 0) [ inl (e, same) ↦ inl same | inr (e, other) ↦ inr other ]
-  path_decided (suc n) t =
-      elim (search_below (By n t) (λ s. by n t s (path_decided n s) (edge_to (edges_at code s) t)) (length (insns_by_slot code))) [
-        | inl (s, found) ↦ inl (s, found.0, found.1, found.2, found.3)
-        | inr none ↦ inr (λ path. none path.0 (path_within bytes code c structure n path.0 path.2).1 (path.1, path.2, path.3, path.4))
-      ] where
-        by : (n t s : ℕ) → Decided (Path code n s) → Decided ((e : Edge) × IsOneOf e (edges_at code s) × (e.target ≡ t)) → Decided (By n t s)
-        by n t s (inl path) (inl (e, one, lands)) = inl (e, path, one, lands)
-        by n t s (inl path) (inr none) = inr (λ found. none (found.0, found.2, found.3))
-        by n t s (inr none) edge = inr (λ found. none found.1)
-
-  -- no path has m edges or more: then there is a longest one
-  longest_below : (m : ℕ) → ((n t : ℕ) → m ≤ n → Path code n t → ⊥) → (bound : ℕ) × IsBound code bound
-  longest_below zero none = absurd (none 0 0 (omega arith) refl)
-  longest_below (suc m) none =
-      elim (search_below (λ t. Path code m t) (path_decided m) (length (insns_by_slot code))) [
-        | inl (t, path) ↦ (
-          m + 1,
-          record {
-            enough = λ n s p. elim (cases_lt n (m + 1)) [
-              | inl less ↦ omega arith
-              | inr more ↦ absurd (none n s (omega arith) p)
-            ];
-            met = (m, t, path, refl);
-          },
-        )
-        | inr short ↦ longest_below m (λ n t less p. elim (cases_lt m n) [
-          | inl more ↦ none n t (omega arith) p
-          | inr even ↦
-              let same : n ≡ m = omega arith in
-              let there = path_within bytes code c structure n t p in
-              short t there.1 (subst (λ (k : ℕ). Path code k t) same p)
-        ])
-      ]
-
-  longest : (bound : ℕ) × IsBound code bound
-  longest =
-      longest_below (length (insns_by_slot code)) (λ n t more p. let within = path_within bytes code c structure n t p in absurd (let low = within.0 in let high = within.1 in omega arith))
-
 -- ---- the verdict
+
+-- visits without a fault have a bound
+accepts : (bytes : List ℕ) (code : List Insn) → IsCode bytes code → ((slot : ℕ) → structure_fault code slot ≡ None) → ((index : ℕ) → dataflow_fault code index ≡ None) → (bound : ℕ) × IsAccepted code bound
+accepts bytes code c structure dataflow =
+    let bound = some_bound code structure frames 0 start_state (first_at code (few bytes code c).0) in
+    (bound.0, record { structure = structure; dataflow = dataflow; longest = bound.1 })
+
+-- the first visit that has a fault
+first_visit : (code : List Insn) (fault : VerifyFault) (index : ℕ) → IsFirst (dataflow_fault code) fault index → (slot : ℕ) × IsFirstVisit code fault slot
+first_visit code fault index first =
+    let visit = visit_there index (slice_get (visits code) index) fault first.0 in
+    (visit.0.slot, record { index = index; visit = visit.0; visit_is = visit.1; slot_is = refl; first = first })
+
+-- visit 65,537 has a fault, where there is one; so no later one is the first
+none_later : (code : List Insn) → ((k : ℕ) → k < max_visits + 1 → dataflow_fault code k ≡ None) → (k : ℕ) → dataflow_fault code k ≡ None
+none_later code none k =
+    elim (cases_lt k (max_visits + 1)) [
+      | inl less ↦ none k less
+      | inr more ↦
+          ap (visit_fault k) (past (visits code) k (omega (arith, more, end_of (visits code) max_visits (λ e. stands e (none max_visits (omega arith))))))
+    ] where
+      past : (vs : List Visit) (i : ℕ) → length vs ≤ i → slice_get vs i ≡ None
+      past [] i h = refl
+      past (v ∷ vs) zero h = absurd (omega (arith, h))
+      past (v ∷ vs) (suc i) h = past vs i (omega (arith, h))
+
+      end_of : (vs : List Visit) (i : ℕ) → (((v : Visit) × (slice_get vs i ≡ Some v)) → ⊥) → length vs ≤ i
+      end_of [] i h = omega arith
+      end_of (v ∷ vs) zero h = absurd (h (v, refl))
+      end_of (v ∷ vs) (suc i) h = let rest = end_of vs i h in omega (arith, rest)
+
+      stands : ((v : Visit) × (slice_get (visits code) max_visits ≡ Some v)) → dataflow_fault code max_visits ≡ None → ⊥
+      stands (v, is) none = let some = sym (ap (visit_fault max_visits) is) ∙ none in cc
 
 pub decided : (bytes : List ℕ) (code : List Insn) → IsCode bytes code → ((bound : ℕ) × IsAccepted code bound) ⊎ ((fault : VerifyFault) × (slot : ℕ) × IsRejected code fault slot)
 decided bytes code c =
     elim (first_below (structure_fault code) (length (insns_by_slot code))) [
       | inl (fault, slot, first) ↦ inr (fault, slot, inl first)
       | inr structure ↦
-          flows (everywhere (structure_fault code) (length (insns_by_slot code)) structure (structure_beyond code)) (first_below (dataflow_fault code) (length (insns_by_slot code)))
+          flows (everywhere (structure_fault code) (length (insns_by_slot code)) structure (structure_beyond code)) (first_below (dataflow_fault code) (max_visits + 1))
     ] where
-      flows : ((slot : ℕ) → structure_fault code slot ≡ None) → ((fault : VerifyFault) × (slot : ℕ) × IsFirst (dataflow_fault code) fault slot) ⊎ ((k : ℕ) → k < length (insns_by_slot code) → dataflow_fault code k ≡ None) → ((bound : ℕ) × IsAccepted code bound) ⊎ ((fault : VerifyFault) × (slot : ℕ) × IsRejected code fault slot)
-      flows structure (inl (fault, slot, first)) = inr (fault, slot, inr (structure, first))
-      flows structure (inr none) =
-          let dataflow = everywhere (dataflow_fault code) (length (insns_by_slot code)) none (dataflow_beyond code) in
-          let long = longest bytes code c structure in
-          inl (long.0, record { structure = structure; dataflow = dataflow; longest = long.1 })
+      flows : ((slot : ℕ) → structure_fault code slot ≡ None) → ((fault : VerifyFault) × (index : ℕ) × IsFirst (dataflow_fault code) fault index) ⊎ ((k : ℕ) → k < max_visits + 1 → dataflow_fault code k ≡ None) → ((bound : ℕ) × IsAccepted code bound) ⊎ ((fault : VerifyFault) × (slot : ℕ) × IsRejected code fault slot)
+      flows structure (inl (fault, index, first)) =
+          let visit = first_visit code fault index first in inr (fault, visit.0, inr (structure, visit.1))
+      flows structure (inr none) = inl (accepts bytes code c structure (none_later code none))
 
 -- ---- there is one verdict
 
 pub same_bound : (code : List Insn) (a b : ℕ) → IsAccepted code a → IsAccepted code b → a ≡ b
-same_bound code a b x y =
-    let p = x.longest.met in let q = y.longest.met in
-    let pe = p.3 in let qe = q.3 in
-    let low = y.longest.enough p.0 p.1 p.2 in
-    let high = x.longest.enough q.0 q.1 q.2 in
-    omega arith
+same_bound code a b x y = one_bound code x.structure frames 0 start_state a b x.longest y.longest
 
 fault_is : (x y : VerifyFault) → Some x ≡ Some y → x ≡ y
 fault_is x y e = cc
@@ -177,12 +116,18 @@ same_first fault_at x y s t p q =
 never_first : (fault_at : ℕ → Option VerifyFault) (x : VerifyFault) (s : ℕ) → ((k : ℕ) → fault_at k ≡ None) → IsFirst fault_at x s → ⊥
 never_first fault_at x s none p = let both = sym p.0 ∙ none s in cc
 
+same_visit : (code : List Insn) (x y : VerifyFault) (s t : ℕ) → IsFirstVisit code x s → IsFirstVisit code y t → (x ≡ y) × (s ≡ t)
+same_visit code x y s t p q =
+    let same = same_first (dataflow_fault code) x y p.index q.index p.first q.first in
+    let visit : Some p.visit ≡ Some q.visit = sym p.visit_is ∙ ap (slice_get (visits code)) same.1 ∙ q.visit_is in
+    (same.0, p.slot_is ∙ ap (λ (v : Visit). v.slot) (some_is p.visit q.visit visit) ∙ sym q.slot_is)
+
 pub same_fault : (code : List Insn) (x y : VerifyFault) (s t : ℕ) → IsRejected code x s → IsRejected code y t → (x ≡ y) × (s ≡ t)
 same_fault code x y s t (inl p) (inl q) = same_first (structure_fault code) x y s t p q
 same_fault code x y s t (inl p) (inr q) = absurd (never_first (structure_fault code) x s q.0 p)
 same_fault code x y s t (inr p) (inl q) = absurd (never_first (structure_fault code) y t p.0 q)
-same_fault code x y s t (inr p) (inr q) = same_first (dataflow_fault code) x y s t p.1 q.1
+same_fault code x y s t (inr p) (inr q) = same_visit code x y s t p.1 q.1
 
 pub not_both : (code : List Insn) (bound : ℕ) (x : VerifyFault) (s : ℕ) → IsAccepted code bound → IsRejected code x s → ⊥
 not_both code bound x s a (inl p) = never_first (structure_fault code) x s a.structure p
-not_both code bound x s a (inr p) = never_first (dataflow_fault code) x s a.dataflow p.1
+not_both code bound x s a (inr p) = never_first (dataflow_fault code) x p.1.index a.dataflow p.1.first

@@ -1,5 +1,5 @@
 -- The ranges at each slot hold numbers of 64 bits alone.
-use Rattle.std.proofs.Common.{◌≡◌, ℕ, zero, suc, ◌+◌, ◌^◌, ◌<◌, Bool, true, false, cond, eqb, List, [], ◌∷◌, ◌++◌, Option, Some, None, refl, sym, ap, subst, ◌∙◌, arith, inl, inr, map, filter, fold}
+use Rattle.std.proofs.Common.{◌≡◌, ℕ, zero, suc, ◌+◌, ◌^◌, ◌<◌, ◌≤◌, Bool, true, false, ◌&&◌, length, cond, eqb, List, [], ◌∷◌, ◌++◌, Option, Some, None, refl, sym, ap, subst, ◌∙◌, arith, inl, inr, map, filter, fold}
 use Rattle.std.specs.Prelude.{nat_le}
 use Rattle.std.specs.Int.{w64, cast_unsigned}
 use Rattle.std.specs.List.{AllByRecursion}
@@ -18,15 +18,19 @@ use Rattle.bpf_decode.specs.Encoding.{IsInsn}
 use Rattle.reg_ranges.specs.Ranges.{Range, single, join_of, swap_range_of}
 use Rattle.reg_ranges.specs.Refine.{Ranges, refine_of}
 use Rattle.bpf_model.specs.Access.{bytes_of}
-use Rattle.bpf_model.specs.Code.{insn_at, target_of}
-use Rattle.bpf_model.specs.declared.helper.Access.{Access}
+use Rattle.bpf_model.specs.Code.{insns_by_slot, insn_at, target_of}
+use Rattle.bpf_model.specs.Machine.{frames, frame_end}
+use Rattle.map_helpers.specs.declared.helper.Access.{Access}
+use Rattle.map_helpers.specs.declared.helper.Helper.{Helper}
+use Rattle.map_helpers.specs.declared.helper.Helper.TheVariants.{Get, Put, Del, Len, Next, Emit, Caller}
+use Rattle.map_helpers.specs.Helpers.{helper_of}
 use Rattle.bpf_model.specs.Step.{tested_immediate}
-use Rattle.bpf_model.specs.AbstractState.{AbstractState, Edge, start_state, join_option, join, join_all, source_range, destination_range, transfer, with_range, alu_range, address_range, loaded_range, after_store, after_helper, tested_range, with_ranges, after_test, edge_if, edges}
-use Rattle.bpf_model.specs.Dataflow.{edges_of, flows_to, incoming, state_at}
+use Rattle.bpf_model.specs.AbstractState.{AbstractState, Edge, entry_state, after_call, join_option, join, join_all, source_range, destination_range, transfer, with_range, alu_range, address_range, loaded_range, after_store, helper_max_answer, after_helper, tested_range, with_ranges, after_test, edge_if, edges}
+use Rattle.bpf_model.specs.Dataflow.{Activation, activation, Exits, is_exit, entered, behind, edges_of, flows_to, incoming, state_at, exit_of, exits_below, exits}
 use Rattle.bpf_model.proofs.Options.{some_is, bind_some, map_some}
 use Rattle.bpf_model.proofs.Slots.{insn_fits}
 use Rattle.bpf_model.proofs.RangeLaws.{IsRange, IsRange-transfer, IsRange-swap, IsRange-loaded, IsRange-refine}
-use Rattle.bpf_model.proofs.Soundness.{IsWellFormed, IsWellFormed-start, ImmInRange, alu_imm, test_imm, small_64, immediate_small}
+use Rattle.bpf_model.proofs.Soundness.{IsWellFormed, ImmInRange, alu_imm, test_imm, small_64, immediate_small}
 
 -- ---- where ways join
 
@@ -102,15 +106,15 @@ after_store_well_formed : (state : AbstractState) (o : Option Range) (size : ℕ
 unfolding IsWellFormed
 after_store_well_formed state o size fit = fit
 
-after_helper_well_formed : (state : AbstractState) (written : List Access) → IsWellFormed state → IsWellFormed (after_helper state written)
+after_helper_well_formed : (state : AbstractState) (most : ℕ) (written : List Access) → most < 2 ^ 64 → IsWellFormed state → IsWellFormed (after_helper state most written)
 unfolding IsWellFormed
-after_helper_well_formed state written fit r x e =
+after_helper_well_formed state most written small fit r x e =
     elim (eqb_tells r 0) [
       | inl (t, same) ↦
-          let is : record { lo = 0; hi = 1 } ≡ x = some_is _ _ (sym (ap (λ (b : Bool). cond b (Some (record { lo = 0; hi = 1 })) (cond (nat_le 6 r) (state.ranges r) None)) t) ∙ e) in
-          subst (λ (y : Range). IsRange y) is (record { below = omega arith })
+          let is : record { lo = 0; hi = most } ≡ x = some_is _ _ (sym (ap (λ (b : Bool). cond b (Some (record { lo = 0; hi = most })) (cond (nat_le 6 r) (state.ranges r) None)) t) ∙ e) in
+          subst (λ (y : Range). IsRange y) is (record { below = small })
       | inr (f, other) ↦
-          let rest : cond (nat_le 6 r) (state.ranges r) None ≡ Some x = sym (ap (λ (b : Bool). cond b (Some (record { lo = 0; hi = 1 })) (cond (nat_le 6 r) (state.ranges r) None)) f) ∙ e in
+          let rest : cond (nat_le 6 r) (state.ranges r) None ≡ Some x = sym (ap (λ (b : Bool). cond b (Some (record { lo = 0; hi = most })) (cond (nat_le 6 r) (state.ranges r) None)) f) ∙ e in
           elim (leb_tells 6 r) [
             | inl (g, high) ↦ fit r x (sym (ap (λ (b : Bool). cond b (state.ranges r) None) g) ∙ rest)
             | inr (g, low) ↦ absurd (let none = sym (ap (λ (b : Bool). cond b (state.ranges r) None) g) ∙ rest in cc)
@@ -159,29 +163,50 @@ edges_append : (xs ys : List Edge) → EdgesWellFormed xs → EdgesWellFormed ys
 edges_append [] ys fx fy = fy
 edges_append (x ∷ xs) ys fx fy = (fx.0, edges_append xs ys fx.1 fy)
 
-edges_well_formed : (slot : ℕ) (state : AbstractState) (x : Insn) → IsWellFormed state → IsInsn x → EdgesWellFormed (edges slot state x)
-edges_well_formed slot state (Alu width op dst src) fit is =
+max_answer_small : (o : Option Helper) → helper_max_answer o < 2 ^ 64
+max_answer_small None = omega arith
+max_answer_small (Some Get) = omega arith
+max_answer_small (Some Put) = omega arith
+max_answer_small (Some Del) = omega arith
+max_answer_small (Some Len) = omega arith
+max_answer_small (Some Next) = omega arith
+max_answer_small (Some Emit) = omega arith
+max_answer_small (Some Caller) = omega arith
+
+-- behind calls too
+abbrev BehindWellFormed : (ℕ → AbstractState → Option AbstractState) → Type 0
+BehindWellFormed b = (target : ℕ) (state s : AbstractState) → IsWellFormed state → b target state ≡ Some s → IsWellFormed s
+
+called_well_formed : (b : ℕ → AbstractState → Option AbstractState) → BehindWellFormed b → (o : Option ℕ) (state s : AbstractState) → IsWellFormed state → (o >>= λ target. b target state) ≡ Some s → IsWellFormed s
+called_well_formed b keeps None state s fit e = absurd cc
+called_well_formed b keeps (Some target) state s fit e = keeps target state s fit e
+
+edges_well_formed : (b : ℕ → AbstractState → Option AbstractState) → BehindWellFormed b → (slot : ℕ) (state : AbstractState) (x : Insn) → IsWellFormed state → IsInsn x → EdgesWellFormed (edges b slot state x)
+edges_well_formed b keeps slot state (Alu width op dst src) fit is =
     (with_range_well_formed state dst.number (alu_range state width op dst.number src) fit (alu_range_well_formed state width op dst.number src fit (alu_imm width op dst src is)), tt)
-edges_well_formed slot state (Swap kind width dst) fit is =
+edges_well_formed b keeps slot state (Swap kind width dst) fit is =
     (with_range_well_formed state dst.number (option_map (swap_range_of kind width) (state.ranges dst.number)) fit (swap_well_formed state dst.number (swap_range_of kind width) fit (IsRange-swap kind width)), tt)
-edges_well_formed slot state (LoadImm dst value) fit is = (with_one state dst.number (single value) fit (record { below = is }), tt)
-edges_well_formed slot state (Load size signed dst base offset) fit is =
+edges_well_formed b keeps slot state (LoadImm dst value) fit is = (with_one state dst.number (single value) fit (record { below = is }), tt)
+edges_well_formed b keeps slot state (Load size signed dst base offset) fit is =
     (with_one state dst.number (loaded_range size signed) fit (IsRange-loaded size signed), tt)
-edges_well_formed slot state (StoreImm size base offset imm) fit is = (after_store_well_formed state (address_range state base.number offset) (bytes_of size) fit, tt)
-edges_well_formed slot state (Store size base offset src) fit is = (after_store_well_formed state (address_range state base.number offset) (bytes_of size) fit, tt)
-edges_well_formed slot state (Jump offset) fit is = edge_if_well_formed (target_of slot offset) (Some state) (same_state state fit)
-edges_well_formed slot state (JumpLong offset) fit is = edge_if_well_formed (target_of slot offset) (Some state) (same_state state fit)
-edges_well_formed slot state (Test narrow test dst src offset) fit is =
+edges_well_formed b keeps slot state (StoreImm size base offset imm) fit is = (after_store_well_formed state (address_range state base.number offset) (bytes_of size) fit, tt)
+edges_well_formed b keeps slot state (Store size base offset src) fit is = (after_store_well_formed state (address_range state base.number offset) (bytes_of size) fit, tt)
+edges_well_formed b keeps slot state (Jump offset) fit is = edge_if_well_formed (target_of slot offset) (Some state) (same_state state fit)
+edges_well_formed b keeps slot state (JumpLong offset) fit is = edge_if_well_formed (target_of slot offset) (Some state) (same_state state fit)
+edges_well_formed b keeps slot state (Test narrow test dst src offset) fit is =
     let small = test_imm narrow test dst src offset is in
     edges_append (edge_if (Some (slot + 1)) (after_test state narrow test dst.number src false)) (edge_if (target_of slot offset) (after_test state narrow test dst.number src true)) (edge_if_well_formed (Some (slot + 1)) (after_test state narrow test dst.number src false) (after_test_well_formed state narrow test dst.number src false fit small)) (edge_if_well_formed (target_of slot offset) (after_test state narrow test dst.number src true) (after_test_well_formed state narrow test dst.number src true fit small))
-edges_well_formed slot state (CallHelper number) fit is = (after_helper_well_formed state _ fit, tt)
-edges_well_formed slot state (CallLocal offset) fit is = tt
-edges_well_formed slot state Exit fit is = tt
+edges_well_formed b keeps slot state (CallHelper number) fit is =
+    (after_helper_well_formed state _ _ (max_answer_small (helper_of number)) fit, tt)
+edges_well_formed b keeps slot state (CallLocal offset) fit is =
+    edge_if_well_formed (Some (slot + 1)) (target_of slot offset >>= λ target. b target state) (λ s e. called_well_formed b keeps (target_of slot offset) state s fit e)
+edges_well_formed b keeps slot state Exit fit is = tt
 
-edges_of_well_formed : (slot : ℕ) (o : Option AbstractState) (i : Option Insn) → ((s : AbstractState) → o ≡ Some s → IsWellFormed s) → ((x : Insn) → i ≡ Some x → IsInsn x) → EdgesWellFormed (edges_of slot o i)
-edges_of_well_formed slot None i fs fx = tt
-edges_of_well_formed slot (Some state) None fs fx = tt
-edges_of_well_formed slot (Some state) (Some x) fs fx = edges_well_formed slot state x (fs state refl) (fx x refl)
+edges_of_well_formed : (a : Activation) → BehindWellFormed (behind a) → (slot : ℕ) (o : Option AbstractState) (i : Option Insn) → ((s : AbstractState) → o ≡ Some s → IsWellFormed s) → ((x : Insn) → i ≡ Some x → IsInsn x) → EdgesWellFormed (edges_of a slot o i)
+edges_of_well_formed a keeps slot None i fs fx = tt
+edges_of_well_formed a keeps slot (Some state) None fs fx = tt
+edges_of_well_formed a keeps slot (Some state) (Some x) fs fx =
+    edges_well_formed (behind a) keeps slot state x (fs state refl) (fx x refl)
 
 flows_to_well_formed : (t : ℕ) (es : List Edge) → EdgesWellFormed es → AllByRecursion IsWellFormed (flows_to t es)
 flows_to_well_formed t [] all = tt
@@ -196,15 +221,80 @@ append_well_formed : (xs ys : List AbstractState) → AllByRecursion IsWellForme
 append_well_formed [] ys fx fy = fy
 append_well_formed (x ∷ xs) ys fx fy = (fx.0, append_well_formed xs ys fx.1 fy)
 
-first_well_formed : (b : Bool) → AllByRecursion IsWellFormed (cond b (start_state ∷ []) [])
-first_well_formed true = (IsWellFormed-start, tt)
-first_well_formed false = tt
+first_well_formed : (state : AbstractState) (b : Bool) → IsWellFormed state → AllByRecursion IsWellFormed (cond b (state ∷ []) [])
+first_well_formed state true fit = (fit, tt)
+first_well_formed state false fit = tt
 
-incoming_well_formed : (code : List Insn) → AllByRecursion IsInsn code → (n t : ℕ) → AllByRecursion IsWellFormed (incoming code n t)
-incoming_well_formed code fit zero t = first_well_formed (eqb t 0)
-incoming_well_formed code fit (suc n) t =
-    let here = edges_of_well_formed n (join_all (incoming code n n)) (insn_at code n) (λ s e. join_all_well_formed (incoming code n n) s (incoming_well_formed code fit n n) e) (λ x e. insn_fits code n x fit e) in
-    append_well_formed (incoming code n t) (flows_to t (edges_of n (join_all (incoming code n n)) (insn_at code n))) (incoming_well_formed code fit n t) (flows_to_well_formed t (edges_of n (join_all (incoming code n n)) (insn_at code n)) here)
+-- ---- functions
 
-pub well_formed_at : (code : List Insn) → AllByRecursion IsInsn code → (slot : ℕ) (state : AbstractState) → state_at code slot ≡ Some state → IsWellFormed state
-well_formed_at code fit slot state e = join_all_well_formed (incoming code slot slot) state (incoming_well_formed code fit slot slot) e
+-- the exits of functions that are entered in a state that is well-formed are so too
+abbrev ExitsWellFormed : Exits → Type 0
+ExitsWellFormed exits = (entry : ℕ) (state : AbstractState) → IsWellFormed state → AllByRecursion IsWellFormed (exits entry state)
+
+pub entry_well_formed : (d : ℕ) (state : AbstractState) → d < frames → IsWellFormed state → IsWellFormed (entry_state d state)
+unfolding IsWellFormed
+entry_well_formed d state shallow fit r x e =
+    elim (eqb_tells r 10) [
+      | inl (t, same) ↦
+          let is : single (frame_end d) ≡ x = some_is _ _ (sym (ap (λ (b : Bool). cond b (Some (single (frame_end d))) (cond (nat_le 1 r && nat_le r 5) (state.ranges r) None)) t) ∙ e) in
+          subst (λ (y : Range). IsRange y) is (record { below = omega arith })
+      | inr (f, other) ↦
+          let rest : cond (nat_le 1 r && nat_le r 5) (state.ranges r) None ≡ Some x = sym (ap (λ (b : Bool). cond b (Some (single (frame_end d))) (cond (nat_le 1 r && nat_le r 5) (state.ranges r) None)) f) ∙ e in
+          chosen (nat_le 1 r && nat_le r 5) rest
+    ] where
+      chosen : (b : Bool) → cond b (state.ranges r) None ≡ Some x → IsRange x
+      chosen true h = fit r x h
+      chosen false h = absurd cc
+
+after_call_well_formed : (d : ℕ) (state returned : AbstractState) → IsWellFormed state → IsWellFormed returned → IsWellFormed (after_call d state returned)
+unfolding IsWellFormed
+after_call_well_formed d state returned fit gives r x e = first (eqb r 0) e where
+  rest : (b : Bool) → cond b (state.ranges r) None ≡ Some x → IsRange x
+  rest true h = fit r x h
+  rest false h = absurd cc
+
+  first : (b : Bool) → cond b (returned.ranges 0) (cond (nat_le 6 r) (state.ranges r) None) ≡ Some x → IsRange x
+  first true h = gives 0 x h
+  first false h = rest (nat_le 6 r) h
+
+behind_well_formed : (a : Activation) → a.depth + 1 < frames → ExitsWellFormed a.exits → BehindWellFormed (behind a)
+behind_well_formed a shallow keeps target state s fit e =
+    let j = map_some (after_call (a.depth + 1) state) (join_all (a.exits target (entered a state))) s e in
+    subst IsWellFormed j.2 (after_call_well_formed (a.depth + 1) state j.0 fit (join_all_well_formed (a.exits target (entered a state)) j.0 (keeps target (entered a state) (entry_well_formed (a.depth + 1) state shallow fit)) j.1))
+
+module _ (code : List Insn) (code_fits : AllByRecursion IsInsn code) (a : Activation) (enters : IsWellFormed a.state) (keeps : BehindWellFormed (behind a)) where
+  incoming_well_formed : (n t : ℕ) → AllByRecursion IsWellFormed (incoming code a n t)
+  incoming_well_formed zero t = first_well_formed a.state (eqb t a.entry) enters
+  incoming_well_formed (suc n) t =
+      let here = edges_of_well_formed a keeps n (join_all (incoming code a n n)) (insn_at code n) (λ s e. join_all_well_formed (incoming code a n n) s (incoming_well_formed n n) e) (λ x e. insn_fits code n x code_fits e) in
+      append_well_formed (incoming code a n t) (flows_to t (edges_of a n (join_all (incoming code a n n)) (insn_at code n))) (incoming_well_formed n t) (flows_to_well_formed t (edges_of a n (join_all (incoming code a n n)) (insn_at code n)) here)
+
+  state_well_formed : (slot : ℕ) (state : AbstractState) → state_at code a slot ≡ Some state → IsWellFormed state
+  state_well_formed slot state e = join_all_well_formed (incoming code a slot slot) state (incoming_well_formed slot slot) e
+
+  exit_well_formed : (o : Option AbstractState) (i : Option Insn) → ((s : AbstractState) → o ≡ Some s → IsWellFormed s) → AllByRecursion IsWellFormed (exit_of o i)
+  exit_well_formed None i all = tt
+  exit_well_formed (Some s) None all = tt
+  exit_well_formed (Some s) (Some x) all = first_well_formed s (is_exit x) (all s refl)
+
+  exits_below_well_formed : (n : ℕ) → AllByRecursion IsWellFormed (exits_below code a n)
+  exits_below_well_formed zero = tt
+  exits_below_well_formed (suc n) =
+      append_well_formed (exits_below code a n) _ (exits_below_well_formed n) (exit_well_formed (state_at code a n) (insn_at code n) (λ s e. state_well_formed n s e))
+
+keeps_behind : (code : List Insn) (left entry : ℕ) (state : AbstractState) → left < frames → ExitsWellFormed (exits code left) → BehindWellFormed (behind (activation left (exits code left) entry state))
+keeps_behind code zero entry state h keeps = λ target t s fit e. never s e where
+  never : (s : AbstractState) → None ≡ Some s → IsWellFormed s
+  never s e = absurd cc
+keeps_behind code (suc left) entry state h keeps =
+    behind_well_formed (activation (suc left) (exits code (suc left)) entry state) (omega arith) keeps
+
+exits_well_formed : (code : List Insn) → AllByRecursion IsInsn code → (left : ℕ) → left ≤ frames → ExitsWellFormed (exits code left)
+exits_well_formed code code_fits zero h entry state fit = tt
+exits_well_formed code code_fits (suc left) h entry state fit =
+    exits_below_well_formed code code_fits (activation left (exits code left) entry state) fit (keeps_behind code left entry state (omega arith) (exits_well_formed code code_fits left (omega arith))) (length (insns_by_slot code))
+
+-- each state of a function that is entered in a state that is well-formed
+pub well_formed_at : (code : List Insn) → AllByRecursion IsInsn code → (left entry : ℕ) (start : AbstractState) → left < frames → IsWellFormed start → (slot : ℕ) (state : AbstractState) → state_at code (activation left (exits code left) entry start) slot ≡ Some state → IsWellFormed state
+well_formed_at code code_fits left entry start h fit slot state e =
+    state_well_formed code code_fits (activation left (exits code left) entry start) fit (keeps_behind code left entry start h (exits_well_formed code code_fits left (omega arith))) slot state e

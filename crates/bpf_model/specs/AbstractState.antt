@@ -1,5 +1,6 @@
--- Statement: the abstract state at a slot, and what an instruction makes of it.
-use Rattle.std.specs.Prelude.{◌≡◌, ◌⊎◌, ℕ, zero, suc, ◌+◌, ◌-◌, ◌*◌, ◌^◌, Bool, true, false, ◌&&◌, ◌||◌, ◌==◌, nat_le, nat_lt, if◌then◌else◌, List, [], ◌∷◌, ◌++◌, fold, Option, Some, None, ℤ}
+-- Statement: the abstract state at a slot, and what an instruction makes of it. d is the depth of the frame in which it
+-- runs.
+use Rattle.std.specs.Prelude.{◌≡◌, ◌⊎◌, ℕ, zero, suc, ◌+◌, ◌-◌, ◌*◌, ◌^◌, Bool, true, false, ◌&&◌, ◌||◌, not, ◌==◌, nat_le, nat_lt, if◌then◌else◌, List, [], ◌∷◌, ◌++◌, fold, Option, Some, None, ℤ}
 use Rattle.std.specs.Int.{w64, cast_unsigned}
 use Rattle.std.specs.List.{list_all, list_any}
 use Rattle.std.specs.Option.{is_some, option_map}
@@ -19,11 +20,13 @@ use Rattle.reg_ranges.specs.Ranges.{Range, range, single, is_single, full, join_
 use Rattle.reg_ranges.specs.Refine.{Ranges, refine_of}
 use Rattle.bpf_model.specs.Access.{bytes_of}
 use Rattle.bpf_model.specs.Code.{slots_of, target_of}
-use Rattle.bpf_model.specs.Machine.{arguments_start, frame_end, is_in_bounds}
+use Rattle.bpf_model.specs.Machine.{arguments_start, frame_end, is_in_frame, is_in_bounds}
 use Rattle.bpf_model.specs.Step.{tested_immediate}
-use Rattle.bpf_model.specs.declared.helper.Access.{Access}
-use Rattle.bpf_model.specs.declared.helper.Helper.{Helper}
-use Rattle.bpf_model.specs.Helpers.{helper_of, arguments_of, reads, writes}
+use Rattle.map_helpers.specs.declared.helper.Access.{Access}
+use Rattle.map_helpers.specs.declared.helper.Extent.{Extent}
+use Rattle.map_helpers.specs.declared.helper.Extent.TheVariants.{Fixed, Second}
+use Rattle.map_helpers.specs.declared.helper.Helper.{Helper}
+use Rattle.map_helpers.specs.Helpers.{helper_of, arguments_of, fixed_size, reads, writes, max_answer}
 
 -- The range of each register that holds a number for certain, and the bytes of the stack that are initialized for
 -- certain, whatever the code is called with.
@@ -108,10 +111,10 @@ all_initialized initialized address (suc n) = initialized address && all_initial
 abbrev pub extent : Range → ℕ → ℕ
 extent range size = range.hi + size - range.lo
 
--- Whether all bytes that an access may touch lie in the frame, or all in the arguments.
-abbrev pub in_bounds : Option Range → ℕ → Bool
-in_bounds None size = false
-in_bounds (Some range) size = is_in_bounds 0 range.lo (extent range size)
+-- Whether all bytes that an access may touch lie in the frames in use, or all in the arguments.
+abbrev pub in_bounds : ℕ → Option Range → ℕ → Bool
+in_bounds d None size = false
+in_bounds d (Some range) size = is_in_bounds d range.lo (extent range size)
 
 -- Whether all bytes of the stack that an access may touch are initialized. The arguments always are.
 abbrev pub is_initialized : (ℕ → Bool) → Option Range → ℕ → Bool
@@ -138,32 +141,55 @@ abbrev pub helper_writes : Option Helper → List Access
 helper_writes None = []
 helper_writes (Some helper) = writes helper
 
-abbrev pub all_in_bounds : (ℕ → Option Range) → List Access → Bool
-all_in_bounds ranges accesses = list_all (λ access. in_bounds (ranges access.register) access.size) accesses
+abbrev pub helper_max_answer : Option Helper → ℕ
+helper_max_answer None = 0
+helper_max_answer (Some helper) = max_answer helper
+
+-- The greatest number of bytes that an access of a helper may have.
+abbrev pub max_size : (ℕ → Option Range) → Extent → Option ℕ
+max_size ranges (Fixed n) = Some n
+max_size ranges Second = option_map (λ range. range.hi) (ranges 2)
+
+-- A check of so many bytes. It passes where they are none.
+abbrev pub check_sized : (ℕ → Bool) → Option ℕ → Bool
+check_sized check None = false
+check_sized check (Some n) = n == 0 || check n
+
+-- Whether all bytes that an access of a helper may touch are in bounds.
+abbrev pub access_in_bounds : ℕ → (ℕ → Option Range) → Access → Bool
+access_in_bounds d ranges access =
+    check_sized (λ n. in_bounds d (ranges access.register) n) (max_size ranges access.size)
+
+-- Whether all bytes of the stack that an access of a helper may touch are initialized.
+abbrev pub access_initialized : (ℕ → Bool) → (ℕ → Option Range) → Access → Bool
+access_initialized initialized ranges access =
+    check_sized (λ n. is_initialized initialized (ranges access.register) n) (max_size ranges access.size)
+
+abbrev pub all_in_bounds : ℕ → (ℕ → Option Range) → List Access → Bool
+all_in_bounds d ranges accesses = list_all (access_in_bounds d ranges) accesses
 
 abbrev pub are_initialized : (ℕ → Bool) → (ℕ → Option Range) → List Access → Bool
-are_initialized initialized ranges accesses =
-    list_all (λ access. is_initialized initialized (ranges access.register) access.size) accesses
+are_initialized initialized ranges accesses = list_all (access_initialized initialized ranges) accesses
 
 -- Whether all bytes that an instruction may touch are in bounds: of a helper those that it reads, then those that it
 -- writes.
-abbrev pub has_accesses : AbstractState → Insn → Bool
-has_accesses state (Alu width op dst src) = true
-has_accesses state (Swap kind width dst) = true
-has_accesses state (LoadImm dst value) = true
-has_accesses state (Load size signed dst base offset) =
-    in_bounds (address_range state base.number offset) (bytes_of size)
-has_accesses state (StoreImm size base offset imm) =
-    in_bounds (address_range state base.number offset) (bytes_of size)
-has_accesses state (Store size base offset src) =
-    in_bounds (address_range state base.number offset) (bytes_of size)
-has_accesses state (Jump offset) = true
-has_accesses state (JumpLong offset) = true
-has_accesses state (Test narrow test dst src offset) = true
-has_accesses state (CallHelper number) =
-    all_in_bounds state.ranges (helper_reads (helper_of number) ++ helper_writes (helper_of number))
-has_accesses state (CallLocal offset) = true
-has_accesses state Exit = true
+abbrev pub has_accesses : ℕ → AbstractState → Insn → Bool
+has_accesses d state (Alu width op dst src) = true
+has_accesses d state (Swap kind width dst) = true
+has_accesses d state (LoadImm dst value) = true
+has_accesses d state (Load size signed dst base offset) =
+    in_bounds d (address_range state base.number offset) (bytes_of size)
+has_accesses d state (StoreImm size base offset imm) =
+    in_bounds d (address_range state base.number offset) (bytes_of size)
+has_accesses d state (Store size base offset src) =
+    in_bounds d (address_range state base.number offset) (bytes_of size)
+has_accesses d state (Jump offset) = true
+has_accesses d state (JumpLong offset) = true
+has_accesses d state (Test narrow test dst src offset) = true
+has_accesses d state (CallHelper number) =
+    all_in_bounds d state.ranges (helper_reads (helper_of number) ++ helper_writes (helper_of number))
+has_accesses d state (CallLocal offset) = true
+has_accesses d state Exit = true
 
 -- Whether all bytes that an instruction may read are initialized.
 abbrev pub has_bytes : AbstractState → Insn → Bool
@@ -216,19 +242,43 @@ abbrev pub after_store : AbstractState → Option Range → ℕ → AbstractStat
 after_store state range size =
     record state { initialized = λ address. is_written range size address || state.initialized address }
 
--- After a helper r0 holds 0 or 1, and r1 to r5 nothing.
-abbrev pub after_helper : AbstractState → List Access → AbstractState
-after_helper state written = record {
+-- After a helper r0 holds a number up to its greatest answer, and r1 to r5 nothing. What it wrote is initialized where
+-- its address is a single number.
+abbrev pub after_helper : AbstractState → ℕ → List Access → AbstractState
+after_helper state most written = record {
   ranges = λ r.
-      if r == 0 then Some (range 0 1)
+      if r == 0 then Some (range 0 most)
       else if nat_le 6 r then state.ranges r
       else None;
   initialized = λ address.
-      list_any (λ access. is_written (state.ranges access.register) access.size address) written
+      list_any (λ access. is_written (state.ranges access.register) (fixed_size access.size) address) written
       || state.initialized address;
 }
 
--- The state behind an instruction. Jumps and tests write nothing.
+-- As a function of the code is entered at depth d: r1 to r5 are its caller's, r10, the frame pointer, is the end of its
+-- frame; no other register holds anything. What its callers initialized is initialized. (RFC 9669, 2.1)
+abbrev pub entry_state : ℕ → AbstractState → AbstractState
+entry_state d state = record {
+  ranges = λ r.
+      if r == 10 then Some (single (frame_end d))
+      else if nat_le 1 r && nat_le r 5 then state.ranges r
+      else None;
+  initialized = state.initialized;
+}
+
+-- Behind a call, given the state at it and that at the exit of the callee, whose frame is at depth d: r0 is the
+-- callee's, r6 to r10 are the caller's own, r1 to r5 hold nothing. What is initialized at the exit is, but for the
+-- callee's frame. (RFC 9669, 2.1)
+abbrev pub after_call : ℕ → AbstractState → AbstractState → AbstractState
+after_call d state returned = record {
+  ranges = λ r.
+      if r == 0 then returned.ranges 0
+      else if nat_le 6 r then state.ranges r
+      else None;
+  initialized = λ address. returned.initialized address && not (is_in_frame d address);
+}
+
+-- The state behind an instruction. Jumps and tests write nothing; what a local call does, its callee says.
 abbrev pub after_insn : AbstractState → Insn → AbstractState
 after_insn state (Alu width op dst src) = with_range state dst.number (alu_range state width op dst.number src)
 after_insn state (Swap kind width dst) =
@@ -242,7 +292,8 @@ after_insn state (Store size base offset src) =
 after_insn state (Jump offset) = state
 after_insn state (JumpLong offset) = state
 after_insn state (Test narrow test dst src offset) = state
-after_insn state (CallHelper number) = after_helper state (helper_writes (helper_of number))
+after_insn state (CallHelper number) =
+    after_helper state (helper_max_answer (helper_of number)) (helper_writes (helper_of number))
 after_insn state (CallLocal offset) = state
 after_insn state Exit = state
 
@@ -286,23 +337,25 @@ after_test state narrow test dst src taken = do
 abbrev pub onward : ℕ → AbstractState → Insn → List Edge
 onward slot state insn = edge (slot + slots_of insn) (after_insn state insn) ∷ []
 
--- The edges out of an instruction at a slot: of a test first the one to the slot behind it. So far none leads into a
--- function of the code or behind its call.
-abbrev pub edges : ℕ → AbstractState → Insn → List Edge
-edges slot state (Alu width op dst src) = onward slot state (Alu width op dst src)
-edges slot state (Swap kind width dst) = onward slot state (Swap kind width dst)
-edges slot state (LoadImm dst value) = onward slot state (LoadImm dst value)
-edges slot state (Load size signed dst base offset) = onward slot state (Load size signed dst base offset)
-edges slot state (StoreImm size base offset imm) = onward slot state (StoreImm size base offset imm)
-edges slot state (Store size base offset src) = onward slot state (Store size base offset src)
-edges slot state (Jump offset) = edge_if (target_of slot offset) (Some state)
-edges slot state (JumpLong offset) = edge_if (target_of slot offset) (Some state)
-edges slot state (Test narrow test dst src offset) =
+-- The edges out of an instruction at a slot, within its function: of a test first the one to the slot behind it. From a
+-- local call one leads behind it, where its callee returns: the state there is given by the slot of the callee and the
+-- state at the call.
+abbrev pub edges : (ℕ → AbstractState → Option AbstractState) → ℕ → AbstractState → Insn → List Edge
+edges behind slot state (Alu width op dst src) = onward slot state (Alu width op dst src)
+edges behind slot state (Swap kind width dst) = onward slot state (Swap kind width dst)
+edges behind slot state (LoadImm dst value) = onward slot state (LoadImm dst value)
+edges behind slot state (Load size signed dst base offset) = onward slot state (Load size signed dst base offset)
+edges behind slot state (StoreImm size base offset imm) = onward slot state (StoreImm size base offset imm)
+edges behind slot state (Store size base offset src) = onward slot state (Store size base offset src)
+edges behind slot state (Jump offset) = edge_if (target_of slot offset) (Some state)
+edges behind slot state (JumpLong offset) = edge_if (target_of slot offset) (Some state)
+edges behind slot state (Test narrow test dst src offset) =
     edge_if (Some (slot + 1)) (after_test state narrow test dst.number src false)
     ++ edge_if (target_of slot offset) (after_test state narrow test dst.number src true)
-edges slot state (CallHelper number) = onward slot state (CallHelper number)
-edges slot state (CallLocal offset) = []
-edges slot state Exit = []
+edges behind slot state (CallHelper number) = onward slot state (CallHelper number)
+edges behind slot state (CallLocal offset) =
+    edge_if (Some (slot + 1)) (target_of slot offset >>= λ target. behind target state)
+edges behind slot state Exit = []
 
 -- x is an element of the list.
 abbrev pub IsOneOf : {X : Type 0} → X → List X → Type 0

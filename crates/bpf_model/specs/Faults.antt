@@ -4,7 +4,7 @@ use Rattle.bpf_decode.specs.declared.refusal.DecodeFault.{DecodeFault}
 use Rattle.bpf_decode.specs.declared.refusal.DecodeFault.TheVariants as decode
 use Rattle.bpf_decode.specs.Faults.{number_of as decode_number_of}
 use Rattle.bpf_model.specs.declared.fault.VerifyFault.{VerifyFault}
-use Rattle.bpf_model.specs.declared.fault.VerifyFault.TheVariants.{Decode, JumpBackward, JumpOutside, FallsOffEnd, UnknownHelper, WritesFramePointer, UninitRegister, BadAccess, UninitBytes, CallDepth, Memory}
+use Rattle.bpf_model.specs.declared.fault.VerifyFault.TheVariants.{Decode, JumpBackward, JumpOutside, FallsOffEnd, UnknownHelper, WritesFramePointer, UninitRegister, BadAccess, UninitBytes, CallDepth, TooComplex, Memory}
 
 abbrev pub number_of : VerifyFault → ℕ
 number_of (Decode fault) = decode_number_of fault
@@ -17,6 +17,7 @@ number_of UninitRegister = 16
 number_of BadAccess = 17
 number_of UninitBytes = 18
 number_of CallDepth = 19
+number_of TooComplex = 20
 number_of Memory = 21
 
 -- The decoder's faults are the verifier's; that memory ran out is one fault.

@@ -2,7 +2,7 @@ pub mod Code
 pub mod Machine
 pub mod Access
 pub mod Faults
-pub mod Helpers
+pub mod HelperCalls
 pub mod Step
 pub mod Run
 pub mod AbstractState
@@ -13,4 +13,6 @@ pub use Rattle.bpf_num.specs.Bind
 pub use Rattle.reg_ranges.specs.Ranges
 pub use Rattle.reg_ranges.specs.Refine
 pub use Rattle.bpf_decode.specs.Encoding
+pub use Rattle.map_helpers.specs.Helpers
+pub use Rattle.map_helpers.specs.Effects
 pub use Rattle.tenant_maps.specs.Entries

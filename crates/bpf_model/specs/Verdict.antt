@@ -1,16 +1,17 @@
 -- Statement: which code is accepted, and with which bound; which is refused, and by which first fault.
-use Rattle.std.specs.Prelude.{◌≡◌, ℕ, ◌+◌, ◌<◌, Bool, true, false, ◌&&◌, not, ◌==◌, nat_le, if◌then◌else◌, List, length, Option, Some, None, ◌⊎◌, option_and_then, ℤ, pos, negsuc}
+use Rattle.std.specs.Prelude.{◌≡◌, ℕ, zero, suc, ◌+◌, ◌<◌, Bool, true, false, ◌&&◌, not, ◌==◌, nat_le, if◌then◌else◌, List, [], ◌∷◌, ◌++◌, length, slice_get, Option, Some, None, ◌⊎◌, option_and_then, ℤ, pos, negsuc}
 use Rattle.std.specs.Option.{is_none}
 use Rattle.bpf_decode.specs.declared.insn.Insn.{Insn}
 use Rattle.bpf_decode.specs.declared.insn.Insn.TheVariants.{Alu, Swap, LoadImm, Load, StoreImm, Store, Jump, JumpLong, Test, CallHelper, CallLocal, Exit}
 use Rattle.bpf_decode.specs.declared.refusal.DecodeFault.{DecodeFault}
 use Rattle.bpf_decode.specs.Faults.{IsCode, IsRefused}
 use Rattle.bpf_model.specs.declared.fault.VerifyFault.{VerifyFault}
-use Rattle.bpf_model.specs.declared.fault.VerifyFault.TheVariants.{Decode, JumpBackward, JumpOutside, FallsOffEnd, UnknownHelper, WritesFramePointer, UninitRegister, BadAccess, UninitBytes, CallDepth}
+use Rattle.bpf_model.specs.declared.fault.VerifyFault.TheVariants.{Decode, JumpBackward, JumpOutside, FallsOffEnd, UnknownHelper, WritesFramePointer, UninitRegister, BadAccess, UninitBytes, CallDepth, TooComplex}
 use Rattle.bpf_model.specs.Code.{slots_of, insns_by_slot, insn_at, target_of}
-use Rattle.bpf_model.specs.Helpers.{helper_of}
-use Rattle.bpf_model.specs.AbstractState.{AbstractState, has_operands, has_accesses, has_bytes}
-use Rattle.bpf_model.specs.Dataflow.{state_at, IsBound}
+use Rattle.map_helpers.specs.Helpers.{helper_of}
+use Rattle.bpf_model.specs.AbstractState.{AbstractState, start_state, has_operands, has_accesses, has_bytes}
+use Rattle.bpf_model.specs.Machine.{frames}
+use Rattle.bpf_model.specs.Dataflow.{Activation, activation, called, entered, exits, state_at, IsBound}
 
 -- Whether a jump leads to its own slot or an earlier one. Code may not loop. (RFC 9669, 4.3)
 abbrev pub is_backward : ℤ → Bool
@@ -114,7 +115,7 @@ slot_structure_fault code slot (Some insn) = insn_structure_fault code slot insn
 abbrev pub structure_fault : List Insn → ℕ → Option VerifyFault
 structure_fault code slot = slot_structure_fault code slot (insn_at code slot)
 
--- Whether an instruction calls a function of the code. So far no code may.
+-- Whether an instruction calls a function of the code.
 abbrev pub calls_local : Insn → Bool
 calls_local (Alu width op dst src) = false
 calls_local (Swap kind width dst) = false
@@ -129,40 +130,91 @@ calls_local (CallHelper number) = false
 calls_local (CallLocal offset) = true
 calls_local Exit = false
 
--- What is wrong with an instruction that is reached, given the abstract state there: an operand that may hold nothing,
--- an access that may be out of bounds, a byte that is read and may not be initialized, a local call. Each is checked for
--- all accesses before the next.
-abbrev pub insn_dataflow_fault : AbstractState → Insn → Option VerifyFault
-insn_dataflow_fault state insn =
+-- What is wrong with an instruction that is visited in frame d, given the abstract state there: an operand that may
+-- hold nothing, an access that may be out of bounds, a byte that is read and may not be initialized, a local call for
+-- which no frame is left. Each is checked for all accesses before the next.
+abbrev pub insn_dataflow_fault : ℕ → AbstractState → Insn → Option VerifyFault
+insn_dataflow_fault d state insn =
     if not (has_operands state insn) then Some UninitRegister
-    else if not (has_accesses state insn) then Some BadAccess
+    else if not (has_accesses d state insn) then Some BadAccess
     else if not (has_bytes state insn) then Some UninitBytes
-    else if calls_local insn then Some CallDepth
+    else if calls_local insn && nat_le frames (d + 1) then Some CallDepth
     else None
 
-abbrev pub slot_dataflow_fault : Option AbstractState → Option Insn → Option VerifyFault
-slot_dataflow_fault (Some state) (Some insn) = insn_dataflow_fault state insn
-slot_dataflow_fault (Some state) None = None
-slot_dataflow_fault None insn = None
+-- A visit: the slot, and what is wrong there.
+pub record Visit : Type 0 where
+  pub slot : ℕ
+  pub fault : Option VerifyFault
 
+-- The visits of a function, given its slot and the state that it is entered in.
+abbrev pub Visits : Type 0
+Visits = ℕ → AbstractState → List Visit
+
+abbrev pub visits_of_callee : Activation → Visits → AbstractState → Option ℕ → List Visit
+visits_of_callee a callee state None = []
+visits_of_callee a callee state (Some target) = callee target (entered a state)
+
+abbrev pub visits_of : Activation → Visits → ℕ → Option AbstractState → Option Insn → List Visit
+visits_of a callee slot (Some state) (Some insn) =
+    record { slot = slot; fault = insn_dataflow_fault a.depth state insn }
+    ∷ visits_of_callee a callee state (called slot insn)
+visits_of a callee slot (Some state) None = []
+visits_of a callee slot None insn = []
+
+-- The visits at a slot, where a path leads to it: its own, then, of a local call, those of its callee.
+abbrev pub visits_at : List Insn → Activation → Visits → ℕ → List Visit
+visits_at code a callee slot = visits_of a callee slot (state_at code a slot) (insn_at code slot)
+
+-- The visits at the first n slots, ascending.
+abbrev pub visits_below : List Insn → Activation → Visits → ℕ → List Visit
+visits_below code a callee zero = []
+visits_below code a callee (suc n) = visits_below code a callee n ++ visits_at code a callee n
+
+-- The visits of functions, where so many frames are left.
+abbrev pub visits_in : List Insn → ℕ → Visits
+visits_in code zero entry state = []
+visits_in code (suc left) entry state =
+    visits_below code (activation left (exits code left) entry state) (visits_in code left) (length (insns_by_slot code))
+
+-- The visits of code, in order.
+abbrev pub visits : List Insn → List Visit
+visits code = visits_in code frames 0 start_state
+
+-- So many visits are made at most.
+abbrev pub max_visits : ℕ
+max_visits = 65536
+
+abbrev pub visit_fault : ℕ → Option Visit → Option VerifyFault
+visit_fault index None = None
+visit_fault index (Some visit) = if nat_le max_visits index then Some TooComplex else visit.fault
+
+-- What is wrong with the visit of an index, from 0.
 abbrev pub dataflow_fault : List Insn → ℕ → Option VerifyFault
-dataflow_fault code slot = slot_dataflow_fault (state_at code slot) (insn_at code slot)
+dataflow_fault code index = visit_fault index (slice_get (visits code) index)
 
--- The slot is the least that has a fault, and it has this one.
+-- The slot, or the visit, is the least that has a fault, and it has this one.
 abbrev pub IsFirst : (ℕ → Option VerifyFault) → VerifyFault → ℕ → Type 0
-IsFirst fault_at fault slot = (fault_at slot ≡ Some fault) × ((k : ℕ) → k < slot → fault_at k ≡ None)
+IsFirst fault_at fault index = (fault_at index ≡ Some fault) × ((k : ℕ) → k < index → fault_at k ≡ None)
 
--- Code that is accepted: no slot has a fault, and the bound is that of its longest path.
+-- The first visit that has a fault is at this slot, and has this one.
+pub record IsFirstVisit (code : List Insn) (fault : VerifyFault) (slot : ℕ) : Type 0 where
+  pub index : ℕ
+  pub visit : Visit
+  pub visit_is : slice_get (visits code) index ≡ Some visit
+  pub slot_is : slot ≡ visit.slot
+  pub first : IsFirst (dataflow_fault code) fault index
+
+-- Code that is accepted: no slot and no visit has a fault, and the bound is that of its longest path.
 pub record IsAccepted (code : List Insn) (bound : ℕ) : Type 0 where
   pub structure : (slot : ℕ) → structure_fault code slot ≡ None
-  pub dataflow : (slot : ℕ) → dataflow_fault code slot ≡ None
+  pub dataflow : (index : ℕ) → dataflow_fault code index ≡ None
   pub longest : IsBound code bound
 
--- Code that is refused, for its first fault: of its structure, or else of what is reached.
+-- Code that is refused, for its first fault: of its structure, or else of its visits.
 abbrev pub IsRejected : List Insn → VerifyFault → ℕ → Type 0
 IsRejected code fault slot =
     IsFirst (structure_fault code) fault slot
-    ⊎ ((k : ℕ) → structure_fault code k ≡ None) × IsFirst (dataflow_fault code) fault slot
+    ⊎ ((k : ℕ) → structure_fault code k ≡ None) × IsFirstVisit code fault slot
 
 -- The verdict on bytes: accepted with a bound.
 abbrev pub Accepts : List ℕ → ℕ → Type 0

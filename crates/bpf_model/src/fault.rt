@@ -8,8 +8,8 @@ use std::alloc::AllocError;
 use thiserror::Error;
 
 /// Why code is refused. Of several faults the first one is reported: the decoder's; then those of the
-/// structure, slot by slot, in the order in which they are listed here; then the first of a slot that is
-/// reached, in that order too.
+/// structure, slot by slot, in the order in which they are listed here; then that of the first visit of a
+/// slot that has one: `TooComplex` before the others, and these in that order too.
 #[derive(Clone, Copy, Debug, PartialEq, Eq, Error)]
 pub enum VerifyFault {
     /// The bytes are no code.
@@ -33,7 +33,7 @@ pub enum VerifyFault {
     /// A register that is read may hold nothing.
     #[error("UninitRegister")]
     UninitRegister,
-    /// Memory is accessed that may not lie wholly inside the frame, or wholly inside the arguments.
+    /// Memory is accessed that may not lie wholly inside the frames in use, or wholly inside the arguments.
     #[error("BadAccess")]
     BadAccess,
     /// A byte of the stack is read that may never have been written.
@@ -42,6 +42,10 @@ pub enum VerifyFault {
     /// A function of the code would be called, for which there is no frame.
     #[error("CallDepth")]
     CallDepth,
+    /// The code is visited more than 65,536 times: once for each slot that is reached, and of a function
+    /// anew at each call of it.
+    #[error("TooComplex")]
+    TooComplex,
     /// Memory ran out.
     #[error("Memory")]
     Memory,
@@ -63,6 +67,7 @@ impl VerifyFault {
             VerifyFault::BadAccess => 17,
             VerifyFault::UninitBytes => 18,
             VerifyFault::CallDepth => 19,
+            VerifyFault::TooComplex => 20,
             VerifyFault::Memory => 21,
         }
     }

@@ -1,11 +1,11 @@
 //! What BPF code means, and which code is accepted: definitions (`specs/`), laws about them, each the
-//! contract of a function with an empty body, and the lists that verifier and interpreter share: the
-//! layout of memory, the helpers with what they read and write (`Helper::of(1)` is `Helper::Get`, which
-//! reads 16 bytes at r1), and the verifier's faults.
+//! contract of a function with an empty body, and what verifier and interpreter share: the layout of
+//! memory, and the verifier's faults.
 #![tactic(auto)]
 
+#[cfg(test)]
+mod call_tests;
 mod fault;
-mod helper;
 pub mod layout;
 #[cfg(test)]
 mod tests;
@@ -19,7 +19,6 @@ ghost use Rattle.bpf_model.specs.Verdict.{IsAccepted, IsRejected};
 ghost use Rattle.bpf_model.specs.declared.fault.VerifyFault.{VerifyFault as Fault};
 
 pub use fault::{Refusal, VerifyFault};
-pub use helper::{Access, Helper};
 
 /// Accepted code cannot go wrong: whatever it is called with, no machine that is reached is stuck,
 /// and the run ends within the bound.

@@ -15,8 +15,7 @@ ghost use Rattle.bpf_model.specs.declared.fault.VerifyFault.TheVariants.{JumpBac
 ghost use Rattle.bpf_model.specs.Access.{address_of, loaded, stored_bytes};
 ghost use Rattle.bpf_model.specs.Code.{insn_at, target_of};
 ghost use Rattle.bpf_model.specs.Machine.{Machine, Frame, Call, start, stored, is_in_bounds};
-ghost use Rattle.bpf_model.specs.Helpers.{get_effect};
-ghost use Rattle.bpf_model.specs.Step.{Continues, tested_immediate, written, stores, jumps, effect, returned, resumed, without_frame};
+ghost use Rattle.bpf_model.specs.Step.{Continues, tested_immediate, written, stores, jumps, returned, resumed, without_frame};
 ghost use Rattle.bpf_model.specs.AbstractState.{AbstractState, start_state, join_option, in_bounds, is_written, loaded_range, with_range, with_ranges, after_insn, edges};
 ghost use Rattle.bpf_model.specs.Verdict.{structure_fault, insn_dataflow_fault};
 
@@ -50,13 +49,6 @@ fn a_callee_returns()
           callers = [];
           memory = without_frame 1 m.memory;
         }) }
-{}
-
-/// Where a key is absent, 32 zeros are written, and the answer is 1.
-fn an_absent_key()
-    ensures memory { (m : Machine) (address : ℕ) →
-        (get_effect m address None).memory ≡ stored m.memory address (replicate 32 0) }
-    ensures value { (m : Machine) (address : ℕ) → (get_effect m address None).value ≡ 1 }
 {}
 
 /// Offsets count from the slot behind the instruction.
@@ -97,14 +89,13 @@ fn bounds()
     ensures two_frames { is_in_bounds 1 (2 ^ 32 + 505) 8 ≡ true }
 {}
 
-/// What has no step: a write of r10, a store outside, a jump before the code, a local call.
+/// What has no step: a write of r10, a store outside, a jump before the code.
 fn stuck_machines()
     ensures frame_pointer { (m : Machine) (value : ℕ) → written m 1 10 value ≡ None }
     ensures outside { (m : Machine) →
         stores (record m { callers = [] }) 1 (2 ^ 32 + 512) (7 ∷ []) ≡ None }
     ensures before { (m : Machine) →
         jumps (record m { frame = record { pc = 0; registers = m.frame.registers } }) (negsuc 1) ≡ None }
-    ensures local { (m : Machine) (offset : ℤ) → effect m (CallLocal offset) ≡ None }
 {}
 
 /// An immediate of a narrow test is its 32 bits.
@@ -124,9 +115,13 @@ fn loaded_ranges()
 
 /// An access of 8 bytes at one of 16 addresses may touch 23 bytes.
 fn ranges_of_addresses()
-    ensures inside { in_bounds (Some (range (2 ^ 33 + 0xe9) (2 ^ 33 + 0xf8))) 8 ≡ true }
-    ensures outside { in_bounds (Some (range (2 ^ 33 + 0xea) (2 ^ 33 + 0xf9))) 8 ≡ false }
-    ensures across { in_bounds (Some (range (2 ^ 32) (2 ^ 33))) 1 ≡ false }
+    ensures inside { in_bounds 0 (Some (range (2 ^ 33 + 0xe9) (2 ^ 33 + 0xf8))) 8 ≡ true }
+    ensures outside { in_bounds 0 (Some (range (2 ^ 33 + 0xea) (2 ^ 33 + 0xf9))) 8 ≡ false }
+    ensures across { in_bounds 0 (Some (range (2 ^ 32) (2 ^ 33))) 1 ≡ false }
+    ensures both_frames { in_bounds 1 (Some (range (2 ^ 32) (2 ^ 32 + 1016))) 8 ≡ true }
+    ensures past_both { in_bounds 1 (Some (range (2 ^ 32) (2 ^ 32 + 1017))) 8 ≡ false }
+    ensures last_frame { in_bounds 7 (Some (single (2 ^ 32 + 4088))) 8 ≡ true }
+    ensures past_last { in_bounds 7 (Some (single (2 ^ 32 + 4089))) 8 ≡ false }
 {}
 
 /// A write at a single address initializes its bytes, a write at a range none.
@@ -151,17 +146,17 @@ fn operands_of_a_test()
 /// A test of r0 has two edges, or the one that a single number takes.
 fn edges_of_a_test()
     ensures both { (r : Reg) → r.number ≡ 0 →
-        each (λ e. e.target) (edges 5 (with_range start_state 0 (Some (range 0 9)))
+        each (λ e. e.target) (edges (λ _ _. None) 5 (with_range start_state 0 (Some (range 0 9)))
         (Test false Jgt r (source.Imm (pos 3)) (pos 2))) ≡ 6 ∷ 8 ∷ [] }
     ensures refined { (r : Reg) → r.number ≡ 0 →
-        each (λ e. e.state.ranges 0) (edges 5 (with_range start_state 0 (Some (range 0 9)))
+        each (λ e. e.state.ranges 0) (edges (λ _ _. None) 5 (with_range start_state 0 (Some (range 0 9)))
         (Test false Jgt r (source.Imm (pos 3)) (pos 2)))
         ≡ Some (range 0 3) ∷ Some (range 4 9) ∷ [] }
     ensures taken { (r : Reg) → r.number ≡ 0 →
-        each (λ e. e.target) (edges 5 (with_range start_state 0 (Some (single 7)))
+        each (λ e. e.target) (edges (λ _ _. None) 5 (with_range start_state 0 (Some (single 7)))
         (Test false Jgt r (source.Imm (pos 3)) (pos 2))) ≡ 8 ∷ [] }
     ensures refuted { (r : Reg) → r.number ≡ 0 →
-        each (λ e. e.target) (edges 5 (with_range start_state 0 (Some (single 3)))
+        each (λ e. e.target) (edges (λ _ _. None) 5 (with_range start_state 0 (Some (single 3)))
         (Test false Jgt r (source.Imm (pos 3)) (pos 2))) ≡ 6 ∷ [] }
 {}
 
@@ -182,20 +177,22 @@ fn structures()
 /// As a call begins: what is wrong with a return, with a local call, and with accesses through r10, the
 /// frame pointer, and r1, the arguments.
 fn dataflow_faults()
-    ensures result { insn_dataflow_fault start_state Exit ≡ Some UninitRegister }
-    ensures local { insn_dataflow_fault start_state (CallLocal (pos 0)) ≡ Some CallDepth }
+    ensures result { insn_dataflow_fault 0 start_state Exit ≡ Some UninitRegister }
+    ensures local { insn_dataflow_fault 0 start_state (CallLocal (pos 0)) ≡ None }
+    ensures last_local { insn_dataflow_fault 6 start_state (CallLocal (pos 0)) ≡ None }
+    ensures too_deep { insn_dataflow_fault 7 start_state (CallLocal (pos 0)) ≡ Some CallDepth }
     ensures base { (r : Reg) → r.number ≡ 3 →
-        insn_dataflow_fault start_state (Load B false r r (pos 0)) ≡ Some UninitRegister }
+        insn_dataflow_fault 0 start_state (Load B false r r (pos 0)) ≡ Some UninitRegister }
     ensures under { (r : Reg) → r.number ≡ 10 →
-        insn_dataflow_fault start_state (StoreImm Dw r (negsuc 519) (pos 0)) ≡ Some BadAccess }
+        insn_dataflow_fault 0 start_state (StoreImm Dw r (negsuc 519) (pos 0)) ≡ Some BadAccess }
     ensures unwritten { (r : Reg) → r.number ≡ 10 →
-        insn_dataflow_fault start_state (Load Dw false r r (negsuc 15)) ≡ Some UninitBytes }
+        insn_dataflow_fault 0 start_state (Load Dw false r r (negsuc 15)) ≡ Some UninitBytes }
     ensures write { (r : Reg) → r.number ≡ 10 →
-        insn_dataflow_fault start_state (StoreImm Dw r (negsuc 15) (pos 0)) ≡ None }
+        insn_dataflow_fault 0 start_state (StoreImm Dw r (negsuc 15) (pos 0)) ≡ None }
     ensures last { (r : Reg) → r.number ≡ 1 →
-        insn_dataflow_fault start_state (Load B false r r (pos 255)) ≡ None }
+        insn_dataflow_fault 0 start_state (Load B false r r (pos 255)) ≡ None }
     ensures past { (r : Reg) → r.number ≡ 1 →
-        insn_dataflow_fault start_state (Load H false r r (pos 255)) ≡ Some BadAccess }
+        insn_dataflow_fault 0 start_state (Load H false r r (pos 255)) ≡ Some BadAccess }
 {}
 
 /// A store of two bytes below the frame's end initializes these two.
@@ -213,7 +210,6 @@ fn definitions_at_values(rt: HostRuntime) {
     a_call_begins();
     joins();
     a_callee_returns();
-    an_absent_key();
     targets();
     a_wide_instruction();
     loads_and_stores();
@@ -252,6 +248,7 @@ fn fault_numbers(rt: HostRuntime) {
         (VerifyFault::BadAccess, 17),
         (VerifyFault::UninitBytes, 18),
         (VerifyFault::CallDepth, 19),
+        (VerifyFault::TooComplex, 20),
         (VerifyFault::Memory, 21),
     ];
     for (fault, number) in rows {

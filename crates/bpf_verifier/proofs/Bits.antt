@@ -1,10 +1,11 @@
 -- Bytes of the frame as bits of words.
-use Rattle.std.proofs.Common.{◌≡◌, ◌≢◌, ℕ, zero, suc, ◌+◌, ◌*◌, ◌/◌, ◌%◌, ◌^◌, ◌<◌, ◌≤◌, Bool, true, false, ◌&&◌, ◌||◌, eqb, leb, ltb, min, List, [], ◌∷◌, length, get_or, set, refl, sym, ap, ◌∙◌, arith, inl, inr, bit_and, bit_or}
+use Rattle.std.proofs.Common.{◌≡◌, ◌≢◌, ℕ, zero, suc, ◌+◌, ◌*◌, ◌/◌, ◌%◌, ◌^◌, ◌<◌, ◌≤◌, Bool, true, false, ◌&&◌, ◌||◌, not, eqb, leb, ltb, min, List, [], ◌∷◌, length, replicate, get_or, set, refl, sym, ap, ◌∙◌, arith, inl, inr, bit_and, bit_or}
 use Rattle.std.specs.Int.{w64, bit_at}
-use Rattle.std.proofs.lemmas.Bool.{eq-eqb, le-leb, lt-ltb, le-ltb, cases_lt}
+use Rattle.std.proofs.lemmas.Bool.{eq-eqb, le-leb, lt-leb, lt-ltb, le-ltb, cases_lt}
 use Rattle.std.proofs.lemmas.Bool.Decides.{eqb_tells, leb_tells}
-use Rattle.std.proofs.lemmas.List.{get_or-set_same, get_or-set_other, get_or_default}
-use Rattle.std.proofs.lemmas.Nat.Bits.{bit_at_and, bit_at-lt, bit_at_set_same, bit_at_set_other}
+use Rattle.std.proofs.lemmas.List.{get_or-set_same, get_or-set_other, get_or_default, length-set}
+use Rattle.std.proofs.lemmas.Nat.Bits.{bit_at-zero, bit_at_and, bit_at-lt, bit_at_set_same, bit_at_set_other}
+use Rattle.bpf_model.specs.Machine.{frame_start, frame_end, is_in_frame}
 use Rattle.bpf_verifier.specs.FrameBytes.{has_byte}
 
 pub not_equal : (a b : ℕ) → a ≢ b → eqb a b ≡ false
@@ -74,25 +75,105 @@ both_bits x y k = ap (λ (v : ℕ). eqb v 1) (bit_at_and x y k) ∙ small (bit_a
   small zero (suc (suc q)) hp hq = absurd (omega (arith, hq))
   small (suc zero) (suc (suc q)) hp hq = absurd (omega (arith, hq))
 
-abbrev pub both_words : List ℕ → List ℕ → (d0 e0 d1 e1 d2 e2 d3 e3 d4 e4 d5 e5 d6 e6 d7 e7 : ℕ) → List ℕ
-both_words a b d0 e0 d1 e1 d2 e2 d3 e3 d4 e4 d5 e5 d6 e6 d7 e7 =
-    bit_and (get_or a 0 d0) (get_or b 0 e0) ∷ bit_and (get_or a 1 d1) (get_or b 1 e1) ∷ bit_and (get_or a 2 d2) (get_or b 2 e2) ∷ bit_and (get_or a 3 d3) (get_or b 3 e3)
-    ∷ bit_and (get_or a 4 d4) (get_or b 4 e4) ∷ bit_and (get_or a 5 d5) (get_or b 5 e5) ∷ bit_and (get_or a 6 d6) (get_or b 6 e6) ∷ bit_and (get_or a 7 d7) (get_or b 7 e7) ∷ []
+-- ---- loops over the words
 
-pub both_bytes : (a b : List ℕ) (d0 e0 d1 e1 d2 e2 d3 e3 d4 e4 d5 e5 d6 e6 d7 e7 : ℕ) → length a ≡ 8 → length b ≡ 8 → (i : ℕ) → i < 512 → has_byte (both_words a b d0 e0 d1 e1 d2 e2 d3 e3 d4 e4 d5 e5 d6 e6 d7 e7) i ≡ (has_byte a i && has_byte b i)
-both_bytes a b d0 e0 d1 e1 d2 e2 d3 e3 d4 e4 d5 e5 d6 e6 d7 e7 la lb i h =
-    let small : i / 64 < 8 = omega (arith, h) in
-    ap (λ (v : ℕ). eqb (bit_at v (i % 64)) 1) (word (i / 64) small) ∙ both_bits (get_or a (i / 64) 0) (get_or b (i / 64) 0) (i % 64) where
-      one : (n d e : ℕ) → n < 8 → bit_and (get_or a n d) (get_or b n e) ≡ bit_and (get_or a n 0) (get_or b n 0)
-      one n d e k = let p : n < length a = omega (arith, k, la) in let q : n < length b = omega (arith, k, lb) in rw (get_or_default a n d 0 p, get_or_default b n e 0 q) refl
+-- the first k words have the bits of both
+pub record AreMet (k : ℕ) (now old other : List ℕ) : Type 0 where
+  pub met : (n : ℕ) → n < k → get_or now n 0 ≡ bit_and (get_or old n 0) (get_or other n 0)
+  pub rest : (n : ℕ) → k ≤ n → get_or now n 0 ≡ get_or old n 0
 
-      word : (n : ℕ) → n < 8 → get_or (both_words a b d0 e0 d1 e1 d2 e2 d3 e3 d4 e4 d5 e5 d6 e6 d7 e7) n 0 ≡ bit_and (get_or a n 0) (get_or b n 0)
-      word zero k = one 0 d0 e0 k
-      word (suc zero) k = one 1 d1 e1 k
-      word (suc (suc zero)) k = one 2 d2 e2 k
-      word (suc (suc (suc zero))) k = one 3 d3 e3 k
-      word (suc (suc (suc (suc zero)))) k = one 4 d4 e4 k
-      word (suc (suc (suc (suc (suc zero))))) k = one 5 d5 e5 k
-      word (suc (suc (suc (suc (suc (suc zero)))))) k = one 6 d6 e6 k
-      word (suc (suc (suc (suc (suc (suc (suc zero))))))) k = one 7 d7 e7 k
-      word (suc (suc (suc (suc (suc (suc (suc (suc n)))))))) k = absurd (omega (arith, k))
+pub met_none : (old other : List ℕ) → AreMet 0 old old other
+met_none old other = record { met = λ n h. absurd (omega (arith, h)); rest = λ n h. refl }
+
+pub met_more : (k : ℕ) (now old other : List ℕ) (x d e : ℕ) → AreMet k now old other → k < length now → k < length other → x ≡ bit_and (get_or now k d) (get_or other k e) → AreMet (k + 1) (set now k x) old other
+met_more k now old other x d e m inside there is = record {
+  met = λ n less. elim (eqb_tells n k) [
+    | inl (_, same) ↦ ap (λ (j : ℕ). get_or (set now k x) j 0) same ∙ here ∙ ap (λ (j : ℕ). bit_and (get_or old j 0) (get_or other j 0)) (sym same)
+    | inr (_, apart) ↦ get_or-set_other now k n x 0 apart ∙ m.met n (below n less apart)
+  ];
+  rest = λ n past. get_or-set_other now k n x 0 (λ (same : n ≡ k). absurd (omega (arith, past, same))) ∙ m.rest n (omega (arith, past));
+} where
+  below : (n : ℕ) → n < k + 1 → (n ≡ k → ⊥) → n < k
+  below n less apart = elim (cases_lt n k) [ inl lt ↦ lt | inr le ↦ absurd (apart (omega (arith, less, le))) ]
+
+  here : get_or (set now k x) k 0 ≡ bit_and (get_or old k 0) (get_or other k 0)
+  here =
+      get_or-set_same now k x 0 inside ∙ is
+      ∙ ap (λ (v : ℕ). bit_and v (get_or other k e)) (get_or_default now k d 0 inside ∙ m.rest k (omega arith))
+      ∙ ap (λ (v : ℕ). bit_and (get_or old k 0) v) (get_or_default other k e 0 there)
+
+pub met_all : (now old other : List ℕ) (words : ℕ) → words ≡ 64 → AreMet words now old other → (i : ℕ) → i < 4096 → has_byte now i ≡ (has_byte old i && has_byte other i)
+met_all now old other words many m i h =
+    let small : i / 64 < words = omega (arith, h, many) in
+    ap (λ (v : ℕ). eqb (bit_at v (i % 64)) 1) (m.met (i / 64) small) ∙ both_bits (get_or old (i / 64) 0) (get_or other (i / 64) 0) (i % 64)
+
+-- the words from one on and before another are 0, the others as they were
+pub record AreCleared (from to : ℕ) (now old : List ℕ) : Type 0 where
+  pub long : length now ≡ length old
+  pub cleared : (n : ℕ) → from ≤ n → n < to → get_or now n 0 ≡ 0
+  pub below : (n : ℕ) → n < from → get_or now n 0 ≡ get_or old n 0
+  pub above : (n : ℕ) → to ≤ n → get_or now n 0 ≡ get_or old n 0
+
+pub cleared_none : (from : ℕ) (old : List ℕ) → AreCleared from from old old
+cleared_none from old = record { long = refl; cleared = λ n low high. absurd (omega (arith, low, high)); below = λ n h. refl; above = λ n h. refl }
+
+pub cleared_more : (from to : ℕ) (now old : List ℕ) → AreCleared from to now old → from ≤ to → to < length old → AreCleared from (to + 1) (set now to 0) old
+cleared_more from to now old m order inside = record {
+  long = length-set now to 0 ∙ m.long;
+  cleared = λ n low high. elim (eqb_tells n to) [
+    | inl (_, same) ↦ (
+        let within : to < length now = let long = m.long in omega (arith, long, inside) in
+        ap (λ (j : ℕ). get_or (set now to 0) j 0) same ∙ get_or-set_same now to 0 0 within
+        )
+    | inr (_, apart) ↦ get_or-set_other now to n 0 0 apart ∙ m.cleared n low (under n high apart)
+  ];
+  below = λ n h. get_or-set_other now to n 0 0 (λ (same : n ≡ to). absurd (omega (arith, h, same, order))) ∙ m.below n h;
+  above = λ n h. get_or-set_other now to n 0 0 (λ (same : n ≡ to). absurd (omega (arith, h, same))) ∙ m.above n (omega (arith, h));
+} where
+  under : (n : ℕ) → n < to + 1 → (n ≡ to → ⊥) → n < to
+  under n less apart = elim (cases_lt n to) [ inl lt ↦ lt | inr le ↦ absurd (apart (omega (arith, less, le))) ]
+
+pub cleared_frame : (depth to : ℕ) (now old : List ℕ) → to ≡ depth * 8 + 8 → AreCleared (depth * 8) to now old → (i : ℕ) → has_byte now i ≡ (has_byte old i && not (is_in_frame depth (frame_start 0 + i)))
+cleared_frame depth to now old end m i =
+    elim (cases_lt i (512 * depth)) [
+      | inl low ↦ (
+          let out : leb (frame_start depth) (frame_start 0 + i) ≡ false = lt-leb (frame_start depth) (frame_start 0 + i) (omega (arith, low)) in
+          kept (m.below (i / 64) (omega (arith, low))) (ap (λ (b : Bool). b && ltb (frame_start 0 + i) (frame_end depth)) out)
+          )
+      | inr high ↦ elim (cases_lt i (512 * depth + 512)) [
+        | inl inside ↦ (
+            let low : leb (frame_start depth) (frame_start 0 + i) ≡ true = le-leb (frame_start depth) (frame_start 0 + i) (omega (arith, high)) in
+            let up : ltb (frame_start 0 + i) (frame_end depth) ≡ true = lt-ltb (frame_start 0 + i) (frame_end depth) (omega (arith, inside)) in
+            gone (m.cleared (i / 64) (omega (arith, high)) (omega (arith, inside, end))) (ap (λ (b : Bool). b && ltb (frame_start 0 + i) (frame_end depth)) low ∙ up)
+            )
+        | inr past ↦ (
+            let up : ltb (frame_start 0 + i) (frame_end depth) ≡ false = le-ltb (frame_start 0 + i) (frame_end depth) (omega (arith, past)) in
+            kept (m.above (i / 64) (omega (arith, past, end))) (ap (λ (b : Bool). leb (frame_start depth) (frame_start 0 + i) && b) up ∙ and_false (leb (frame_start depth) (frame_start 0 + i)))
+            )
+      ]
+    ] where
+      and_false : (b : Bool) → (b && false) ≡ false
+      and_false true = refl
+      and_false false = refl
+
+      and_true : (b : Bool) → b ≡ (b && true)
+      and_true true = refl
+      and_true false = refl
+
+      none : (b : Bool) → false ≡ (b && false)
+      none true = refl
+      none false = refl
+
+      kept : get_or now (i / 64) 0 ≡ get_or old (i / 64) 0 → is_in_frame depth (frame_start 0 + i) ≡ false → has_byte now i ≡ (has_byte old i && not (is_in_frame depth (frame_start 0 + i)))
+      kept same out = ap (λ (v : ℕ). eqb (bit_at v (i % 64)) 1) same ∙ and_true (has_byte old i) ∙ ap (λ (b : Bool). has_byte old i && not b) (sym out)
+
+      gone : get_or now (i / 64) 0 ≡ 0 → is_in_frame depth (frame_start 0 + i) ≡ true → has_byte now i ≡ (has_byte old i && not (is_in_frame depth (frame_start 0 + i)))
+      gone same there = ap (λ (v : ℕ). eqb (bit_at v (i % 64)) 1) same ∙ ap (λ (v : ℕ). eqb v 1) (bit_at-zero (i % 64)) ∙ none (has_byte old i) ∙ ap (λ (b : Bool). has_byte old i && not b) (sym there)
+
+-- no byte at all
+pub no_byte_set : (i : ℕ) → i < 4096 → has_byte (replicate 64 0) i ≡ false
+no_byte_set i h = ap (λ (v : ℕ). eqb (bit_at v (i % 64)) 1) (zeros 64 (i / 64)) ∙ ap (λ (v : ℕ). eqb v 1) (bit_at-zero (i % 64)) where
+  zeros : (n k : ℕ) → get_or {A = ℕ} (replicate n 0) k 0 ≡ 0
+  zeros zero k = refl
+  zeros (suc n) zero = refl
+  zeros (suc n) (suc k) = zeros n k

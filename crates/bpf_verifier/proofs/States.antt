@@ -2,16 +2,17 @@
 use Rattle.std.proofs.Common.{◌≡◌, ℕ, zero, suc, ◌+◌, ◌-◌, ◌<◌, ◌≤◌, Bool, true, false, ◌&&◌, ◌||◌, cond, eqb, leb, List, [], ◌∷◌, length, get_or, set, Option, Some, None, refl, sym, ap, subst, ◌∙◌, arith, inl, inr}
 use Rattle.std.specs.Option.{option_map}
 use Rattle.std.specs.List.{list_any}
-use Rattle.std.proofs.lemmas.Bool.{le-leb, cases_lt}
+use Rattle.std.proofs.lemmas.Bool.{le-leb, lt-leb, cases_lt}
 use Rattle.std.proofs.lemmas.Bool.Decides.{leb_tells, eqb_tells}
 use Rattle.std.proofs.lemmas.List.{get_or_default, get_or_past, get_or-set_same, get_or-set_other, length-set}
 use Rattle.reg_ranges.specs.Ranges as reg
 use Rattle.reg_ranges.specs.RangeOf.{range_of}
 use Rattle.reg_ranges.specs.declared.range.Range.{Range}
-use Rattle.bpf_model.specs.declared.helper.Access.{Access}
+use Rattle.map_helpers.specs.declared.helper.Access.{Access}
+use Rattle.map_helpers.specs.Helpers.{fixed_size}
 use Rattle.bpf_model.specs.Machine.{frame_start, frame_end, arguments_start}
 use Rattle.bpf_model.specs.AbstractState as model
-use Rattle.bpf_model.specs.AbstractState.{join_option, all_initialized, extent, in_bounds, is_initialized, is_written, after_helper}
+use Rattle.bpf_model.specs.AbstractState.{join_option, all_initialized, extent, in_bounds, is_initialized, is_written, entry_state, after_call, after_helper}
 use Rattle.bpf_model.proofs.Memories.{in_bounds_cases}
 use Rattle.bpf_verifier.specs.declared.abstract_state.AbstractState.{AbstractState}
 use Rattle.bpf_verifier.specs.FrameBytes.{has_byte, Marks}
@@ -21,10 +22,10 @@ use Rattle.bpf_verifier.proofs.Loops.{all_true, one_false}
 
 -- ---- bytes that are read
 
-module _ (words : List ℕ) (range : reg.Range) (size : ℕ) (ordered : range.lo ≤ range.hi) (inside : in_bounds (Some range) size ≡ true) (near : range.lo < arguments_start) (marked : ℕ → Bool) (marks : Marks words marked) where
-  in_frame : (frame_start 0 ≤ range.lo) × (range.hi + size ≤ frame_end 0)
+module _ (words : List ℕ) (range : reg.Range) (size d : ℕ) (shallow : d < 8) (ordered : range.lo ≤ range.hi) (inside : in_bounds d (Some range) size ≡ true) (near : range.lo < arguments_start) (marked : ℕ → Bool) (marks : Marks words marked) where
+  in_frame : (frame_start 0 ≤ range.lo) × (range.hi + size ≤ frame_end d)
   in_frame =
-      elim (in_bounds_cases 0 range.lo (extent range size) inside) [
+      elim (in_bounds_cases d range.lo (extent range size) inside) [
         | inl (f, g) ↦ (f, omega arith)
         | inr (f, g) ↦ absurd (omega arith)
       ]
@@ -36,7 +37,7 @@ module _ (words : List ℕ) (range : reg.Range) (size : ℕ) (ordered : range.lo
   uninitialized index low high e =
       let frame = in_frame in
       let start : frame_start 0 ≤ range.lo = frame.0 in
-      let end : range.hi + size ≤ frame_end 0 = frame.1 in
+      let end : range.hi + size ≤ frame_end d = frame.1 in
       let here = sym (marks index (omega arith)) ∙ e in
       sym (ap (λ (b : Bool). b || all_initialized marked range.lo (extent range size)) near_test ∙ one_false marked range.lo (extent range size) (frame_start 0 + index) (omega arith) (omega arith) here)
 
@@ -44,7 +45,7 @@ module _ (words : List ℕ) (range : reg.Range) (size : ℕ) (ordered : range.lo
   all_there all =
       let frame = in_frame in
       let start : frame_start 0 ≤ range.lo = frame.0 in
-      let end : range.hi + size ≤ frame_end 0 = frame.1 in
+      let end : range.hi + size ≤ frame_end d = frame.1 in
       let each : (k : ℕ) → range.lo ≤ k → k < range.lo + extent range size → marked k ≡ true = λ k low high.
       let at : frame_start 0 + (k - frame_start 0) ≡ k = omega arith in
       subst (λ (j : ℕ). marked j ≡ true) at (sym (marks (k - frame_start 0) (omega arith)) ∙ all (k - frame_start 0) (omega arith) (omega arith)) in
@@ -103,7 +104,7 @@ joined_all now old other j long r =
           ap (option_map range_of) gone ∙ sym (ap (λ (o : Option Range). join_option (option_map range_of o) (ranges_of other r)) none)
     ]
 
-pub joined_is : (x y z : AbstractState) → ((r : ℕ) → ranges_of z.ranges r ≡ join_option (ranges_of x.ranges r) (ranges_of y.ranges r)) → ((i : ℕ) → i < 512 → has_byte z.initialized.words i ≡ (has_byte x.initialized.words i && has_byte y.initialized.words i)) → (a b : model.AbstractState) → Represents x a → Represents y b → Represents z (model.join a b)
+pub joined_is : (x y z : AbstractState) → ((r : ℕ) → ranges_of z.ranges r ≡ join_option (ranges_of x.ranges r) (ranges_of y.ranges r)) → ((i : ℕ) → i < 4096 → has_byte z.initialized.words i ≡ (has_byte x.initialized.words i && has_byte y.initialized.words i)) → (a b : model.AbstractState) → Represents x a → Represents y b → Represents z (model.join a b)
 joined_is x y z ranges bytes a b ra rb = record {
   ranges_are = λ r. ranges r ∙ rw (ra.ranges_are r, rb.ranges_are r) refl;
   initialized_are = λ i h. bytes i h ∙ rw (ra.initialized_are i h, rb.initialized_are i h) refl;
@@ -115,8 +116,8 @@ join_visit before state after s joins is (Some a) h = joins a s h is
 
 -- ---- after a helper
 
-module _ (ranges : List (Option Range)) (long : length ranges ≡ 11) (marked : ℕ → Bool) (answer : Range) (is : range_of answer ≡ reg.range 0 1) (written : List Access) where
-  pub called_ranges : (x6 x7 x8 x9 x10 : Option Range) → x6 ≡ get_or ranges 6 None → x7 ≡ get_or ranges 7 None → x8 ≡ get_or ranges 8 None → x9 ≡ get_or ranges 9 None → x10 ≡ get_or ranges 10 None → (r : ℕ) → ranges_of (Some answer ∷ None ∷ None ∷ None ∷ None ∷ None ∷ x6 ∷ x7 ∷ x8 ∷ x9 ∷ x10 ∷ []) r ≡ (after_helper (state_of ranges marked) written).ranges r
+module _ (ranges : List (Option Range)) (long : length ranges ≡ 11) (marked : ℕ → Bool) (most : ℕ) (answer : Range) (is : range_of answer ≡ reg.range 0 most) (written : List Access) where
+  pub called_ranges : (x6 x7 x8 x9 x10 : Option Range) → x6 ≡ get_or ranges 6 None → x7 ≡ get_or ranges 7 None → x8 ≡ get_or ranges 8 None → x9 ≡ get_or ranges 9 None → x10 ≡ get_or ranges 10 None → (r : ℕ) → ranges_of (Some answer ∷ None ∷ None ∷ None ∷ None ∷ None ∷ x6 ∷ x7 ∷ x8 ∷ x9 ∷ x10 ∷ []) r ≡ (after_helper (state_of ranges marked) most written).ranges r
   called_ranges x6 x7 x8 x9 x10 e6 e7 e8 e9 e10 zero = ap Some is
   called_ranges x6 x7 x8 x9 x10 e6 e7 e8 e9 e10 (suc zero) = refl
   called_ranges x6 x7 x8 x9 x10 e6 e7 e8 e9 e10 (suc (suc zero)) = refl
@@ -133,14 +134,66 @@ module _ (ranges : List (Option Range)) (long : length ranges ≡ 11) (marked : 
       let none : get_or ranges n None ≡ None = get_or_past ranges n None (omega (arith, long)) in
       let zero_test : eqb n 0 ≡ false = not_equal n 0 (λ e. omega arith) in
       let six : leb 6 n ≡ true = le-leb 6 n (omega arith) in
-      sym (ap (λ (b : Bool). cond b (Some (reg.range 0 1)) (cond (leb 6 n) (ranges_of ranges n) None)) zero_test
+      sym (ap (λ (b : Bool). cond b (Some (reg.range 0 most)) (cond (leb 6 n) (ranges_of ranges n) None)) zero_test
       ∙ ap (λ (b : Bool). cond b (ranges_of ranges n) None) six
       ∙ ap (option_map range_of) none)
 
-module _ (ranges next : List (Option Range)) (words after_words : List ℕ) (writes : List Access) (marked : ℕ → Bool) where
+module _ (ranges next : List (Option Range)) (words after_words : List ℕ) (most : ℕ) (writes : List Access) (marked : ℕ → Bool) where
   -- the state after a helper, of the bytes that it wrote
-  pub represents_helper : (state : AbstractState) → ((r : ℕ) → ranges_of state.ranges r ≡ (after_helper (state_of ranges marked) writes).ranges r) → state.initialized.words ≡ after_words → Marks words marked → ((i : ℕ) → i < 512 → has_byte after_words i ≡ (list_any (λ access. is_written (ranges_of ranges access.register) access.size (frame_start 0 + i)) writes || has_byte words i)) → Represents state (after_helper (state_of ranges marked) writes)
+  pub represents_helper : (state : AbstractState) → ((r : ℕ) → ranges_of state.ranges r ≡ (after_helper (state_of ranges marked) most writes).ranges r) → state.initialized.words ≡ after_words → Marks words marked → ((i : ℕ) → i < 4096 → has_byte after_words i ≡ (list_any (λ access. is_written (ranges_of ranges access.register) (fixed_size access.size) (frame_start 0 + i)) writes || has_byte words i)) → Represents state (after_helper (state_of ranges marked) most writes)
   represents_helper state are same marks bytes = record {
     ranges_are = are;
-    initialized_are = λ i h. ap (λ (ws : List ℕ). has_byte ws i) same ∙ bytes i h ∙ ap (λ (b : Bool). list_any (λ (access : Access). is_written (ranges_of ranges access.register) access.size (frame_start 0 + i)) writes || b) (marks i h);
+    initialized_are = λ i h. ap (λ (ws : List ℕ). has_byte ws i) same ∙ bytes i h ∙ ap (λ (b : Bool). list_any (λ (access : Access). is_written (ranges_of ranges access.register) (fixed_size access.size) (frame_start 0 + i)) writes || b) (marks i h);
   }
+
+-- ---- around a call
+
+past_end : (ranges : List (Option Range)) (r : ℕ) → length ranges ≡ 11 → 11 ≤ r → ranges_of ranges r ≡ None
+past_end ranges r long far = ap (option_map range_of) (get_or_past ranges r None (omega (arith, long, far)))
+
+module _ (x : AbstractState) (of : model.AbstractState) (is : Represents x of) where
+  -- a function is entered
+  pub entered_ranges : (d : ℕ) (fp : Range) → range_of fp ≡ reg.single (frame_end d) → (x1 x2 x3 x4 x5 : Option Range) → x1 ≡ get_or x.ranges 1 None → x2 ≡ get_or x.ranges 2 None → x3 ≡ get_or x.ranges 3 None → x4 ≡ get_or x.ranges 4 None → x5 ≡ get_or x.ranges 5 None → (r : ℕ) → ranges_of (None ∷ x1 ∷ x2 ∷ x3 ∷ x4 ∷ x5 ∷ None ∷ None ∷ None ∷ None ∷ Some fp ∷ []) r ≡ (entry_state d of).ranges r
+  entered_ranges d fp e x1 x2 x3 x4 x5 e1 e2 e3 e4 e5 zero = refl
+  entered_ranges d fp e x1 x2 x3 x4 x5 e1 e2 e3 e4 e5 (suc zero) = ap (option_map range_of) e1 ∙ is.ranges_are 1
+  entered_ranges d fp e x1 x2 x3 x4 x5 e1 e2 e3 e4 e5 (suc (suc zero)) = ap (option_map range_of) e2 ∙ is.ranges_are 2
+  entered_ranges d fp e x1 x2 x3 x4 x5 e1 e2 e3 e4 e5 (suc (suc (suc zero))) = ap (option_map range_of) e3 ∙ is.ranges_are 3
+  entered_ranges d fp e x1 x2 x3 x4 x5 e1 e2 e3 e4 e5 (suc (suc (suc (suc zero)))) = ap (option_map range_of) e4 ∙ is.ranges_are 4
+  entered_ranges d fp e x1 x2 x3 x4 x5 e1 e2 e3 e4 e5 (suc (suc (suc (suc (suc zero))))) = ap (option_map range_of) e5 ∙ is.ranges_are 5
+  entered_ranges d fp e x1 x2 x3 x4 x5 e1 e2 e3 e4 e5 (suc (suc (suc (suc (suc (suc zero)))))) = refl
+  entered_ranges d fp e x1 x2 x3 x4 x5 e1 e2 e3 e4 e5 (suc (suc (suc (suc (suc (suc (suc zero))))))) = refl
+  entered_ranges d fp e x1 x2 x3 x4 x5 e1 e2 e3 e4 e5 (suc (suc (suc (suc (suc (suc (suc (suc zero)))))))) = refl
+  entered_ranges d fp e x1 x2 x3 x4 x5 e1 e2 e3 e4 e5 (suc (suc (suc (suc (suc (suc (suc (suc (suc zero))))))))) = refl
+  entered_ranges d fp e x1 x2 x3 x4 x5 e1 e2 e3 e4 e5 (suc (suc (suc (suc (suc (suc (suc (suc (suc (suc zero)))))))))) = ap Some e
+  entered_ranges d fp e x1 x2 x3 x4 x5 e1 e2 e3 e4 e5 (suc (suc (suc (suc (suc (suc (suc (suc (suc (suc (suc r))))))))))) =
+      let n : ℕ = suc (suc (suc (suc (suc (suc (suc (suc (suc (suc (suc r)))))))))) in
+      let ten : eqb n 10 ≡ false = not_equal n 10 (λ e. omega arith) in
+      let five : leb n 5 ≡ false = lt-leb n 5 (omega arith) in
+      sym (ap (λ (b : Bool). cond b (Some (reg.single (frame_end d))) (cond (leb 1 n && leb n 5) (of.ranges n) None)) ten
+      ∙ ap (λ (b : Bool). cond (leb 1 n && b) (of.ranges n) None) five
+      ∙ no_and (leb 1 n)) where
+        no_and : (b : Bool) → cond (b && false) (of.ranges (suc (suc (suc (suc (suc (suc (suc (suc (suc (suc (suc r)))))))))))) None ≡ None
+        no_and true = refl
+        no_and false = refl
+
+  -- a function returns
+  pub resumed_ranges : (long : length x.ranges ≡ 11) (y : AbstractState) (exit : model.AbstractState) → Represents y exit → (d : ℕ) (x0 x6 x7 x8 x9 x10 : Option Range) → x0 ≡ get_or y.ranges 0 None → x6 ≡ get_or x.ranges 6 None → x7 ≡ get_or x.ranges 7 None → x8 ≡ get_or x.ranges 8 None → x9 ≡ get_or x.ranges 9 None → x10 ≡ get_or x.ranges 10 None → (r : ℕ) → ranges_of (x0 ∷ None ∷ None ∷ None ∷ None ∷ None ∷ x6 ∷ x7 ∷ x8 ∷ x9 ∷ x10 ∷ []) r ≡ (after_call d of exit).ranges r
+  resumed_ranges long y exit out d x0 x6 x7 x8 x9 x10 e0 e6 e7 e8 e9 e10 zero = ap (option_map range_of) e0 ∙ out.ranges_are 0
+  resumed_ranges long y exit out d x0 x6 x7 x8 x9 x10 e0 e6 e7 e8 e9 e10 (suc zero) = refl
+  resumed_ranges long y exit out d x0 x6 x7 x8 x9 x10 e0 e6 e7 e8 e9 e10 (suc (suc zero)) = refl
+  resumed_ranges long y exit out d x0 x6 x7 x8 x9 x10 e0 e6 e7 e8 e9 e10 (suc (suc (suc zero))) = refl
+  resumed_ranges long y exit out d x0 x6 x7 x8 x9 x10 e0 e6 e7 e8 e9 e10 (suc (suc (suc (suc zero)))) = refl
+  resumed_ranges long y exit out d x0 x6 x7 x8 x9 x10 e0 e6 e7 e8 e9 e10 (suc (suc (suc (suc (suc zero))))) = refl
+  resumed_ranges long y exit out d x0 x6 x7 x8 x9 x10 e0 e6 e7 e8 e9 e10 (suc (suc (suc (suc (suc (suc zero)))))) = ap (option_map range_of) e6 ∙ is.ranges_are 6
+  resumed_ranges long y exit out d x0 x6 x7 x8 x9 x10 e0 e6 e7 e8 e9 e10 (suc (suc (suc (suc (suc (suc (suc zero))))))) = ap (option_map range_of) e7 ∙ is.ranges_are 7
+  resumed_ranges long y exit out d x0 x6 x7 x8 x9 x10 e0 e6 e7 e8 e9 e10 (suc (suc (suc (suc (suc (suc (suc (suc zero)))))))) = ap (option_map range_of) e8 ∙ is.ranges_are 8
+  resumed_ranges long y exit out d x0 x6 x7 x8 x9 x10 e0 e6 e7 e8 e9 e10 (suc (suc (suc (suc (suc (suc (suc (suc (suc zero))))))))) = ap (option_map range_of) e9 ∙ is.ranges_are 9
+  resumed_ranges long y exit out d x0 x6 x7 x8 x9 x10 e0 e6 e7 e8 e9 e10 (suc (suc (suc (suc (suc (suc (suc (suc (suc (suc zero)))))))))) = ap (option_map range_of) e10 ∙ is.ranges_are 10
+  resumed_ranges long y exit out d x0 x6 x7 x8 x9 x10 e0 e6 e7 e8 e9 e10 (suc (suc (suc (suc (suc (suc (suc (suc (suc (suc (suc r))))))))))) =
+      let n : ℕ = suc (suc (suc (suc (suc (suc (suc (suc (suc (suc (suc r)))))))))) in
+      let zero_test : eqb n 0 ≡ false = not_equal n 0 (λ e. omega arith) in
+      let six : leb 6 n ≡ true = le-leb 6 n (omega arith) in
+      let none : of.ranges n ≡ None = sym (is.ranges_are n) ∙ past_end x.ranges n long (omega arith) in
+      sym (ap (λ (b : Bool). cond b (exit.ranges 0) (cond (leb 6 n) (of.ranges n) None)) zero_test
+      ∙ ap (λ (b : Bool). cond b (of.ranges n) None) six
+      ∙ none)

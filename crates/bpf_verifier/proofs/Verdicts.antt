@@ -1,5 +1,6 @@
 -- The verdict that the verifier's passes find together.
-use Rattle.std.proofs.Common.{◌≡◌, ◌⊎◌, ℕ, List, Option, None, refl, sym, ap, subst, ◌∙◌, inl, inr}
+use Rattle.std.proofs.Common.{◌≡◌, ◌⊎◌, ℕ, List, Option, None, Result, Ok, Err, refl, sym, ap, subst, ◌∙◌, inl, inr}
+use Rattle.std.specs.Prelude.{IfErr, IsErr, MatchResult}
 use Rattle.bpf_decode.specs.declared.insn.Insn.{Insn}
 use Rattle.bpf_decode.specs.declared.refusal.DecodeFault.{DecodeFault}
 use Rattle.bpf_decode.specs.declared.refusal.DecodeFault.TheVariants as decode
@@ -9,7 +10,8 @@ use Rattle.bpf_model.specs.Code.{insns_by_slot}
 use Rattle.bpf_model.specs.Dataflow.{IsBound}
 use Rattle.bpf_model.specs.Faults.{verify_fault_of}
 use Rattle.bpf_model.specs.Run.{IsSafe}
-use Rattle.bpf_model.specs.Verdict.{Refuses, IsAccepted, dataflow_fault}
+use Rattle.bpf_model.specs.Verdict.{Accepts, Refuses, IsAccepted, IsFirstVisit, dataflow_fault}
+use Rattle.bpf_model.proofs.Totality.{same_bound, not_both}
 use Rattle.bpf_model.specs.declared.fault.VerifyFault.{VerifyFault}
 use Rattle.bpf_model.specs.declared.fault.VerifyFault.TheVariants.{Decode, Memory}
 use Rattle.bpf_model.proofs.Safety.{safe, bounded}
@@ -19,7 +21,7 @@ use Rattle.bpf_verifier.specs.Verified.{IsProcedure}
 use Rattle.bpf_verifier.specs.Sweep.{IsStructured}
 
 -- what the two passes find together
-pub accepted_by : (code : List Insn) (a b : List (Option Insn)) (bound : ℕ) → a ≡ insns_by_slot code → b ≡ insns_by_slot code → ((c : List Insn) → a ≡ insns_by_slot c → IsStructured c) → ((c : List Insn) → b ≡ insns_by_slot c → IsStructured c → (slot : ℕ) → dataflow_fault c slot ≡ None) → ((c : List Insn) → b ≡ insns_by_slot c → IsStructured c → IsBound c bound) → IsAccepted code bound
+pub accepted_by : (code : List Insn) (a b : List (Option Insn)) (bound : ℕ) → a ≡ insns_by_slot code → b ≡ insns_by_slot code → ((c : List Insn) → a ≡ insns_by_slot c → IsStructured c) → ((c : List Insn) → b ≡ insns_by_slot c → IsStructured c → (index : ℕ) → dataflow_fault c index ≡ None) → ((c : List Insn) → b ≡ insns_by_slot c → IsStructured c → IsBound c bound) → IsAccepted code bound
 accepted_by code a b bound is-a is-b structure dataflow longest = record {
   structure = structure code is-a;
   dataflow = dataflow code is-b (structure code is-a);
@@ -57,3 +59,21 @@ reported bytes reason slot fault at e same (inr refused) =
       | inl memory ↦ inl (e ∙ ap verify_fault_of memory)
       | inr is ↦ inr (inl (reason, subst (λ (k : ℕ). IsRefused bytes reason k) (sym same) refused, e ∙ is))
     ]
+
+-- ---- what is accepted alone is
+
+-- code has one bound
+pub only_bound : (bytes : List ℕ) (code : List Insn) (bound : ℕ) → IsCode bytes code → IsAccepted code bound → (other : ℕ) → Accepts bytes other → bound ≡ other
+only_bound bytes code bound is accepted other (insns, same, taken) =
+    same_bound code bound other accepted (subst (λ (c : List Insn). IsAccepted c other) (sym (same_code bytes code insns is same)) taken)
+
+-- code that has a fault isn't accepted
+pub only_memory : (bytes : List ℕ) (code : List Insn) (fault : VerifyFault) (slot : ℕ) → IsCode bytes code → IsStructured code → (fault ≡ Memory) ⊎ IsFirstVisit code fault slot → (other : ℕ) → Accepts bytes other → fault ≡ Memory
+only_memory bytes code fault slot is structure (inl memory) other accepts = memory
+only_memory bytes code fault slot is structure (inr first) other (insns, same, taken) =
+    absurd (not_both code other fault slot (subst (λ (c : List Insn). IsAccepted c other) (sym (same_code bytes code insns is same)) taken) (inr (structure, first)))
+
+-- an error that is handed on
+pub match_err : {X E : Type 0} (r : Result X E) (x : E) (P : X → Type 0) (Q : E → Type 0) → IsErr r → IfErr r (λ e. e ≡ x) → Q x → MatchResult r P Q
+match_err (Ok y) x P Q is same h = absurd cc
+match_err (Err e) x P Q is same h = subst Q (sym same) h

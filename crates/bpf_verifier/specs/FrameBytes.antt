@@ -1,4 +1,4 @@
--- Internal: the bytes of a frame as bits of 64-bit words, the least bit first.
+-- Internal: the bytes of the stack as bits of 64-bit words, the least bit first.
 use Rattle.std.specs.Prelude.{◌≡◌, ℕ, ◌+◌, ◌/◌, ◌%◌, ◌<◌, ◌==◌, Bool, List, slice_index_or}
 use Rattle.std.specs.Int.{bit_at}
 use Rattle.bpf_model.specs.Machine.{frame_start}
@@ -7,6 +7,6 @@ use Rattle.bpf_model.specs.Machine.{frame_start}
 abbrev pub has_byte : List ℕ → ℕ → Bool
 has_byte words i = bit_at (slice_index_or words (i / 64) 0) (i % 64) == 1
 
--- The words hold the bytes of the first frame that are marked.
+-- The words hold the bytes of the stack's eight frames that are marked.
 abbrev pub Marks : List ℕ → (ℕ → Bool) → Type 0
-Marks words marked = (i : ℕ) → i < 512 → has_byte words i ≡ marked (frame_start 0 + i)
+Marks words marked = (i : ℕ) → i < 4096 → has_byte words i ≡ marked (frame_start 0 + i)

@@ -16,7 +16,7 @@ ranges_of ranges r = option_map range_of (slice_index_or ranges r None)
 abbrev pub state_of : List (Option Range) → (ℕ → Bool) → model.AbstractState
 state_of ranges marked = record { ranges = ranges_of ranges; initialized = marked }
 
--- The ranges are those of the state, and the words hold the initialized bytes of the frame.
+-- The ranges are those of the state, and the words hold the initialized bytes of the stack.
 pub record Represents (state : AbstractState) (of : model.AbstractState) : Type 0 where
   pub ranges_are : (r : ℕ) → ranges_of state.ranges r ≡ of.ranges r
   pub initialized_are : Marks state.initialized.words of.initialized

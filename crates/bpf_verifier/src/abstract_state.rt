@@ -1,4 +1,4 @@
-//! The abstract state at a slot: the ranges of the registers and the initialized bytes of the frame.
+//! The abstract state at a slot: the ranges of the registers and the initialized bytes of the stack.
 
 ghost use Rattle.std.specs.Prelude.{◌≡◌, ℕ, Some, None};
 ghost use Rattle.std.specs.Option.{option_map};
@@ -7,10 +7,10 @@ ghost use Rattle.bpf_model.specs.AbstractState.{join_option};
 
 use crate::frame_bytes::FrameBytes;
 use bpf_decode::{Reg, Source};
-use bpf_model::layout::{ARGUMENTS_START, FRAME_END, REGISTERS};
+use bpf_model::layout::{ARGUMENTS_START, FRAME_END, REGISTERS, frame_end};
 use reg_ranges::{Range, join};
 
-/// The range of each register that holds a number for certain, and which bytes of the frame are
+/// The range of each register that holds a number for certain, and which bytes of the stack are
 /// initialized for certain.
 #[derive(Clone, Copy)]
 pub struct AbstractState {
@@ -24,7 +24,7 @@ impl AbstractState {
     ghost use Rattle.std.specs.Int.{w64, cast_unsigned};
     ghost use Rattle.reg_ranges.specs.RangeOf.{range_of};
     ghost use Rattle.bpf_decode.specs.declared.insn.Source.{Source};
-    ghost use Rattle.bpf_model.specs.AbstractState.{AbstractState as ModelState, start_state, has_all, source_operands};
+    ghost use Rattle.bpf_model.specs.AbstractState.{AbstractState as ModelState, start_state, entry_state, after_call, has_all, source_operands};
     ghost use Rattle.bpf_verifier.specs.Represents.{Represents, RepresentsOption, ranges_of, join_with};
 
     /// As a call begins.
@@ -106,7 +106,54 @@ impl AbstractState {
         for register in 0..REGISTERS {
             self.ranges[register] = joined_range(self.ranges[register], other.ranges[register]);
         }
-        self.initialized = self.initialized.intersection(&other.initialized);
+        self.initialized.intersect(&other.initialized);
+    }
+
+    /// The state in which a function is entered at a depth, by a call in this state.
+    pub fn entered(&self, depth: u32) -> AbstractState
+        requires { depth < 8 }
+        ensures { (of : ModelState) → Represents self.now of →
+            Represents result (entry_state depth of) }
+    {
+        AbstractState {
+            ranges: [
+                None,
+                self.ranges[1],
+                self.ranges[2],
+                self.ranges[3],
+                self.ranges[4],
+                self.ranges[5],
+                None,
+                None,
+                None,
+                None,
+                Some(Range::single(frame_end(depth))),
+            ],
+            initialized: self.initialized,
+        }
+    }
+
+    /// Goes over a call of a function at a depth, given the join over its exits.
+    pub fn after_call(&mut self, depth: u32, returned: &AbstractState)
+        requires { depth < 8 }
+        ensures { (of exit : ModelState) → Represents self.old of → Represents returned.now exit →
+            Represents self.new (after_call depth of exit) }
+    {
+        self.ranges = [
+            returned.ranges[0],
+            None,
+            None,
+            None,
+            None,
+            None,
+            self.ranges[6],
+            self.ranges[7],
+            self.ranges[8],
+            self.ranges[9],
+            self.ranges[10],
+        ];
+        self.initialized = returned.initialized;
+        self.initialized.remove_frame(depth);
     }
 }
 

@@ -1,6 +1,6 @@
 //! What is wrong with an instruction that is reached, given the abstract state there.
 
-ghost use Rattle.std.specs.Prelude.{◌≡◌, ◌≤◌};
+ghost use Rattle.std.specs.Prelude.{◌≡◌, ◌≤◌, ◌<◌};
 ghost use Rattle.std.specs.Option.{option_map};
 ghost use Rattle.reg_ranges.specs.RangeOf.{range_of};
 ghost use Rattle.bpf_model.specs.Access.{bytes_of};
@@ -8,13 +8,14 @@ ghost use Rattle.bpf_model.specs.AbstractState.{in_bounds};
 
 use crate::abstract_state::AbstractState;
 use bpf_decode::{Insn, Reg, Size};
-use bpf_model::layout::{ARGUMENTS_END, ARGUMENTS_START, FRAME_END, FRAME_START};
-use bpf_model::{Access, Helper, VerifyFault};
+use bpf_model::VerifyFault;
+use bpf_model::layout::{ARGUMENTS_END, ARGUMENTS_START, FRAME_START, FRAMES, frame_end};
 use bpf_num::AluOp;
+use map_helpers::{Access, Extent, Helper};
 use reg_ranges::{Range, transfer64};
 
 /// The bytes of a load or a store.
-pub fn bytes_of(size: Size) -> u8
+pub fn bytes_of(size: Size) -> u32
     ensures value { result ≡ bytes_of size }
     ensures small { result ≤ 8 }
 {
@@ -27,33 +28,34 @@ pub fn bytes_of(size: Size) -> u8
 }
 
 impl AbstractState {
-    ghost use Rattle.std.specs.Prelude.{◌≡◌, ℕ, ◌≤◌, Bool, true, None, Some, Option};
+    ghost use Rattle.std.specs.Prelude.{◌≡◌, ℕ, ◌≤◌, ◌<◌, Bool, true, None, Some, Option};
     ghost use Rattle.std.specs.Option.{option_map};
     ghost use Rattle.reg_ranges.specs.Ranges.{Range as ModelRange};
     ghost use Rattle.reg_ranges.specs.RangeOf.{range_of};
     ghost use Rattle.bpf_model.specs.Access.{bytes_of};
-    ghost use Rattle.bpf_model.specs.AbstractState.{operands, has_all, has_operands, has_accesses, has_bytes, in_bounds, is_initialized, all_in_bounds, are_initialized, address_range};
+    ghost use Rattle.bpf_model.specs.AbstractState.{operands, has_all, has_operands, has_accesses, has_bytes, in_bounds, is_initialized, max_size, access_in_bounds, access_initialized, all_in_bounds, are_initialized, address_range};
     ghost use Rattle.bpf_model.specs.Verdict.{insn_dataflow_fault};
     ghost use Rattle.bpf_verifier.specs.FrameBytes.{Marks};
     ghost use Rattle.bpf_verifier.specs.Represents.{ranges_of, state_of};
 
-    /// What is wrong with an instruction that is reached: an operand, then an access, then bytes
-    /// that are read, then a local call.
-    pub fn insn_dataflow_fault(&self, insn: &Insn) -> Option<VerifyFault>
+    /// What is wrong with an instruction that is reached in the frame of a depth: an operand, then an
+    /// access, then bytes that are read, then a local call for which no frame is left.
+    pub fn insn_dataflow_fault(&self, depth: u32, insn: &Insn) -> Option<VerifyFault>
+        requires { depth < 8 }
         ensures { (marked : ℕ → Bool) → Marks self.now.initialized.words marked →
-            result ≡ insn_dataflow_fault (state_of self.now.ranges marked) insn.now }
+            result ≡ insn_dataflow_fault depth (state_of self.now.ranges marked) insn.now }
     {
         if !self.has_operands(insn) {
             return Some(VerifyFault::UninitRegister);
         }
-        if !self.has_accesses(insn) {
+        if !self.has_accesses(depth, insn) {
             return Some(VerifyFault::BadAccess);
         }
         if !self.has_bytes(insn) {
             return Some(VerifyFault::UninitBytes);
         }
         match insn {
-            Insn::CallLocal { .. } => Some(VerifyFault::CallDepth),
+            Insn::CallLocal { .. } if depth as usize + 1 >= FRAMES => Some(VerifyFault::CallDepth),
             _ => None,
         }
     }
@@ -81,9 +83,10 @@ impl AbstractState {
         }
     }
 
-    fn has_accesses(&self, insn: &Insn) -> bool
+    fn has_accesses(&self, depth: u32, insn: &Insn) -> bool
+        requires { depth < 8 }
         ensures { (marked : ℕ → Bool) → result ≡
-            has_accesses (state_of self.now.ranges marked) insn.now }
+            has_accesses depth (state_of self.now.ranges marked) insn.now }
     {
         match insn {
             Insn::Load {
@@ -91,22 +94,23 @@ impl AbstractState {
                 base,
                 offset,
                 ..
-            } => self.has_access(*size, *base, *offset),
+            } => self.has_access(depth, *size, *base, *offset),
             Insn::StoreImm {
                 size,
                 base,
                 offset,
                 ..
-            } => self.has_access(*size, *base, *offset),
+            } => self.has_access(depth, *size, *base, *offset),
             Insn::Store {
                 size,
                 base,
                 offset,
                 ..
-            } => self.has_access(*size, *base, *offset),
+            } => self.has_access(depth, *size, *base, *offset),
             Insn::CallHelper { helper } => match Helper::of(*helper) {
                 Some(helper) => {
-                    self.all_in_bounds(helper.reads()) && self.all_in_bounds(helper.writes())
+                    self.all_in_bounds(depth, helper.reads())
+                        && self.all_in_bounds(depth, helper.writes())
                 }
                 None => true,
             },
@@ -115,8 +119,8 @@ impl AbstractState {
     }
 
     fn has_bytes(&self, insn: &Insn) -> bool
-        requires { (marked : ℕ → Bool) → has_accesses (state_of self.now.ranges marked) insn.now ≡
-            true }
+        requires { (depth : ℕ) × (depth < 8) × ((marked : ℕ → Bool) →
+            has_accesses depth (state_of self.now.ranges marked) insn.now ≡ true) }
         ensures { (marked : ℕ → Bool) → Marks self.now.initialized.words marked →
             result ≡ has_bytes (state_of self.now.ranges marked) insn.now }
     {
@@ -136,24 +140,29 @@ impl AbstractState {
     }
 
     /// Whether all bytes that a load or a store may touch are in bounds.
-    fn has_access(&self, size: Size, base: Reg, offset: i16) -> bool
+    fn has_access(&self, depth: u32, size: Size, base: Reg, offset: i16) -> bool
+        requires { depth < 8 }
         ensures { (marked : ℕ → Bool) → result ≡
-            in_bounds (address_range (state_of self.now.ranges marked) base.number offset)
+            in_bounds depth (address_range (state_of self.now.ranges marked) base.number offset)
             (bytes_of size) }
     {
-        is_in_bounds(self.address_range(base, offset), bytes_of(size))
+        is_in_bounds(
+            depth,
+            self.address_range(base, offset),
+            u64::from(bytes_of(size)),
+        )
     }
 
     /// Whether all bytes that a load may read are initialized.
     fn has_bytes_at(&self, size: Size, base: Reg, offset: i16) -> bool
-        requires { (marked : ℕ → Bool) →
-            in_bounds (address_range (state_of self.now.ranges marked) base.number offset)
-            (bytes_of size) ≡ true }
+        requires { (depth : ℕ) × (depth < 8) × ((marked : ℕ → Bool) →
+            in_bounds depth (address_range (state_of self.now.ranges marked) base.number offset)
+            (bytes_of size) ≡ true) }
         ensures { (marked : ℕ → Bool) → Marks self.now.initialized.words marked → result ≡
             is_initialized marked (address_range (state_of self.now.ranges marked) base.number offset)
             (bytes_of size) }
     {
-        self.is_initialized(self.address_range(base, offset), bytes_of(size))
+        self.is_initialized(self.address_range(base, offset), u64::from(bytes_of(size)))
     }
 
     /// The range of the address that a load or a store accesses.
@@ -167,11 +176,46 @@ impl AbstractState {
         Some(transfer64(AluOp::Add, range, offset))
     }
 
-    fn all_in_bounds(&self, accesses: &[Access]) -> bool
-        ensures { result ≡ all_in_bounds (ranges_of self.now.ranges) accesses.now }
+    /// The greatest number of bytes that an access of a helper may have.
+    fn max_size(&self, size: Extent) -> Option<u64>
+        ensures { result ≡ max_size (ranges_of self.now.ranges) size }
+    {
+        match size {
+            Extent::Fixed(size) => Some(u64::from(size)),
+            Extent::Second => Some(self.range_of(2)?.hi),
+        }
+    }
+
+    /// Whether all bytes that an access of a helper may touch are in bounds. One that has none is.
+    fn access_in_bounds(&self, depth: u32, access: Access) -> bool
+        requires { depth < 8 }
+        ensures { result ≡ access_in_bounds depth (ranges_of self.now.ranges) access }
+    {
+        match self.max_size(access.size) {
+            Some(size) => size == 0 || is_in_bounds(depth, self.range_of(access.register), size),
+            None => false,
+        }
+    }
+
+    /// Whether all bytes of the stack that an access of a helper may touch are initialized.
+    fn access_initialized(&self, access: Access) -> bool
+        requires { (depth : ℕ) × (depth < 8) ×
+            (access_in_bounds depth (ranges_of self.now.ranges) access ≡ true) }
+        ensures { (marked : ℕ → Bool) → Marks self.now.initialized.words marked →
+            result ≡ access_initialized marked (ranges_of self.now.ranges) access }
+    {
+        match self.max_size(access.size) {
+            Some(size) => size == 0 || self.is_initialized(self.range_of(access.register), size),
+            None => false,
+        }
+    }
+
+    fn all_in_bounds(&self, depth: u32, accesses: &[Access]) -> bool
+        requires { depth < 8 }
+        ensures { result ≡ all_in_bounds depth (ranges_of self.now.ranges) accesses.now }
     {
         for access in accesses {
-            if !is_in_bounds(self.range_of(access.register), access.size) {
+            if !self.access_in_bounds(depth, *access) {
                 return false;
             }
         }
@@ -179,12 +223,13 @@ impl AbstractState {
     }
 
     fn are_initialized(&self, accesses: &[Access]) -> bool
-        requires { all_in_bounds (ranges_of self.now.ranges) accesses.now ≡ true }
+        requires { (depth : ℕ) × (depth < 8) ×
+            (all_in_bounds depth (ranges_of self.now.ranges) accesses.now ≡ true) }
         ensures { (marked : ℕ → Bool) → Marks self.now.initialized.words marked →
             result ≡ are_initialized marked (ranges_of self.now.ranges) accesses.now }
     {
         for access in accesses {
-            if !self.is_initialized(self.range_of(access.register), access.size) {
+            if !self.access_initialized(*access) {
                 return false;
             }
         }
@@ -192,8 +237,9 @@ impl AbstractState {
     }
 
     /// Whether all bytes of the stack that an access may touch are initialized.
-    fn is_initialized(&self, range: Option<Range>, size: u8) -> bool
-        requires { in_bounds (option_map range_of range) size ≡ true }
+    fn is_initialized(&self, range: Option<Range>, size: u64) -> bool
+        requires { (depth : ℕ) × (depth < 8) ×
+            (in_bounds depth (option_map range_of range) size ≡ true) }
         ensures { (marked : ℕ → Bool) → Marks self.now.initialized.words marked →
             result ≡ is_initialized marked (option_map range_of range) size }
     {
@@ -204,20 +250,23 @@ impl AbstractState {
             return true;
         }
         let from = (range.lo - FRAME_START) as usize;
-        let to = (range.hi + u64::from(size) - FRAME_START) as usize;
+        let to = (range.hi + size - FRAME_START) as usize;
         self.initialized.contains_all(from, to)
     }
 }
 
-/// Whether all bytes that an access may touch lie in the frame, or all in the arguments.
-fn is_in_bounds(range: Option<Range>, size: u8) -> bool
-    ensures { result ≡ in_bounds (option_map range_of range) size }
+/// Whether all bytes that an access may touch lie in the frames in use, or all in the arguments.
+fn is_in_bounds(depth: u32, range: Option<Range>, size: u64) -> bool
+    requires { depth < 8 }
+    ensures { result ≡ in_bounds depth (option_map range_of range) size }
 {
-    match range {
-        Some(range) => {
-            let size = u64::from(size);
-            range.lo >= FRAME_START && range.hi <= FRAME_END - size
-                || range.lo >= ARGUMENTS_START && range.hi <= ARGUMENTS_END - size
+    let Some(range) = range else {
+        return false;
+    };
+    match range.hi.checked_add(size) {
+        Some(end) => {
+            range.lo >= FRAME_START && end <= frame_end(depth)
+                || range.lo >= ARGUMENTS_START && end <= ARGUMENTS_END
         }
         None => false,
     }

@@ -1,26 +1,32 @@
-//! The data flow over the code, in one sweep of ascending slots.
+//! The data flow over the code: each function in one sweep of ascending slots, and each local call
+//! followed where it stands.
 
-ghost use Rattle.std.specs.Prelude.{◌≡◌, ◌⊎◌, ℕ, ◌+◌, ◌≤◌, ◌<◌, Bool, List, length, true, false, None, Some, Option, IfOk, IfErr, OnOk};
+ghost use Rattle.std.specs.Prelude.{◌≡◌, ◌⊎◌, ℕ, ◌+◌, ◌-◌, ◌≤◌, ◌<◌, Bool, List, length, true, false, None, Some, Option, IfOk, IfErr, IfSome, OnOk, ℤ, suc};
 ghost use Rattle.std.specs.Option.{option_map};
 ghost use Rattle.bpf_decode.specs.declared.insn.Insn.{Insn};
+ghost use Rattle.bpf_decode.specs.declared.insn.Insn.TheVariants.{CallLocal};
 ghost use Rattle.bpf_model.specs.Code.{insns_by_slot, insn_at};
-ghost use Rattle.bpf_model.specs.AbstractState.{AbstractState as ModelState, edge_if, edges, after_test};
+ghost use Rattle.bpf_model.specs.AbstractState.{AbstractState as ModelState, edge_if, edges, after_test, after_call, start_state, entry_state};
 ghost use Rattle.bpf_model.specs.Dataflow.{IsBound};
-ghost use Rattle.bpf_model.specs.Verdict.{dataflow_fault, IsFirst};
+ghost use Rattle.bpf_model.specs.Verdict.{insn_dataflow_fault, visits_in, visit_fault, max_visits, dataflow_fault, IsFirstVisit};
 ghost use Rattle.bpf_model.specs.declared.fault.VerifyFault.TheVariants.{Memory};
 ghost use Rattle.bpf_verifier.specs.FrameBytes.{Marks};
-ghost use Rattle.bpf_verifier.specs.Represents.{Represents, state_of};
-ghost use Rattle.bpf_verifier.specs.Sweep.{Brings, VisitJoined, Flowed, AreFew, SweepAt, IsStart, IsStructured};
+ghost use Rattle.bpf_verifier.specs.Represents.{Represents, RepresentsOption, state_of};
+ghost use Rattle.bpf_verifier.specs.Sweep.{visit_in, RepresentsVisit, Brings, VisitJoined, Flowed, AreFew, SweepAt, IsStart, IsStructured, Fails, Entered, IsEntered, activation_of, nothing_returned, Followed, CalledBack, FailsInCall};
 
 use crate::abstract_state::AbstractState;
 use crate::slots::target_of;
 use bpf_decode::{Insn, Reg, Source};
+use bpf_model::layout::FRAMES;
 use bpf_model::{Refusal, VerifyFault};
 use bpf_num::Test;
 use std::alloc::{AllocError, Global};
 
-/// What the edges so far have brought to a slot: the join of their states, and the edges of the
-/// longest path.
+/// The most visits that are made.
+const MAX_VISITS: u32 = 65_536;
+
+/// What the edges so far have brought to a slot: the join of their states, and the instructions of the
+/// longest path before it.
 #[derive(Clone, Copy)]
 pub struct Visit {
     pub state: AbstractState,
@@ -43,21 +49,35 @@ impl Visit {
     }
 }
 
-/// The memory of a visit that is done with, for the next that is made.
+/// What a function gives to its caller: the join over its exits, where it has one, and the
+/// instructions of its longest path.
 #[derive(Drop)]
-struct Spare {
-    alloc: Global,
-    visit: Option<Box<Visit>>,
+pub struct Returned {
+    pub exit: Option<Box<Visit>>,
+    pub bound: u32,
 }
 
-impl Spare {
-    ghost use Rattle.std.specs.Prelude.{◌≡◌, IfOk};
+/// How many visits were made, and the memory of one that is done with, for the next.
+#[derive(Drop)]
+struct Pass {
+    alloc: Global,
+    spare: Option<Box<Visit>>,
+    visits: u32,
+}
+
+impl Pass {
+    ghost use Rattle.std.specs.Prelude.{◌≡◌, ◌⊎◌, ℕ, ◌+◌, ◌-◌, ◌<◌, ◌≤◌, Bool, Some, None, IfOk, IfErr};
+    ghost use Rattle.bpf_model.specs.AbstractState.{AbstractState as ModelState, entry_state};
+    ghost use Rattle.bpf_model.specs.Verdict.{insn_dataflow_fault, visit_fault, max_visits};
+    ghost use Rattle.bpf_verifier.specs.FrameBytes.{Marks};
+    ghost use Rattle.bpf_verifier.specs.Represents.{Represents, state_of};
 
     /// A copy of a visit.
     fn copied(&mut self, visit: &Visit) -> Result<Box<Visit>, AllocError>
-        ensures { IfOk result (λ copy. copy.value ≡ visit.now) }
+        ensures copy { IfOk result (λ copy. copy.value ≡ visit.now) }
+        ensures visits { self.new.visits ≡ self.old.visits }
     {
-        match self.visit.take() {
+        match self.spare.take() {
             Some(mut copy) => {
                 *copy = *visit;
                 Ok(copy)
@@ -65,135 +85,321 @@ impl Spare {
             None => Ok(Box::new(self.alloc, *visit)?),
         }
     }
+
+    /// The visit with which a function is entered at a depth, by a call in this state.
+    fn entered(&mut self, depth: u32, state: &AbstractState) -> Result<Box<Visit>, AllocError>
+        requires { depth < 8 }
+        ensures state { IfOk result (λ callee. (of : ModelState) → Represents state.now of →
+            Represents callee.value.state (entry_state depth of)) }
+        ensures steps { IfOk result (λ callee. callee.value.steps ≡ 0) }
+        ensures visits { self.new.visits ≡ self.old.visits }
+    {
+        let visit = Visit {
+            state: state.entered(depth),
+            steps: 0,
+        };
+        self.copied(&visit)
+    }
+
+    /// Counts a visit of a slot, and checks the instruction there. Fails with what is wrong.
+    fn begin(
+        &mut self,
+        depth: u32,
+        slot: usize,
+        insn: &Insn,
+        state: &AbstractState,
+    ) -> Result<(), Refusal>
+        requires deep { depth < 8 }
+        requires short { slot < 1024 }
+        requires few { self.old.visits ≤ max_visits }
+        ensures right { IfOk result (λ _. (marked : ℕ → Bool) → Marks state.now.initialized.words marked →
+            insn_dataflow_fault depth (state_of state.now.ranges marked) insn.now ≡ None) }
+        ensures count { IfOk result (λ _. (self.new.visits ≡ self.old.visits + 1)
+            × (self.old.visits < max_visits)) }
+        ensures refused { IfErr result (λ refusal. (refusal.slot ≡ slot) ×
+            ((marked : ℕ → Bool) → Marks state.now.initialized.words marked →
+            visit_fault self.old.visits (Some (record {
+              slot = slot;
+              fault = insn_dataflow_fault depth (state_of state.now.ranges marked) insn.now;
+            })) ≡ Some refusal.fault)) }
+    {
+        if self.visits >= MAX_VISITS {
+            return Err(Refusal {
+                fault: VerifyFault::TooComplex,
+                slot: slot as u32,
+            });
+        }
+        self.visits += 1;
+        match state.insn_dataflow_fault(depth, insn) {
+            Some(fault) => Err(Refusal {
+                fault,
+                slot: slot as u32,
+            }),
+            None => Ok(()),
+        }
+    }
 }
 
-/// Checks each slot that is reached, by its abstract state, and counts the steps. Returns the bound,
-/// or the first fault. `Memory` may come at any allocation.
+/// Checks each visit, by its abstract state, and counts the steps. Returns the bound, or the first
+/// fault. `Memory` may come at any allocation.
 pub fn check_dataflow(alloc: Global, slots: &[Option<Insn>]) -> Result<u32, Refusal>
     requires some { 0 < length slots.now }
     requires few { length slots.now ≤ 1024 }
     ensures right { IfOk result (λ _. (code : List Insn) → slots.now ≡ insns_by_slot code →
         IsStructured code →
-        (slot : ℕ) → dataflow_fault code slot ≡ None) }
+        (index : ℕ) → dataflow_fault code index ≡ None) }
     ensures bound { IfOk result (λ bound. (code : List Insn) → slots.now ≡ insns_by_slot code →
         IsStructured code → IsBound code bound) }
     ensures refused { IfErr result (λ refusal. (refusal.fault ≡ Memory) ⊎
         ((code : List Insn) → slots.now ≡ insns_by_slot code → IsStructured code →
-        IsFirst (dataflow_fault code) refusal.fault refusal.slot)) }
+        IsFirstVisit code refusal.fault refusal.slot)) }
 {
-    let mut pending = pending_at_start(alloc, slots.len())?;
-    sweep(alloc, slots, &mut pending)
-}
-
-/// What is pending as a call begins, for each of so many slots.
-fn pending_at_start(alloc: Global, slots: usize) -> Result<Vec<Option<Box<Visit>>>, AllocError>
-    requires { 0 < slots }
-    ensures { IfOk result (λ pending. IsStart pending.items slots) }
-{
-    let mut pending = Vec::with_capacity(alloc, slots)?;
+    let mut pass = Pass {
+        alloc,
+        spare: None,
+        visits: 0,
+    };
     let start = Visit {
         state: AbstractState::at_start(),
         steps: 0,
     };
-    pending.push(Some(Box::new(alloc, start)?))?;
-    for _slot in 1..slots {
+    let visit = pass.copied(&start)?;
+    let returned = follow(&mut pass, slots, FRAMES as u32 - 1, 0, visit)?;
+    Ok(returned.bound)
+}
+
+/// Follows a function from its slot on, where so many frames are left for those that it calls.
+#[cycle(calls)]
+fn follow(
+    pass: &mut Pass,
+    slots: &[Option<Insn>],
+    left: u32,
+    entry: usize,
+    visit: Box<Visit>,
+) -> Result<Returned, Refusal>
+    requires short { length slots.now ≤ 1024 }
+    requires deep { left < 8 }
+    requires inside { entry < length slots.now }
+    requires steps { visit.value.steps ≡ 0 }
+    requires few { pass.old.visits ≤ max_visits }
+    ensures few { IfOk result (λ returned. (pass.old.visits + returned.bound ≤ pass.new.visits)
+        × (pass.new.visits ≤ max_visits)) }
+    ensures right { IfOk result (λ returned. (f : Entered) → slots.now ≡ insns_by_slot f.code →
+        f.left ≡ left → f.entry ≡ entry → f.base ≡ pass.old.visits → IsEntered f →
+        Represents visit.value.state f.state → Followed f returned pass.new.visits) }
+    ensures refused { IfErr result (λ refusal. (refusal.fault ≡ Memory) ⊎
+        ((f : Entered) → slots.now ≡ insns_by_slot f.code →
+        f.left ≡ left → f.entry ≡ entry → f.base ≡ pass.old.visits → IsEntered f →
+        Represents visit.value.state f.state →
+        Fails f.base (visits_in f.code (suc f.left) f.entry f.state) refusal.fault refusal.slot)) }
+{
+    let mut pending = pending_at_entry(pass.alloc, slots.len(), entry, visit)?;
+    sweep(pass, slots, left, entry, &mut pending)
+}
+
+/// Visits the slots of a function, ascending from its own on.
+#[cycle(calls)]
+fn sweep(
+    pass: &mut Pass,
+    slots: &[Option<Insn>],
+    left: u32,
+    entry: usize,
+    pending: &mut [Option<Box<Visit>>],
+) -> Result<Returned, Refusal>
+    requires short { length slots.now ≤ 1024 }
+    requires deep { left < 8 }
+    requires inside { entry < length slots.now }
+    requires long { length pending.old ≡ length slots.now }
+    requires few { AreFew pass.old.visits pass.old.visits pending.old 0 }
+    ensures few { IfOk result (λ returned. (pass.old.visits + returned.bound ≤ pass.new.visits)
+        × (pass.new.visits ≤ max_visits)) }
+    ensures right { IfOk result (λ returned. (f : Entered) → slots.now ≡ insns_by_slot f.code →
+        f.left ≡ left → IsEntered f →
+        SweepAt f entry pending.old nothing_returned pass.old.visits →
+        Followed f returned pass.new.visits) }
+    ensures refused { IfErr result (λ refusal. (refusal.fault ≡ Memory) ⊎
+        ((f : Entered) → slots.now ≡ insns_by_slot f.code → f.left ≡ left → IsEntered f →
+        SweepAt f entry pending.old nothing_returned pass.old.visits →
+        Fails f.base (visits_in f.code (suc f.left) f.entry f.state) refusal.fault refusal.slot)) }
+{
+    let mut returned = Returned {
+        exit: None,
+        bound: 0,
+    };
+    for slot in entry..slots.len() {
+        visit_slot(pass, slots, left, pending, slot, &mut returned)?;
+    }
+    Ok(returned)
+}
+
+/// What is pending as a function is entered, for each of so many slots.
+fn pending_at_entry(
+    alloc: Global,
+    slots: usize,
+    entry: usize,
+    visit: Box<Visit>,
+) -> Result<Vec<Option<Box<Visit>>>, AllocError>
+    requires { entry < slots }
+    ensures { IfOk result (λ pending. IsStart pending.items slots entry visit) }
+{
+    let mut pending = Vec::with_capacity(alloc, slots)?;
+    for _slot in 0..slots {
         pending.push(None)?;
     }
+    pending[entry] = Some(visit);
     Ok(pending)
 }
 
-/// Visits all slots, ascending. Returns the bound, or the first fault.
-fn sweep(
-    alloc: Global,
+/// Visits a slot, where something has reached it.
+#[cycle(calls)]
+fn visit_slot(
+    pass: &mut Pass,
     slots: &[Option<Insn>],
+    left: u32,
     pending: &mut [Option<Box<Visit>>],
-) -> Result<u32, Refusal>
-    requires few { length slots.now ≤ 1024 }
+    slot: usize,
+    returned: &mut Returned,
+) -> Result<(), Refusal>
+    requires short { length slots.now ≤ 1024 }
+    requires deep { left < 8 }
+    requires inside { slot < length slots.now }
     requires long { length pending.old ≡ length slots.now }
-    requires start { AreFew pending.old 0 }
-    ensures right { IfOk result (λ bound. (code : List Insn) → slots.now ≡ insns_by_slot code →
-        IsStructured code → SweepAt code 0 pending.old 0 →
-        SweepAt code (length slots.now) pending.new bound) }
+    requires few { AreFew 0 pass.old.visits pending.old returned.old.bound }
+    ensures long { IfOk result (λ _. length pending.new ≡ length pending.old) }
+    ensures few { IfOk result (λ _. (base : ℕ) →
+        AreFew base pass.old.visits pending.old returned.old.bound →
+        AreFew base pass.new.visits pending.new returned.new.bound) }
+    ensures right { IfOk result (λ _. (f : Entered) → slots.now ≡ insns_by_slot f.code →
+        f.left ≡ left → IsEntered f →
+        SweepAt f slot pending.old returned.old pass.old.visits →
+        SweepAt f (slot + 1) pending.new returned.new pass.new.visits) }
     ensures refused { IfErr result (λ refusal. (refusal.fault ≡ Memory) ⊎
-        ((code : List Insn) → slots.now ≡ insns_by_slot code →
-        IsStructured code → SweepAt code 0 pending.old 0 →
-        IsFirst (dataflow_fault code) refusal.fault refusal.slot)) }
+        ((f : Entered) → slots.now ≡ insns_by_slot f.code → f.left ≡ left → IsEntered f →
+        SweepAt f slot pending.old returned.old pass.old.visits →
+        Fails f.base (visits_in f.code (suc f.left) f.entry f.state) refusal.fault refusal.slot)) }
 {
-    let mut spare = Spare { alloc, visit: None };
-    let mut bound = 0;
-    for slot in 0..slots.len() {
-        match visit_slot(pending, &mut spare, slot, slots[slot], bound) {
-            Ok(more) => bound = more,
-            Err(fault) => {
-                return Err(Refusal {
-                    fault,
-                    slot: slot as u32,
-                });
+    let (Some(insn), Some(mut visit)) = (slots[slot], pending[slot].take()) else {
+        return Ok(());
+    };
+    let depth = FRAMES as u32 - 1 - left;
+    pass.begin(depth, slot, &insn, &visit.state)?;
+    match insn {
+        Insn::CallLocal { offset } => {
+            if let Some(callee) = call(pass, slots, left, slot, offset, &visit.state)? {
+                visit.steps += 1 + callee.bound;
+                returned.bound = returned.bound.max(visit.steps);
+                resume(pass, pending, slot, depth + 1, visit, callee.exit);
             }
         }
+        Insn::Exit => {
+            visit.steps += 1;
+            returned.bound = returned.bound.max(visit.steps);
+            let before = returned.exit.take();
+            returned.exit = Some(joined(before, visit, pass));
+        }
+        _ => {
+            visit.steps += 1;
+            returned.bound = returned.bound.max(visit.steps);
+            flow(pending, pass, slot, &insn, visit)?;
+        }
     }
-    Ok(bound)
+    Ok(())
 }
 
-/// Visits a slot, where something has reached it. Returns the bound of all paths so far, or the
-/// slot's fault.
-fn visit_slot(
-    pending: &mut [Option<Box<Visit>>],
-    spare: &mut Spare,
+/// Follows the function that a local call leads to. There is none where the call leads out of the code
+/// or no frame is left, which the checks have refused.
+#[cycle(calls)]
+fn call(
+    pass: &mut Pass,
+    slots: &[Option<Insn>],
+    left: u32,
     slot: usize,
-    insn: Option<Insn>,
-    bound: u32,
-) -> Result<u32, VerifyFault>
-    requires inside { slot < length pending.old }
-    requires short { slot < 1024 }
-    requires few { AreFew pending.old slot }
-    ensures length { IfOk result (λ _. length pending.new ≡ length pending.old) }
-    ensures few { IfOk result (λ _. AreFew pending.new (slot + 1)) }
-    ensures right { IfOk result (λ more. (code : List Insn) → IsStructured code →
-        insn_at code slot ≡ insn →
-        SweepAt code slot pending.old bound → SweepAt code (slot + 1) pending.new more) }
-    ensures refused { IfErr result (λ fault. (fault ≡ Memory) ⊎
-        ((code : List Insn) → IsStructured code → insn_at code slot ≡ insn →
-        SweepAt code slot pending.old bound → IsFirst (dataflow_fault code) fault slot)) }
+    offset: i32,
+    state: &AbstractState,
+) -> Result<Option<Returned>, Refusal>
+    requires short { length slots.now ≤ 1024 }
+    requires deep { left < 8 }
+    requires inside { slot < length slots.now }
+    requires few { pass.old.visits ≤ max_visits }
+    ensures none { IfOk result (λ callee. callee ≡ None → pass.new.visits ≡ pass.old.visits) }
+    ensures few { IfOk result (λ callee. IfSome callee (λ back. (0 < left)
+        × (pass.old.visits + back.bound ≤ pass.new.visits) × (pass.new.visits ≤ max_visits))) }
+    ensures right { IfOk result (λ callee. (f : Entered) (of : ModelState) →
+        slots.now ≡ insns_by_slot f.code → f.left ≡ left → IsEntered f → Represents state.now of →
+        insn_at f.code slot ≡ Some (CallLocal offset) →
+        insn_dataflow_fault (activation_of f).depth of (CallLocal offset) ≡ None →
+        CalledBack f slot offset of pass.old.visits callee pass.new.visits) }
+    ensures refused { IfErr result (λ refusal. (refusal.fault ≡ Memory) ⊎
+        ((f : Entered) (of : ModelState) → slots.now ≡ insns_by_slot f.code → f.left ≡ left →
+        IsEntered f → Represents state.now of → insn_at f.code slot ≡ Some (CallLocal offset) →
+        insn_dataflow_fault (activation_of f).depth of (CallLocal offset) ≡ None →
+        FailsInCall f slot offset of pass.old.visits refusal.fault refusal.slot)) }
 {
-    let (Some(insn), Some(mut visit)) = (insn, pending[slot].take()) else {
-        return Ok(bound);
+    let (Some(target), Some(left)) = (target_of(slot, offset), left.checked_sub(1)) else {
+        return Ok(None);
     };
-    if let Some(fault) = visit.state.insn_dataflow_fault(&insn) {
-        return Err(fault);
+    if target >= slots.len() {
+        return Ok(None);
     }
-    let steps = visit.steps + 1;
-    visit.steps = steps;
-    match flow(pending, spare, slot, &insn, visit) {
-        Ok(()) => Ok(bound.max(steps)),
-        Err(_) => Err(VerifyFault::Memory),
-    }
+    let callee = pass.entered(FRAMES as u32 - 1 - left, state)?;
+    Ok(Some(follow(pass, slots, left, target, callee)?))
 }
 
-/// Takes a visit over all edges out of an instruction.
+/// Goes on behind a call, where its callee returns.
+fn resume(
+    pass: &mut Pass,
+    pending: &mut [Option<Box<Visit>>],
+    slot: usize,
+    depth: u32,
+    mut visit: Box<Visit>,
+    exit: Option<Box<Visit>>,
+)
+    requires deep { depth < 8 }
+    requires short { slot < 1024 }
+    ensures flowed { (of : ModelState) (exits : Option ModelState) → Represents visit.value.state of →
+        RepresentsVisit (visit_in exit) exits →
+        Flowed (edge_if (Some (slot + 1)) (option_map (after_call depth of) exits))
+        visit.value.steps pending.old pending.new }
+    ensures visits { pass.new.visits ≡ pass.old.visits }
+{
+    let behind = match exit {
+        Some(exit) => {
+            visit.state.after_call(depth, &exit.state);
+            pass.spare = Some(exit);
+            Some(visit)
+        }
+        None => None,
+    };
+    push(pending, pass, Some(slot + 1), behind);
+}
+
+/// Takes a visit over all edges out of an instruction that calls no function and is no exit.
 fn flow(
     pending: &mut [Option<Box<Visit>>],
-    spare: &mut Spare,
+    pass: &mut Pass,
     slot: usize,
     insn: &Insn,
     mut visit: Box<Visit>,
 ) -> Result<(), AllocError>
     requires { slot < 1024 }
-    ensures { OnOk result ((marked : ℕ → Bool) → Marks visit.value.state.initialized.words marked →
-        Flowed (edges slot (state_of visit.value.state.ranges marked) insn.now) visit.value.steps
-        pending.old pending.new) }
+    ensures flowed { OnOk result ((behind : ℕ → ModelState → Option ModelState) (marked : ℕ → Bool) →
+        ((offset : ℤ) → insn.now ≡ CallLocal offset → ⊥) →
+        Marks visit.value.state.initialized.words marked →
+        Flowed (edges behind slot (state_of visit.value.state.ranges marked) insn.now)
+        visit.value.steps pending.old pending.new) }
+    ensures visits { pass.new.visits ≡ pass.old.visits }
 {
     match insn {
         Insn::Jump { offset } => {
             push(
                 pending,
-                spare,
+                pass,
                 target_of(slot, i32::from(*offset)),
                 Some(visit),
             );
         }
         Insn::JumpLong { offset } => {
-            push(pending, spare, target_of(slot, *offset), Some(visit));
+            push(pending, pass, target_of(slot, *offset), Some(visit));
         }
         Insn::Test {
             narrow,
@@ -202,14 +408,14 @@ fn flow(
             src,
             offset,
         } => {
-            let (onward, taken) = split(visit, spare, *narrow, *test, *dst, *src)?;
-            push(pending, spare, Some(slot + 1), onward);
-            push(pending, spare, target_of(slot, i32::from(*offset)), taken);
+            let (onward, taken) = split(visit, pass, *narrow, *test, *dst, *src)?;
+            push(pending, pass, Some(slot + 1), onward);
+            push(pending, pass, target_of(slot, i32::from(*offset)), taken);
         }
         Insn::CallLocal { .. } | Insn::Exit => {}
         _ => {
             visit.state.after_insn(insn);
-            push(pending, spare, Some(slot + insn.slots()), Some(visit));
+            push(pending, pass, Some(slot + insn.slots()), Some(visit));
         }
     }
     Ok(())
@@ -218,7 +424,7 @@ fn flow(
 /// The visits on both edges of a test, first the one that isn't taken; none on an edge that can't be.
 fn split(
     mut visit: Box<Visit>,
-    spare: &mut Spare,
+    pass: &mut Pass,
     narrow: bool,
     test: Test,
     dst: Reg,
@@ -234,6 +440,7 @@ fn split(
         Brings edges.1
         (after_test (state_of visit.value.state.ranges marked) narrow test dst.number src true)
         visit.value.steps) }
+    ensures visits { pass.new.visits ≡ pass.old.visits }
 {
     let onward = visit.state.tested(narrow, test, dst, src, false);
     let taken = visit.state.tested(narrow, test, dst, src, true);
@@ -241,7 +448,7 @@ fn split(
         Some(onward) => {
             let other = match taken {
                 Some(taken) => {
-                    let mut other = spare.copied(&visit)?;
+                    let mut other = pass.copied(&visit)?;
                     other.state.set_tested(dst, src, taken);
                     Some(other)
                 }
@@ -264,31 +471,33 @@ fn split(
 #[inline(always)]
 fn push(
     pending: &mut [Option<Box<Visit>>],
-    spare: &mut Spare,
+    pass: &mut Pass,
     target: Option<usize>,
     visit: Option<Box<Visit>>,
 )
-    ensures { (of : Option ModelState) (steps : ℕ) → Brings visit of steps →
+    ensures flowed { (of : Option ModelState) (steps : ℕ) → Brings visit of steps →
         Flowed (edge_if target of) steps pending.old pending.new }
+    ensures visits { pass.new.visits ≡ pass.old.visits }
 {
     if let (Some(target), Some(visit)) = (target, visit) {
         if target < pending.len() {
             let before = pending[target].take();
-            pending[target] = Some(joined(before, visit, spare));
+            pending[target] = Some(joined(before, visit, pass));
         }
     }
 }
 
 /// What is pending after one more edge.
 #[inline(always)]
-fn joined(before: Option<Box<Visit>>, visit: Box<Visit>, spare: &mut Spare) -> Box<Visit>
-    ensures { (of : ModelState) → Represents visit.value.state of →
-        VisitJoined (option_map (λ b. b.value) before) of visit.value.steps (Some result.value) }
+fn joined(before: Option<Box<Visit>>, visit: Box<Visit>, pass: &mut Pass) -> Box<Visit>
+    ensures visit { (of : ModelState) → Represents visit.value.state of →
+        VisitJoined (visit_in before) of visit.value.steps (Some result.value) }
+    ensures visits { pass.new.visits ≡ pass.old.visits }
 {
     match before {
         Some(mut before) => {
             before.join(&visit);
-            spare.visit = Some(visit);
+            pass.spare = Some(visit);
             before
         }
         None => visit,

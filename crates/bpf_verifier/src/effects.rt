@@ -7,16 +7,15 @@ ghost use Rattle.bpf_model.specs.AbstractState.{loaded_range, transfer};
 use crate::abstract_state::AbstractState;
 use crate::checks::bytes_of;
 use bpf_decode::{Insn, Reg, Size, Source};
-use bpf_model::layout::{FRAME_END, FRAME_START};
-use bpf_model::{Access, Helper};
+use bpf_model::layout::{FRAME_START, STACK_END};
 use bpf_num::{AluOp, AluWidth, Test};
+use map_helpers::{Access, Helper};
 use reg_ranges::{Range, refine, swap_range, transfer32, transfer64};
 
 impl AbstractState {
     ghost use Rattle.std.specs.Prelude.{◌≡◌, ℕ, ◌+◌, ◌<◌, ◌||◌, Bool};
     ghost use Rattle.std.specs.Option.{option_map};
     ghost use Rattle.reg_ranges.specs.RangeOf.{range_of, ranges_of as pair_of};
-    ghost use Rattle.bpf_model.specs.Helpers.{writes};
     ghost use Rattle.bpf_model.specs.Machine.{frame_start};
     ghost use Rattle.bpf_model.specs.Access.{bytes_of};
     ghost use Rattle.bpf_model.specs.AbstractState.{after_insn, after_store, address_range, after_helper, after_test, with_ranges, alu_range, source_range, tested_range, is_written};
@@ -65,8 +64,8 @@ impl AbstractState {
                 ..
             } => self.store(*size, *base, *offset),
             Insn::CallHelper { helper } => match Helper::of(*helper) {
-                Some(helper) => self.after_helper(helper.writes()),
-                None => self.after_helper(&[]),
+                Some(helper) => self.after_helper(helper.max_answer(), helper.writes()),
+                None => self.after_helper(0, &[]),
             },
             Insn::Jump { .. }
             | Insn::JumpLong { .. }
@@ -103,16 +102,16 @@ impl AbstractState {
 
     /// After a helper r0 has its answer, and r1 to r5 hold nothing. What it wrote is initialized
     /// where its address is a single number.
-    fn after_helper(&mut self, writes: &[Access])
+    fn after_helper(&mut self, max_answer: u64, writes: &[Access])
         ensures { (marked : ℕ → Bool) → Marks self.old.initialized.words marked →
-            Represents self.new (after_helper (state_of self.old.ranges marked) writes.now) }
+            Represents self.new (after_helper (state_of self.old.ranges marked) max_answer writes.now) }
     {
         for access in writes {
             let range = self.range_of(access.register);
-            self.initialize(range, access.size);
+            self.initialize(range, access.size.fixed());
         }
         self.ranges = [
-            Some(Range::new(0, 1)),
+            Some(Range::new(0, max_answer)),
             None,
             None,
             None,
@@ -136,22 +135,22 @@ impl AbstractState {
         self.initialize(range, bytes_of(size));
     }
 
-    /// Initializes the bytes of the frame that a write writes, where its address is a single
+    /// Initializes the bytes of the stack that a write writes, where its address is a single
     /// number.
-    fn initialize(&mut self, range: Option<Range>, size: u8)
+    fn initialize(&mut self, range: Option<Range>, size: u32)
         ensures ranges { self.new.ranges ≡ self.old.ranges }
-        ensures initialized { (i : ℕ) → i < 512 → has_byte self.new.initialized.words i ≡
+        ensures initialized { (i : ℕ) → i < 4096 → has_byte self.new.initialized.words i ≡
             (is_written (option_map range_of range) size (frame_start 0 + i)
             || has_byte self.old.initialized.words i) }
     {
         let Some(range) = range else {
             return;
         };
-        if !range.is_single() || range.lo >= FRAME_END {
+        if !range.is_single() || range.lo >= STACK_END {
             return;
         }
         let from = range.lo.max(FRAME_START);
-        let to = (range.lo + u64::from(size)).clamp(FRAME_START, FRAME_END);
+        let to = (range.lo + u64::from(size)).clamp(FRAME_START, STACK_END);
         self.initialized
             .insert_all((from - FRAME_START) as usize, (to - FRAME_START) as usize);
     }

@@ -1,32 +1,36 @@
-//! A set of bytes of the frame.
+//! A set of bytes of the stack.
 
-use bpf_model::layout::FRAME_SIZE;
+use bpf_model::layout::{FRAME_SIZE, STACK_SIZE};
 
 /// The bits of a word.
 const BITS: usize = 64;
 
-/// The words that a frame's bytes take, a bit each.
-const WORDS: usize = FRAME_SIZE / BITS;
+/// The words that the stack's bytes take, a bit each.
+const WORDS: usize = STACK_SIZE / BITS;
 
-/// Which bytes of the frame are initialized for certain.
+/// The words that a frame's bytes take.
+const FRAME_WORDS: usize = FRAME_SIZE / BITS;
+
+/// Which bytes of the stack are initialized for certain.
 #[derive(Clone, Copy)]
 pub struct FrameBytes {
     pub words: [u64; WORDS],
 }
 
 impl FrameBytes {
-    ghost use Rattle.std.specs.Prelude.{◌≡◌, ℕ, ◌≤◌, ◌<◌, ◌&&◌, ◌||◌, ◌==◌, nat_le, nat_lt, true, false};
+    ghost use Rattle.std.specs.Prelude.{◌≡◌, ℕ, ◌+◌, ◌≤◌, ◌<◌, ◌&&◌, ◌||◌, not, ◌==◌, nat_le, nat_lt, true, false};
+    ghost use Rattle.bpf_model.specs.Machine.{frame_start, is_in_frame};
     ghost use Rattle.bpf_verifier.specs.FrameBytes.{has_byte};
 
     /// No byte.
     pub fn none() -> FrameBytes
-        ensures { (i : ℕ) → i < 512 → has_byte result.words i ≡ false }
+        ensures { (i : ℕ) → i < 4096 → has_byte result.words i ≡ false }
     {
         FrameBytes { words: [0; WORDS] }
     }
 
     fn contains(&self, index: usize) -> bool
-        requires { index < 512 }
+        requires { index < 4096 }
         ensures { result ≡ has_byte self.now.words index }
     {
         self.words[index / BITS] >> (index % BITS) & 1 == 1
@@ -34,7 +38,7 @@ impl FrameBytes {
 
     /// Whether the set holds all bytes from one on and before another.
     pub fn contains_all(&self, from: usize, to: usize) -> bool
-        requires { to ≤ 512 }
+        requires { to ≤ 4096 }
         ensures present { result ≡ true → (i : ℕ) → from ≤ i → i < to →
             has_byte self.now.words i ≡ true }
         ensures absent { result ≡ false → (i : ℕ) × (from ≤ i) × (i < to) ×
@@ -49,7 +53,7 @@ impl FrameBytes {
     }
 
     fn insert(&mut self, index: usize)
-        requires { index < 512 }
+        requires { index < 4096 }
         ensures { (i : ℕ) → has_byte self.new.words i ≡ (i == index || has_byte self.old.words i) }
     {
         self.words[index / BITS] |= 1 << (index % BITS);
@@ -58,7 +62,7 @@ impl FrameBytes {
     /// Puts in all bytes from one on and before another.
     pub fn insert_all(&mut self, from: usize, to: usize)
         requires ordered { from ≤ to }
-        requires inside { to ≤ 512 }
+        requires inside { to ≤ 4096 }
         ensures { (i : ℕ) → has_byte self.new.words i ≡
             (nat_le from i && nat_lt i to || has_byte self.old.words i) }
     {
@@ -67,24 +71,25 @@ impl FrameBytes {
         }
     }
 
-    /// The bytes of both sets.
-    pub fn intersection(&self, other: &FrameBytes) -> FrameBytes
-        ensures { (i : ℕ) → i < 512 → has_byte result.words i ≡
-            (has_byte self.now.words i && has_byte other.now.words i) }
+    /// Keeps the bytes of both sets.
+    pub fn intersect(&mut self, other: &FrameBytes)
+        ensures { (i : ℕ) → i < 4096 → has_byte self.new.words i ≡
+            (has_byte self.old.words i && has_byte other.now.words i) }
     {
-        let a = self.words;
-        let b = other.words;
-        FrameBytes {
-            words: [
-                a[0] & b[0],
-                a[1] & b[1],
-                a[2] & b[2],
-                a[3] & b[3],
-                a[4] & b[4],
-                a[5] & b[5],
-                a[6] & b[6],
-                a[7] & b[7],
-            ],
+        for word in 0..WORDS {
+            self.words[word] &= other.words[word];
+        }
+    }
+
+    /// Takes out the bytes of the frame of a depth.
+    pub fn remove_frame(&mut self, depth: u32)
+        requires { depth < 8 }
+        ensures { (i : ℕ) → i < 4096 → has_byte self.new.words i ≡
+            (has_byte self.old.words i && not (is_in_frame depth (frame_start 0 + i))) }
+    {
+        let first = depth as usize * FRAME_WORDS;
+        for word in first..first + FRAME_WORDS {
+            self.words[word] = 0;
         }
     }
 }

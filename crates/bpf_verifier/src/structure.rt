@@ -9,7 +9,8 @@ ghost use Rattle.bpf_verifier.specs.Sweep.{IsStructured};
 use crate::slots::{begins_at, target_of};
 use bpf_decode::Insn;
 use bpf_model::layout::FRAME_POINTER;
-use bpf_model::{Helper, Refusal, VerifyFault};
+use bpf_model::{Refusal, VerifyFault};
+use map_helpers::Helper;
 
 /// Checks what each slot holds, whether it is reached or not, and returns the first fault.
 pub fn check_structure(slots: &[Option<Insn>]) -> Result<(), Refusal>

@@ -1,31 +1,34 @@
 -- Steps keep a state's bounds.
-use Rattle.std.proofs.Common.{inl, inr, ◌≡◌, ◌⊎◌, ℕ, zero, suc, ◌+◌, ◌*◌, ◌%◌, ◌^◌, ◌<◌, ◌≤◌, Bool, true, false, cond, not, eqb, List, [], ◌∷◌, ◌++◌, length, map, find, Option, Some, None, refl, sym, ap, subst, ◌∙◌, arith}
+use Rattle.std.proofs.Common.{inl, inr, ◌≡◌, ◌⊎◌, ℕ, zero, suc, ◌+◌, ◌*◌, ◌%◌, ◌^◌, ◌<◌, ◌≤◌, Bool, true, false, cond, not, eqb, List, [], ◌∷◌, ◌++◌, length, take, drop, map, find, Option, Some, None, refl, sym, ap, subst, ◌∙◌, arith}
 use Rattle.std.specs.Prelude.{MatchBool, MatchOption, All, IfSome, nat_le, nat_lt, nat_eq, option_and_then, ℤ}
 use Rattle.std.specs.Int.{w32, w64}
 use Rattle.std.specs.Ordering.{nat_cmp, eq_by_cmp}
 use Rattle.std.specs.Cmp.{nat_cmp_total, unsigned_tied}
-use Rattle.std.specs.Cmp.Lexicographic.{slice_cmp, nat_list_cmp_total}
+use Rattle.std.specs.Cmp.Lexicographic.{slice_cmp}
 use Rattle.std.specs.FinMap as finite
 use Rattle.std.proofs.lemmas.Bool.{eqb-true, eq-eqb, ltb-false, leb-false}
-use Rattle.std.proofs.lemmas.List.{length-append}
+use Rattle.std.proofs.lemmas.List.{length-append, append-nil}
 use Rattle.std.proofs.lemmas.List.Elements.{All-cons, All-head, All-tail, All-nil, All-push}
 use Rattle.host_types.specs.declared.TenantId.{TenantId}
 use Rattle.host_types.specs.declared.config.ClientEntry.{ClientEntry}
 use Rattle.host_types.specs.declared.request.Request.{Request}
 use Rattle.host_types.specs.declared.request.Reply.{Reply}
 use Rattle.host_types.specs.Configuration.{Configuration, IsConfiguration, tenants_of, entry_of}
-use Rattle.tenant_maps.specs.Entries.{Entries, has_room, put}
-use Rattle.tenant_maps.proofs.EntriesLemmas.{All-keys-put, All-values-put, count_stays}
-use Rattle.bpf_num.specs.Bind.{◌>>=◌}
+use Rattle.tenant_maps.specs.Entries.{Entries}
 use Rattle.bpf_decode.specs.declared.insn.Insn.{Insn}
-use Rattle.bpf_model.specs.declared.helper.Helper.{Helper}
-use Rattle.bpf_model.specs.declared.helper.Helper.TheVariants.{Get, Put}
-use Rattle.bpf_model.specs.Machine.{Machine, Memory, Call, start, bytes_at, is_in_bounds}
-use Rattle.bpf_model.specs.Helpers.{Answer, answer_of, get_effect, put_effect}
+use Rattle.map_helpers.specs.declared.helper.Helper.{Helper}
+use Rattle.map_helpers.specs.declared.helper.Helper.TheVariants.{Get, Put, Del, Len, Next, Emit, Caller}
+use Rattle.map_helpers.specs.Helpers.{key_at_r1, value_at_r2, reads}
+use Rattle.map_helpers.specs.Effects.{effect_of}
+use Rattle.map_helpers.proofs.BytesRead.{key_first, value_second}
+use Rattle.map_helpers.proofs.Kept.{IsPutOf, entries_kept}
+use Rattle.bpf_model.specs.Machine.{Machine, Call, start}
+use Rattle.bpf_model.specs.HelperCalls.{bytes_read, context}
 use Rattle.bpf_model.specs.Run.{Run, Ending, EndsSo}
 use Rattle.bpf_model.specs.Verdict.{Accepts}
 use Rattle.bpf_model.proofs.Effects.{Keeps, step_keeps}
-use Rattle.bpf_model.proofs.Options.{bind_some, no_fault, some_is}
+use Rattle.bpf_model.proofs.HelperCalls.{ReadAt, read_at, bytes_length}
+use Rattle.bpf_model.proofs.Options.{no_fault, some_is}
 use Rattle.service_core.specs.declared.outcome.Outcome.{Outcome}
 use Rattle.service_core.specs.Words.{four_bytes, eight_bytes}
 use Rattle.service_core.specs.Operations.{Operation, Install, Call as CallOf, Bad, operation_of, Installs, Runs, Does, installed, called, refused, no_procedure, too_many_procedures, arguments_too_long, bad_operation}
@@ -41,61 +44,48 @@ use Rattle.service_core.proofs.Injective.{found_has, last_bounded}
 abbrev order : List ℕ → List ℕ → Rattle.std.specs.declared.cmp.Ordering.Ordering
 order = slice_cmp nat_cmp
 
-sized_insert : (entries : Entries) (key value : List ℕ) → IsSizedMap entries → length key ≡ 16 → length value ≡ 32 → has_room entries key ≡ true → IsSizedMap (finite.insert entries key value)
-sized_insert entries key value is k v room = record {
-  keys = subst (λ es. All (λ (x : List ℕ). length x ≡ 16) (map (λ e. e.0) es)) (sym (finite.entries-insert nat_list_cmp_total entries key value)) (All-keys-put (λ x. length x ≡ 16) key value (finite.entries entries) k is.keys);
-  values = subst (λ es. All (λ (x : List ℕ). length x ≡ 32) (map (λ e. e.1) es)) (sym (finite.entries-insert nat_list_cmp_total entries key value)) (All-values-put (λ x. length x ≡ 32) key value (finite.entries entries) v is.values);
-  count = count_stays (finite.contains_key entries key) _ (finite.len entries) _ room refl is.count (finite.len-insert nat_list_cmp_total entries key value);
-}
-
-sized_put : (entries : Entries) (key value : List ℕ) → IsSizedMap entries → length key ≡ 16 → length value ≡ 32 → IsSizedMap (put entries key value)
-sized_put entries key value is k v = cases (has_room entries key) refl where
-  cases : (b : Bool) → has_room entries key ≡ b → IsSizedMap (cond b (finite.insert entries key value) entries)
-  cases true room = sized_insert entries key value is k v room
-  cases false room = is
-
-pub bytes_length : (memory : Memory) (a n : ℕ) (bytes : List ℕ) → bytes_at memory a n ≡ Some bytes → length bytes ≡ n
-bytes_length memory a zero bytes e = ap length (sym (some_is [] bytes e))
-bytes_length memory a (suc n) bytes e =
-    let first = bind_some (finite.get memory a) (λ byte. bytes_at memory (a + 1) n >>= λ rest. Some (byte ∷ rest)) bytes e in
-    let rest = bind_some (bytes_at memory (a + 1) n) (λ rest. Some (first.0 ∷ rest)) bytes first.2 in
-    ap length (sym (some_is (first.0 ∷ rest.0) bytes rest.2)) ∙ ap suc (bytes_length memory (a + 1) n rest.0 rest.1)
-
 -- what a step leaves of the map and of the output
 abbrev KeepsSizes : Machine → Machine → Type 0
 KeepsSizes m next = Keeps IsSizedMap m next
 
 same_sizes : (m next : Machine) → next.entries ≡ m.entries → next.output ≡ m.output → KeepsSizes m next
-same_sizes m next e o = ((λ is. subst IsSizedMap (sym e) is), o)
+same_sizes m next e o = ((λ is. subst IsSizedMap (sym e) is), (λ short. subst (λ (xs : List ℕ). length xs ≤ 256) (sym o) short))
 
-answer_sized : (helper : Helper) (m : Machine) (first second : ℕ) (answer : Answer) → answer_of helper m first second ≡ Some answer → IsSizedMap m.entries → IsSizedMap answer.entries
-answer_sized Get m first second answer e is =
-    let key = bind_some (bytes_at m.memory first 16) (λ key. cond (is_in_bounds (length m.callers) second 32) (Some (get_effect m second (finite.get m.entries key))) None) answer e in
-    bounds key.0 (is_in_bounds (length m.callers) second 32) key.2 where
-      entries_of : (o : Option (List ℕ)) → (get_effect m second o).entries ≡ m.entries
-      entries_of None = refl
-      entries_of (Some value) = refl
+-- a put reads a key and a value of their lengths
+puts_sized : (helper : Helper) (m : Machine) (bytes : List ℕ) → bytes_read m (reads helper) ≡ Some bytes → IsPutOf (λ key. length key ≡ 16) (λ value. length value ≡ 32) helper bytes
+puts_sized Get m bytes e = tt
+puts_sized Put m bytes e =
+    let at : ReadAt m key_at_r1 (value_at_r2 ∷ []) bytes = read_at m key_at_r1 (value_at_r2 ∷ []) bytes e in
+    let behind : ReadAt m value_at_r2 [] at.rest = read_at m value_at_r2 [] at.rest at.rest_is in
+    let key : length at.first ≡ 16 = bytes_length m.memory at.address at.size at.first at.first_is ∙ sym (some_is 16 at.size at.size_is) in
+    let value : length behind.first ≡ 32 = bytes_length m.memory behind.address behind.size behind.first behind.first_is ∙ sym (some_is 32 behind.size behind.size_is) in
+    let none : [] ≡ behind.rest = some_is _ _ behind.rest_is in
+    let rest : at.rest ≡ behind.first = behind.bytes_are ∙ ap (λ (xs : List ℕ). behind.first ++ xs) (sym none) ∙ append-nil behind.first in
+    let first : take 16 bytes ≡ at.first = ap (take 16) at.bytes_are ∙ key_first at.first at.rest key in
+    let second : drop 16 bytes ≡ behind.first = ap (drop 16) at.bytes_are ∙ value_second at.first at.rest key ∙ rest in
+    (ap length first ∙ key, ap length second ∙ value)
+puts_sized Del m bytes e = tt
+puts_sized Len m bytes e = tt
+puts_sized Next m bytes e = tt
+puts_sized Emit m bytes e = tt
+puts_sized Caller m bytes e = tt
 
-      bounds : (key : List ℕ) (b : Bool) → cond b (Some (get_effect m second (finite.get m.entries key))) None ≡ Some answer → IsSizedMap answer.entries
-      bounds key true h = subst IsSizedMap (sym (entries_of (finite.get m.entries key)) ∙ ap (λ (a : Answer). a.entries) (some_is _ answer h)) is
-      bounds key false h = absurd (cc)
-answer_sized Put m first second answer e is =
-    let key = bind_some (bytes_at m.memory first 16) (λ key. bytes_at m.memory second 32 >>= λ value. Some (put_effect m key value)) answer e in
-    let value = bind_some (bytes_at m.memory second 32) (λ value. Some (put_effect m key.0 value)) answer key.2 in
-    subst IsSizedMap (ap (λ (a : Answer). a.entries) (some_is (put_effect m key.0 value.0) answer value.2))
-    (sized_put m.entries key.0 value.0 is (bytes_length m.memory first 16 key.0 key.1) (bytes_length m.memory second 32 value.0 value.1))
+answer_sized : (helper : Helper) (m : Machine) (bytes : List ℕ) → bytes_read m (reads helper) ≡ Some bytes → IsSizedMap m.entries → IsSizedMap (effect_of helper (context m) bytes).entries
+answer_sized helper m bytes e is =
+    let all = entries_kept (λ key. length key ≡ 16) (λ value. length value ≡ 32) helper (context m) bytes (record { keys = is.keys; values = is.values; count = is.count }) (puts_sized helper m bytes e) in
+    record { keys = all.keys; values = all.values; count = all.count }
 
 run_keeps : (code : List Insn) (first : Machine) (n : ℕ) (last : Machine) → Run code first n last → KeepsSizes first last
 run_keeps code first zero last e = same_sizes first last (ap (λ (k : Machine). k.entries) (sym e)) (ap (λ (k : Machine). k.output) (sym e))
 run_keeps code first (suc n) last (mid, run, e) =
     let before = run_keeps code first n mid run in
     let one = step_keeps IsSizedMap answer_sized code mid last e in
-    ((λ sized. one.0 (before.0 sized)), one.1 ∙ before.1)
+    ((λ sized. one.0 (before.0 sized)), (λ short. one.1 (before.1 short)))
 
 ending_sized : (code : List Insn) (call : Call) (ending : Ending) → EndsSo code call ending → IsSizedMap call.entries → IsSizedMap ending.entries × (length ending.output ≤ 256)
 ending_sized code call ending e is =
     let kept = run_keeps code (start call) e.before e.last e.run in
-    (subst IsSizedMap (sym e.entries) (kept.0 is), omega (arith, ap length (e.output ∙ kept.1)))
+    (subst IsSizedMap (sym e.entries) (kept.0 is), subst (λ (xs : List ℕ). length xs ≤ 256) (sym e.output) (kept.1 (omega arith)))
 
 -- ---- operations keep a tenant's bounds, and results are short
 

@@ -1,28 +1,27 @@
 -- A run keeps bytes: each number in memory stays below 256, and the tenant's map stays one.
-use Rattle.std.proofs.Common.{◌≡◌, ℕ, zero, suc, ◌+◌, ◌/◌, ◌^◌, ◌<◌, ◌≤◌, Bool, true, false, cond, not, ◌&&◌, eqb, List, [], ◌∷◌, length, replicate, get_or, Option, Some, None, ℤ, sym, ap, subst, ◌∙◌, arith}
-use Rattle.std.specs.Prelude.{All, IfSome, nat_le, nat_lt}
+use Rattle.std.proofs.Common.{◌≡◌, ℕ, zero, suc, ◌+◌, ◌/◌, ◌^◌, ◌<◌, ◌≤◌, Bool, true, false, cond, not, ◌&&◌, eqb, List, [], ◌∷◌, length, get_or, Some, None, ℤ, sym, ap, subst, ◌∙◌, arith}
+use Rattle.std.specs.Prelude.{All, nat_le, nat_lt}
 use Rattle.std.specs.Int.{byte_at, byte_len, bytes_low_first, cast_unsigned, w64}
 use Rattle.std.specs.FinMap as finite
 use Rattle.std.proofs.lemmas.Nat.{mod_below}
-use Rattle.std.proofs.lemmas.List.Elements.{All-head, All-tail, All-from_get_or}
+use Rattle.std.proofs.lemmas.List.Elements.{All-head, All-tail}
 use Rattle.bpf_decode.specs.declared.insn.Insn.{Insn}
 use Rattle.bpf_decode.specs.declared.insn.Insn.TheVariants.{Alu, Swap, LoadImm, Load, StoreImm, Store, Jump, JumpLong, Test, CallHelper, CallLocal, Exit}
-use Rattle.bpf_num.specs.Bind.{◌>>=◌}
-use Rattle.tenant_maps.specs.Entries.{IsValue, IsTenantMap}
-use Rattle.tenant_maps.proofs.EntriesLemmas.{IsTenantMap-put, IsValue-get}
-use Rattle.bpf_model.specs.declared.helper.Helper.{Helper}
-use Rattle.bpf_model.specs.declared.helper.Helper.TheVariants.{Get, Put}
+use Rattle.tenant_maps.specs.Entries.{IsTenantMap}
+use Rattle.map_helpers.specs.declared.helper.Helper.{Helper}
+use Rattle.map_helpers.specs.Helpers.{helper_of, reads, writes}
+use Rattle.map_helpers.proofs.Kept.{tenant_map_kept, reads_put, writes_kept}
 use Rattle.bpf_model.specs.Access.{bytes_of, word_of, address_of, stored_bytes}
 use Rattle.bpf_model.specs.Code.{insn_at, target_of}
-use Rattle.bpf_model.specs.Machine.{Machine, Frame, Memory, Call, start, frame_start, frame_end, is_in_bounds, bytes_at}
-use Rattle.bpf_model.specs.Helpers.{Answer, answer_of, helper_of, get_effect, put_effect, zeros}
-use Rattle.bpf_model.specs.Step.{Continues, source_value, destination_value, tested_value, written, stores, jumps, branches, after_answer, without_frame, returned, effect}
+use Rattle.bpf_model.specs.Machine.{Machine, Frame, Memory, Call, start, frames, frame_start, frame_end, is_in_bounds, bytes_at}
+use Rattle.bpf_model.specs.HelperCalls.{Answer, context, answer_of}
+use Rattle.bpf_model.specs.Step.{Continues, entry_registers, enters, source_value, destination_value, tested_value, written, stores, jumps, branches, after_answer, without_frame, returned, effect}
 use Rattle.bpf_model.specs.Run.{Run, Ending, EndsSo}
-use Rattle.bpf_model.proofs.Options.{bind_some, some_is}
+use Rattle.bpf_model.proofs.Options.{bind_some}
 use Rattle.bpf_model.proofs.Runs.{continues_is}
-use Rattle.bpf_model.proofs.Memories.{HoldsBytes, bytes_small, stored_small}
+use Rattle.bpf_model.proofs.Memories.{HoldsBytes, stored_small}
 use Rattle.bpf_model.proofs.Soundness.{start_bytes}
-use Rattle.service_core.proofs.Bounds.{bytes_length}
+use Rattle.bpf_model.proofs.HelperCalls.{all_small, called, read_by, written_small}
 
 -- what holds of each machine that a call reaches
 record HasBytes (m : Machine) : Type 0 where
@@ -43,18 +42,6 @@ low_small i (suc k) n zero = byte_small i n where
   byte_small zero n = omega arith
   byte_small (suc i) n = mod_below (n / 256 ^ suc i) 256 (omega arith)
 low_small i (suc k) n (suc j) = low_small (suc i) k n j
-
-zeros_small : (n i : ℕ) → get_or (replicate n 0) i 0 < 256
-zeros_small zero i = omega arith
-zeros_small (suc n) zero = omega arith
-zeros_small (suc n) (suc i) = zeros_small n i
-
--- what is read from memory is bytes
-read_bytes : (memory : Memory) (a n : ℕ) (bytes : List ℕ) → HoldsBytes memory → bytes_at memory a n ≡ Some bytes → (length bytes ≡ n) × All (λ byte. byte < 256) bytes
-read_bytes memory a n bytes small e = (
-  bytes_length memory a n bytes e,
-  All-from_get_or (λ byte. byte < 256) bytes 0 (λ i lt. bytes_small memory a n bytes small e i),
-)
 
 -- ---- one instruction
 
@@ -91,24 +78,15 @@ record AnswerHas (answer : Answer) : Type 0 where
   memory : HoldsBytes answer.memory
   entries : IsTenantMap answer.entries
 
-got_has : (m : Machine) (address : ℕ) (found : Option (List ℕ)) → HasBytes m → IfSome found IsValue → AnswerHas (get_effect m address found)
-got_has m address None has is = record { memory = stored_small m.memory address zeros has.memory (zeros_small 32); entries = has.entries }
-got_has m address (Some value) has is = record { memory = stored_small m.memory address value has.memory (small_of value is.1); entries = has.entries }
-
-answer_has : (helper : Helper) (m : Machine) (first second : ℕ) (answer : Answer) → HasBytes m → answer_of helper m first second ≡ Some answer → AnswerHas answer
-answer_has Get m first second answer has e =
-    let key = bind_some (bytes_at m.memory first 16) (λ key. cond (is_in_bounds (length m.callers) second 32) (Some (get_effect m second (finite.get m.entries key))) None) answer e in
-    cases (get_effect m second (finite.get m.entries key.0)) (got_has m second (finite.get m.entries key.0) has (IsValue-get m.entries key.0 has.entries)) (is_in_bounds (length m.callers) second 32) key.2 where
-      cases : (given : Answer) → AnswerHas given → (b : Bool) → cond b (Some given) None ≡ Some answer → AnswerHas answer
-      cases given this true h = subst AnswerHas (some_is given answer h) this
-      cases given this false h = absurd cc
-answer_has Put m first second answer has e =
-    let key = bind_some (bytes_at m.memory first 16) (λ key. bytes_at m.memory second 32 >>= λ value. Some (put_effect m key value)) answer e in
-    let value = bind_some (bytes_at m.memory second 32) (λ value. Some (put_effect m key.0 value)) answer key.2 in
-    subst AnswerHas (some_is (put_effect m key.0 value.0) answer value.2) (record {
-      memory = has.memory;
-      entries = IsTenantMap-put m.entries key.0 value.0 has.entries (read_bytes m.memory first 16 key.0 has.memory key.1) (read_bytes m.memory second 32 value.0 has.memory value.1);
-    })
+answer_has : (helper : Helper) (m : Machine) (answer : Answer) → HasBytes m → answer_of helper m ≡ Some answer → AnswerHas answer
+answer_has helper m answer has e =
+    let call = called helper m answer e in
+    let read = read_by m has.memory (reads helper) call.bytes call.bytes_are in
+    let written = writes_kept helper (context m) call.bytes has.entries in
+    record {
+      memory = written_small m (writes helper) m.memory _ answer.memory has.memory (all_small _ written.small) call.memory_is;
+      entries = subst IsTenantMap (sym call.entries_are) (tenant_map_kept helper (context m) call.bytes has.entries (reads_put helper call.bytes read));
+    }
 
 answered_has : (m next : Machine) (answer : Answer) → AnswerHas answer → Some (after_answer m 1 answer) ≡ Some (Continues next) → HasBytes next
 answered_has m next answer has e = continues_has _ next e (record { memory = has.memory; entries = has.entries })
@@ -126,6 +104,18 @@ returned_has : (callers : List Frame) (m next : Machine) (result : ℕ) → HasB
 returned_has [] m next result has e = absurd cc
 returned_has (caller ∷ callers) m next result has e =
     continues_has _ next e (record { memory = without_frame_holds (length callers + 1) m.memory has.memory; entries = has.entries })
+
+enters_has : (m next : Machine) (slots target : ℕ) → HasBytes m → enters m slots target ≡ Some (Continues next) → HasBytes next
+enters_has m next slots target has e = cases (nat_lt (length m.callers + 1) frames) e where
+  k : Machine
+  k = record m {
+    frame = record { pc = target; registers = entry_registers (length m.callers + 1) m.frame.registers };
+    callers = record { pc = m.frame.pc + slots; registers = m.frame.registers } ∷ m.callers;
+  }
+
+  cases : (b : Bool) → cond b (Some (Continues k)) None ≡ Some (Continues next) → HasBytes next
+  cases true h = continues_has k next h (record { memory = has.memory; entries = has.entries })
+  cases false h = absurd cc
 
 effect_has : (m next : Machine) (x : Insn) → HasBytes m → effect m x ≡ Some (Continues next) → HasBytes next
 effect_has m next (Alu width op dst src) has e =
@@ -154,11 +144,11 @@ effect_has m next (Test narrow test dst src offset) has e =
     branches_has m next 1 offset _ has a.2
 effect_has m next (CallHelper number) has e =
     let helper = bind_some (helper_of number) _ (Continues next) e in
-    let first = bind_some (finite.get m.frame.registers 1) _ (Continues next) helper.2 in
-    let second = bind_some (finite.get m.frame.registers 2) _ (Continues next) first.2 in
-    let answer = bind_some (answer_of helper.0 m first.0 second.0) _ (Continues next) second.2 in
-    answered_has m next answer.0 (answer_has helper.0 m first.0 second.0 answer.0 has answer.1) answer.2
-effect_has m next (CallLocal offset) has e = absurd cc
+    let answer = bind_some (answer_of helper.0 m) _ (Continues next) helper.2 in
+    answered_has m next answer.0 (answer_has helper.0 m answer.0 has answer.1) answer.2
+effect_has m next (CallLocal offset) has e =
+    let t = bind_some (target_of m.frame.pc offset) _ (Continues next) e in
+    enters_has m next 1 t.0 has t.2
 effect_has m next Exit has e =
     let result = bind_some (finite.get m.frame.registers 0) _ (Continues next) e in
     returned_has m.callers m next result.0 has result.2

@@ -323,14 +323,14 @@ fn refused_jumps(rt: HostRuntime) -> Result<(), Fail> {
             0,
         ),
         (
-            "a local call",
-            &[0x8510_0000_0100_0000, EXIT, R0_IS_0, EXIT],
+            "a call of itself",
+            &[0x8510_0000_ffff_ffff, EXIT],
             VerifyFault::CallDepth,
             0,
         ),
         (
-            "helper 3",
-            &[0x8500_0000_0300_0000, EXIT],
+            "helper 8",
+            &[0x8500_0000_0800_0000, EXIT],
             VerifyFault::UnknownHelper,
             0,
         ),

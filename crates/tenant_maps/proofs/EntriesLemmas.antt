@@ -20,7 +20,7 @@ order_tells = finite.slice_cmp-IsAntisymmetric finite.nat_cmp-IsAntisymmetric
 
 module _ {A : Type 0} (f : List ℕ × List ℕ → A) (P : A → Type 0) where
   -- what f reads of each entry has P after an entry whose reading has P was put
-  All-map-where : (test : List ℕ → Bool) (es : List (List ℕ × List ℕ)) → All P (map f es) → All P (map f (where_key order test es))
+  pub All-map-where : (test : List ℕ → Bool) (es : List (List ℕ × List ℕ)) → All P (map f es) → All P (map f (where_key order test es))
   All-map-where test [] all = all
   All-map-where test (e ∷ es) all =
       let rest = All-map-where test es (All-tail P _ _ all) in
@@ -103,7 +103,7 @@ entries-remove entries key =
     ∙ sym (finite.get-from_sorted order left q sorted) in
     ap finite.entries (finite.same_map nat_list_cmp_total order_tells _ _ one) ∙ finite.entries-from_sorted order left sorted
 
-count_falls : (there : Bool) (n m : ℕ) → n ≤ 4096 → m ≡ cond there (n - 1) n → m ≤ 4096
+pub count_falls : (there : Bool) (n m : ℕ) → n ≤ 4096 → m ≡ cond there (n - 1) n → m ≤ 4096
 count_falls true n m few e = omega (arith, e, few)
 count_falls false n m few e = omega (arith, e, few)
 

@@ -1,29 +1,34 @@
-use Rattle.std.proofs.Common.{length, subst, sym}
-use Rattle.bpf_verifier.specs.Sweep.{Pending, IsStart}
-use Rattle.bpf_verifier.proofs.Sweeps.{found_bound, found_right, found_fault, long_start, few_start}
+use Rattle.std.proofs.Common.{◌≡◌, ◌∙◌, ◌<◌, ◌≤◌, ℕ, List, Option, length, ap, subst, sym, refl, rules, arith, inl, inr}
+use Rattle.std.specs.Prelude.{IfErr}
+use Rattle.bpf_decode.specs.declared.insn.Insn.{Insn}
+use Rattle.bpf_model.specs.Code.{insns_by_slot}
+use Rattle.bpf_model.specs.AbstractState.{start_state}
+use Rattle.bpf_model.specs.declared.fault.Refusal.{Refusal}
+use Rattle.bpf_model.proofs.Slots.{first_at}
+use Rattle.bpf_verifier.specs.declared.dataflow.Visit.{Visit}
+use Rattle.bpf_verifier.specs.Represents.{Represents}
+use Rattle.bpf_verifier.specs.Sweep.{Entered, IsEntered, IsStructured}
+use Rattle.bpf_model.proofs.Visits.{no_faults}
+use Rattle.bpf_verifier.proofs.Visiting.{main_of, is_main, fails_first, handed_on}
 use Rattle.bpf_verifier.proofs.dataflow.check_dataflow.Goals as goal
 
-pub returns-clause-bound : goal.returns-clause-bound
-returns-clause-bound c =
-    let start : IsStart c.deref_mut.result.now (length c.args.slots.now) = subst (λ (l : Pending). IsStart l (length c.args.slots.now)) (sym c.deref_mut.ensures.value) c.in_ok-pending.ensures in
-    found_bound c.sweep.result c.args.slots.now c.deref_mut.result.now _ c.requires.some start c.sweep.ensures.right
+pub returns-in_err-returned-clause-refused : goal.returns-in_err-returned-clause-refused
+returns-in_err-returned-clause-refused c =
+    let same : IfErr c.from_residual-in_err-returned.result (λ (e : Refusal). e ≡ c.in_err-returned.field-0.0) = search rules in
+    handed_on c.from_residual-in_err-returned.result c.in_err-returned.field-0.0 _ same
+    (elim c.in_err-returned.ensures.refused [
+      | inl memory ↦ inl memory
+      | inr fails ↦ inr (λ code at structured.
+          fails_first code c.in_err-returned.field-0.0.fault c.in_err-returned.field-0.0.slot (fails (main_of code) at refl refl (sym c.in_ok-visit.ensures.visits) (is_main code structured (subst (λ (l : List (Option Insn)). 0 < length l) at c.requires.some)) (subst (λ (u : Visit). Represents u.state start_state) (sym c.in_ok-visit.ensures.copy) c.at_start.ensures)))
+    ])
 
 pub returns-clause-right : goal.returns-clause-right
-returns-clause-right c =
-    let start : IsStart c.deref_mut.result.now (length c.args.slots.now) = subst (λ (l : Pending). IsStart l (length c.args.slots.now)) (sym c.deref_mut.ensures.value) c.in_ok-pending.ensures in
-    found_right c.sweep.result c.args.slots.now c.deref_mut.result.now _ c.requires.some start c.sweep.ensures.right
+returns-clause-right c = λ code at structured.
+    let g = c.in_ok-returned.ensures.right (main_of code) at refl refl (sym c.in_ok-visit.ensures.visits) (is_main code structured (subst (λ (l : List (Option Insn)). 0 < length l) at c.requires.some)) (subst (λ (u : Visit). Represents u.state start_state) (sym c.in_ok-visit.ensures.copy) c.at_start.ensures) in
+    let few = c.in_ok-returned.ensures.few.1 in
+    let count = g.count in
+    no_faults code g.right (omega (arith, few, count))
 
-pub returns-clause-refused : goal.returns-clause-refused
-returns-clause-refused c =
-    let start : IsStart c.deref_mut.result.now (length c.args.slots.now) = subst (λ (l : Pending). IsStart l (length c.args.slots.now)) (sym c.deref_mut.ensures.value) c.in_ok-pending.ensures in
-    found_fault c.sweep.result c.args.slots.now c.deref_mut.result.now c.sweep.new.pending c.requires.some start c.sweep.ensures.refused
-
-pub sweep-requires-clause-long : goal.sweep-requires-clause-long
-sweep-requires-clause-long c =
-    let start : IsStart c.deref_mut.result.now (length c.args.slots.now) = subst (λ (l : Pending). IsStart l (length c.args.slots.now)) (sym c.deref_mut.ensures.value) c.in_ok-pending.ensures in
-    long_start c.deref_mut.result.now (length c.args.slots.now) c.requires.some start
-
-pub sweep-requires-clause-start : goal.sweep-requires-clause-start
-sweep-requires-clause-start c =
-    let start : IsStart c.deref_mut.result.now (length c.args.slots.now) = subst (λ (l : Pending). IsStart l (length c.args.slots.now)) (sym c.deref_mut.ensures.value) c.in_ok-pending.ensures in
-    few_start c.deref_mut.result.now (length c.args.slots.now) start
+pub returns-clause-bound : goal.returns-clause-bound
+returns-clause-bound c = λ code at structured.
+    (c.in_ok-returned.ensures.right (main_of code) at refl refl (sym c.in_ok-visit.ensures.visits) (is_main code structured (subst (λ (l : List (Option Insn)). 0 < length l) at c.requires.some)) (subst (λ (u : Visit). Represents u.state start_state) (sym c.in_ok-visit.ensures.copy) c.at_start.ensures)).bound

@@ -11,5 +11,5 @@ pub returns : goal.returns
 returns c = λ client entries.
     let args = c.args.args.now in
     let copied : c.copy_from_slice.new.self ≡ args = search rules in
-    let made = put_mid-paste 512 (512 + length args - 512) (replicate 768 0) c.copy_from_slice.new.self args (length args) copied (omega arith) refl in
+    let made = put_mid-paste 4096 (4096 + length args - 4096) (replicate 4352 0) c.copy_from_slice.new.self args (length args) copied (omega arith) refl in
     subst (λ (bytes : List ℕ). RepresentsMemory bytes (map.from_entries (enumerate_from arguments_start (args ++ replicate (256 - length args) 0)))) (sym made) (start_memory args c.requires)

@@ -4,7 +4,9 @@ use Rattle.std.proofs.lemmas.List.{take_all, get_or_default}
 use Rattle.std.proofs.lemmas.List.Folds.{list_any_more}
 use Rattle.reg_ranges.specs.Ranges as reg
 use Rattle.reg_ranges.specs.declared.range.Range.{Range}
-use Rattle.bpf_model.specs.declared.helper.Access.{Access}
+use Rattle.map_helpers.specs.declared.helper.Access.{Access}
+use Rattle.map_helpers.specs.declared.helper.Extent.TheVariants.{Fixed}
+use Rattle.map_helpers.specs.Helpers.{fixed_size}
 use Rattle.bpf_model.specs.Machine.{frame_start}
 use Rattle.bpf_model.specs.AbstractState.{is_written}
 use Rattle.bpf_verifier.specs.FrameBytes.{has_byte}
@@ -16,14 +18,15 @@ use Rattle.bpf_verifier.proofs.abstract_state.AbstractState.after_helper.Goals a
 pub loop-access-preserved : goal.loop-access-preserved
 loop-access-preserved c =
     let i = c.loop-access.invariant in
-    let d : Access = record { register = 0; size = 0 } in
+    let d : Access = record { register = 0; size = Fixed 0 } in
     let a : Access = get_or c.args.writes.now c.loop-access.access-index d in
     record {
       ranges = c.initialize.ensures.ranges ∙ i.ranges;
       initialized = λ k h.
-          let p : Access → Bool = λ b. is_written (ranges_of c.args.self.now.ranges b.register) b.size (frame_start 0 + k) in
+          let p : Access → Bool = λ b. is_written (ranges_of c.args.self.now.ranges b.register) (fixed_size b.size) (frame_start 0 + k) in
           c.initialize.ensures.initialized k h
-          ∙ ap (λ (o : Option reg.Range). is_written o a.size (frame_start 0 + k) || has_byte c.loop-access.self.initialized.words k) (c.range_of-range.ensures ∙ ap (λ (rs : List (Option Range)). ranges_of rs a.register) i.ranges)
+          ∙ ap (λ (o : Option reg.Range). is_written o c.fixed.result (frame_start 0 + k) || has_byte c.loop-access.self.initialized.words k) (c.range_of-range.ensures ∙ ap (λ (rs : List (Option Range)). ranges_of rs a.register) i.ranges)
+          ∙ ap (λ (n : ℕ). is_written (ranges_of c.args.self.now.ranges a.register) n (frame_start 0 + k) || has_byte c.loop-access.self.initialized.words k) c.fixed.ensures
           ∙ ap (λ (b : Bool). p a || b) (i.initialized k h)
           ∙ any_step (list_any p (take c.loop-access.access-index c.args.writes.now)) (p a) (has_byte c.args.self.now.initialized.words k)
           ∙ ap (λ (b : Bool). b || has_byte c.args.self.now.initialized.words k) (sym (list_any_more p c.args.writes.now c.loop-access.access-index d c.loop-access-test.true));
@@ -37,7 +40,7 @@ returns c = λ marked marks.
     let at : (r : ℕ) (d : Option Range) → r < 11 → get_or c.loop-access.self.ranges r d ≡ get_or ranges r None = λ r d h.
     let inside : r < length ranges = omega (arith, h, eleven) in
     ap (λ (rs : List (Option Range)). get_or rs r d) i.ranges ∙ get_or_default ranges r d None inside in
-    represents_helper ranges ranges c.args.self.now.initialized.words c.loop-access.self.initialized.words c.args.writes.now marked _
-    (called_ranges ranges eleven marked c.new.result c.new.ensures c.args.writes.now _ _ _ _ _ (at 6 _ (omega arith)) (at 7 _ (omega arith)) (at 8 _ (omega arith)) (at 9 _ (omega arith)) (at 10 _ (omega arith)))
+    represents_helper ranges ranges c.args.self.now.initialized.words c.loop-access.self.initialized.words c.args.max_answer c.args.writes.now marked _
+    (called_ranges ranges eleven marked c.args.max_answer c.new.result c.new.ensures c.args.writes.now _ _ _ _ _ (at 6 _ (omega arith)) (at 7 _ (omega arith)) (at 8 _ (omega arith)) (at 9 _ (omega arith)) (at 10 _ (omega arith)))
     refl marks
-    (λ k h. i.initialized k h ∙ ap (λ (xs : List Access). list_any (λ (a : Access). is_written (ranges_of ranges a.register) a.size (frame_start 0 + k)) xs || has_byte c.args.self.now.initialized.words k) (take_all c.loop-access.access-index c.args.writes.now c.loop-access-test.false))
+    (λ k h. i.initialized k h ∙ ap (λ (xs : List Access). list_any (λ (a : Access). is_written (ranges_of ranges a.register) (fixed_size a.size) (frame_start 0 + k)) xs || has_byte c.args.self.now.initialized.words k) (take_all c.loop-access.access-index c.args.writes.now c.loop-access-test.false))

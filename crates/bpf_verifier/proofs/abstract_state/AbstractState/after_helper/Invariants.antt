@@ -1,6 +1,7 @@
 use Rattle.std.proofs.Common.{◌≡◌, ℕ, ◌+◌, ◌<◌, ◌||◌, take}
 use Rattle.std.specs.List.{list_any}
-use Rattle.bpf_model.specs.declared.helper.Access.{Access}
+use Rattle.map_helpers.specs.declared.helper.Access.{Access}
+use Rattle.map_helpers.specs.Helpers.{fixed_size}
 use Rattle.bpf_model.specs.Machine.{frame_start}
 use Rattle.bpf_model.specs.AbstractState.{is_written}
 use Rattle.bpf_verifier.specs.FrameBytes.{has_byte}
@@ -10,5 +11,5 @@ use Rattle.bpf_verifier.proofs.abstract_state.AbstractState.after_helper.Given a
 abbrev pub invariant-loop-access : goal.invariant-loop-access
 invariant-loop-access l = record {
   ranges : l.self.ranges ≡ l.fn.self.ranges;
-  initialized : (i : ℕ) → i < 512 → has_byte l.self.initialized.words i ≡ (list_any (λ (access : Access). is_written (ranges_of l.fn.self.ranges access.register) access.size (frame_start 0 + i)) (take l.access-index l.writes) || has_byte l.fn.self.initialized.words i);
+  initialized : (i : ℕ) → i < 4096 → has_byte l.self.initialized.words i ≡ (list_any (λ (access : Access). is_written (ranges_of l.fn.self.ranges access.register) (fixed_size access.size) (frame_start 0 + i)) (take l.access-index l.writes) || has_byte l.fn.self.initialized.words i);
 }

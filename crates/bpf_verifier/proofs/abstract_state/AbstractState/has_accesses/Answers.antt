@@ -10,21 +10,21 @@ returns-in-Load c = λ marked.
     let n = c.in-Load.offset in
     let again : cast_signed w16 (cast_unsigned w16 n) ≡ n = search rules in
     c.has_access.ensures marked
-    ∙ ap (λ (z : ℤ). in_bounds (address_range (state_of c.args.self.now.ranges marked) c.in-Load.base.number z) (bytes_of c.in-Load.size)) again
-    ∙ ap (has_accesses (state_of c.args.self.now.ranges marked)) (sym c.in-Load.is)
+    ∙ ap (λ (z : ℤ). in_bounds c.args.depth (address_range (state_of c.args.self.now.ranges marked) c.in-Load.base.number z) (bytes_of c.in-Load.size)) again
+    ∙ ap (has_accesses c.args.depth (state_of c.args.self.now.ranges marked)) (sym c.in-Load.is)
 
 pub returns-in-StoreImm : goal.returns-in-StoreImm
 returns-in-StoreImm c = λ marked.
     let n = c.in-StoreImm.offset in
     let again : cast_signed w16 (cast_unsigned w16 n) ≡ n = search rules in
     c.has_access-in-StoreImm.ensures marked
-    ∙ ap (λ (z : ℤ). in_bounds (address_range (state_of c.args.self.now.ranges marked) c.in-StoreImm.base.number z) (bytes_of c.in-StoreImm.size)) again
-    ∙ ap (has_accesses (state_of c.args.self.now.ranges marked)) (sym c.in-StoreImm.is)
+    ∙ ap (λ (z : ℤ). in_bounds c.args.depth (address_range (state_of c.args.self.now.ranges marked) c.in-StoreImm.base.number z) (bytes_of c.in-StoreImm.size)) again
+    ∙ ap (has_accesses c.args.depth (state_of c.args.self.now.ranges marked)) (sym c.in-StoreImm.is)
 
 pub returns-in-Store : goal.returns-in-Store
 returns-in-Store c = λ marked.
     let n = c.in-Store.offset in
     let again : cast_signed w16 (cast_unsigned w16 n) ≡ n = search rules in
     c.has_access-in-Store.ensures marked
-    ∙ ap (λ (z : ℤ). in_bounds (address_range (state_of c.args.self.now.ranges marked) c.in-Store.base.number z) (bytes_of c.in-Store.size)) again
-    ∙ ap (has_accesses (state_of c.args.self.now.ranges marked)) (sym c.in-Store.is)
+    ∙ ap (λ (z : ℤ). in_bounds c.args.depth (address_range (state_of c.args.self.now.ranges marked) c.in-Store.base.number z) (bytes_of c.in-Store.size)) again
+    ∙ ap (has_accesses c.args.depth (state_of c.args.self.now.ranges marked)) (sym c.in-Store.is)

@@ -1,4 +1,4 @@
-use Rattle.std.proofs.Common.{arith, ◌∙◌, sym, ap, Option}
+use Rattle.std.proofs.Common.{refl, arith, ◌∙◌, sym, ap, Option}
 use Rattle.std.specs.Option.{option_map}
 use Rattle.reg_ranges.specs.RangeOf.{range_of}
 use Rattle.reg_ranges.specs.declared.range.Range.{Range}
@@ -10,5 +10,5 @@ pub returns : goal.returns
 returns c = λ marked marks.
     let is = c.in-Some.is in
     let range = c.in-Some.range in
-    stack_bytes c.args.self.now.initialized.words (range_of range) c.args.size range.ordered (ap (λ (o : Option Range). in_bounds (option_map range_of o) c.args.size) (sym is) ∙ c.requires) (omega (arith, c.if-range-ge-ARGUMENTS_START.false)) marked marks c.from.result c.from.ensures c.contains_all.result c.contains_all.ensures.present c.contains_all.ensures.absent
+    stack_bytes c.args.self.now.initialized.words (range_of range) c.args.size c.requires.0 c.requires.1 range.ordered (ap (λ (o : Option Range). in_bounds c.requires.0 (option_map range_of o) c.args.size) (sym is) ∙ c.requires.2) (omega (arith, c.if-range-ge-ARGUMENTS_START.false)) marked marks c.args.size refl c.contains_all.result c.contains_all.ensures.present c.contains_all.ensures.absent
     ∙ ap (λ (o : Option Range). is_initialized marked (option_map range_of o) c.args.size) (sym is)

@@ -23,4 +23,4 @@ returns c =
     let long : length c.args.self.now.ranges ≡ 11 = search rules in
     let all : AreJoined 11 c.loop-register.self.ranges c.args.self.now.ranges c.args.other.now.ranges = subst (λ (k : ℕ). AreJoined k c.loop-register.self.ranges c.args.self.now.ranges c.args.other.now.ranges) end i.joined in
     joined_is c.args.self.now c.args.other.now _ (joined_all c.loop-register.self.ranges c.args.self.now.ranges c.args.other.now.ranges all long)
-    (λ k h. c.intersection-self.ensures k h ∙ ap (λ (f : FrameBytes). has_byte f.words k && has_byte c.args.other.now.initialized.words k) i.marks)
+    (λ k h. c.intersect.ensures k h ∙ ap (λ (f : FrameBytes). has_byte f.words k && has_byte c.args.other.now.initialized.words k) i.marks)

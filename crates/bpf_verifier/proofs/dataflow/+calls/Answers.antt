@@ -1,0 +1,283 @@
+use Rattle.std.proofs.Common.{◌≡◌, ◌≢◌, ◌⊎◌, ◌∙◌, ◌<◌, ◌≤◌, ◌+◌, ◌-◌, ℕ, ℤ, suc, Bool, max, Option, Some, None, Box, List, length, set, refl, sym, ap, subst, arith, rules, inl, inr}
+use Rattle.std.specs.Prelude.{IfErr}
+use Rattle.std.specs.Int.{w32, cast_signed, cast_unsigned}
+use Rattle.std.specs.declared.alloc.Global.{Global}
+use Rattle.std.proofs.lemmas.List.{length-set}
+use Rattle.bpf_decode.specs.declared.insn.Insn.{Insn}
+use Rattle.bpf_decode.specs.declared.insn.Insn.TheVariants.{CallLocal}
+use Rattle.bpf_model.specs.AbstractState as model
+use Rattle.bpf_model.specs.AbstractState.{edges, entry_state}
+use Rattle.bpf_model.specs.Code.{insns_by_slot, insn_at, target_of}
+use Rattle.bpf_model.specs.Verdict.{insn_dataflow_fault, visits_in, visit_fault}
+use Rattle.bpf_model.specs.declared.fault.Refusal.{Refusal}
+use Rattle.bpf_model.specs.declared.fault.VerifyFault.TheVariants.{Memory}
+use Rattle.bpf_verifier.specs.declared.dataflow.Visit.{Visit}
+use Rattle.bpf_verifier.specs.declared.dataflow.Returned.{Returned}
+use Rattle.bpf_verifier.specs.FrameBytes.{Marks}
+use Rattle.bpf_verifier.specs.Represents.{Represents, state_of}
+use Rattle.bpf_verifier.specs.Sweep.{Pending, visit_in, pending_at, VisitJoined, Flowed, AreFew, Fails, Entered, IsEntered, activation_of, SweepAt, nothing_returned, FailsInCall, CalledBack, callee_of}
+use Rattle.bpf_verifier.proofs.Sweeps.{pending_is, taken, length_flow, few_visited, steps_few, own_marks, own_marks_are}
+use Rattle.bpf_verifier.proofs.Functions.{insn_there, sweep_none, sweep_gap, started, followed}
+use Rattle.bpf_verifier.proofs.Visiting.{at_next, begin_fails, other_visited, exit_visited, call_visited, call_lands, call_fails, own_state, own_exit, is_callee, is_none_of, flowed_from, called_few, finds_same, handed_on, if_ok, if_err}
+use Rattle.bpf_verifier.proofs.dataflow.+calls.Goals.{visit_slot-in_default-via-in-Some+in_default, visit_slot-in_default-via-in_default}
+use Rattle.bpf_verifier.proofs.dataflow.+calls.Goals as goal
+
+-- ---- visit_slot
+
+pub visit_slot-returns-in_default-clause-right : goal.visit_slot-returns-in_default-clause-right
+visit_slot-returns-in_default-clause-right c w = λ f same left is p.
+    let inside : w.args.slot < length w.args.pending.now = omega (arith, w.requires.inside, w.requires.long) in
+    subst (λ (z : Option (Box Visit Global)). SweepAt f (w.args.slot + 1) (set w.args.pending.now w.args.slot z) w.args.returned.now w.args.pass.now.visits) (sym w.take.ensures.after)
+    (at_next f w.args.slot (taken w.args.pending.now w.args.slot) w.args.returned.now w.args.pass.now.visits
+    (elim w.in_default.branch [
+      | visit_slot-in_default-via-in-Some+in_default u ↦ sweep_none f is w.args.slot w.args.pending.now w.args.returned.now w.args.pass.now.visits p inside (pending_is w.args.pending.now w.args.slot w.take.result w.index-pending-slot.result None w.take.ensures.value inside u.in_default.is-1)
+      | visit_slot-in_default-via-in_default u ↦ sweep_gap f is w.args.slot w.args.pending.now w.args.returned.now w.args.pass.now.visits p inside (insn_there f.code w.args.slots.now w.args.slot w.index-slots-slot.result same w.requires.inside w.index-slots-slot.is ∙ u.in_default.is-0)
+    ]))
+
+pub visit_slot-returns-in_err-begin-clause-refused : goal.visit_slot-returns-in_err-begin-clause-refused
+visit_slot-returns-in_err-begin-clause-refused c w =
+    let same : IfErr w.from_residual.result (λ (e : Refusal). e ≡ w.in_err-begin.field-0.0) = search rules in
+    handed_on w.from_residual.result w.in_err-begin.field-0.0 _ same (inr (λ f at left is p.
+    let inside : w.args.slot < length w.args.pending.now = omega (arith, w.requires.inside, w.requires.long) in
+    let x = w.in-Some-Some in
+    let e = pending_is w.args.pending.now w.args.slot w.take.result w.index-pending-slot.result (Some x.visit) w.take.ensures.value inside x.is-1 in
+    let x-is = insn_there f.code w.args.slots.now w.args.slot w.index-slots-slot.result at w.requires.inside w.index-slots-slot.is ∙ x.is-0 in
+    let bad = w.in_err-begin.ensures.refused in
+    subst (λ (n : ℕ). Fails f.base (visits_in f.code (suc f.left) f.entry f.state) w.in_err-begin.field-0.0.fault n) (sym bad.0)
+    (begin_fails f is w.args.slot w.args.pending.now w.args.returned.now w.args.pass.now.visits p inside x.visit.value e x.insn x-is (7 - w.args.left) (ap (λ (n : ℕ). 7 - n) (sym left)) w.in_err-begin.field-0.0.fault w.requires.few.visits_few (subst (λ (u : Visit). (marked : ℕ → Bool) → Marks u.state.initialized.words marked → visit_fault w.args.pass.now.visits (Some (record { slot = w.args.slot; fault = insn_dataflow_fault (7 - w.args.left) (state_of u.state.ranges marked) x.insn })) ≡ Some w.in_err-begin.field-0.0.fault) w.deref.ensures bad.1))))
+
+pub visit_slot-returns-in_err-callee-in-CallLocal-clause-refused : goal.visit_slot-returns-in_err-callee-in-CallLocal-clause-refused
+visit_slot-returns-in_err-callee-in-CallLocal-clause-refused c w =
+    let same : IfErr w.from_residual-in_err-callee-in-CallLocal.result (λ (e : Refusal). e ≡ w.in_err-callee-in-CallLocal.field-0.0) = search rules in
+    handed_on w.from_residual-in_err-callee-in-CallLocal.result w.in_err-callee-in-CallLocal.field-0.0 _ same
+    (elim w.in_err-callee-in-CallLocal.ensures.refused [
+      | inl memory ↦ inl memory
+      | inr fails ↦ inr (λ f at left is p.
+          let inside : w.args.slot < length w.args.pending.now = omega (arith, w.requires.inside, w.requires.long) in
+          let x = w.in-Some-Some in
+          let e = pending_is w.args.pending.now w.args.slot w.take.result w.index-pending-slot.result (Some x.visit) w.take.ensures.value inside x.is-1 in
+          let x-is = insn_there f.code w.args.slots.now w.args.slot w.index-slots-slot.result at w.requires.inside w.index-slots-slot.is ∙ x.is-0 in
+          let refusal = w.in_err-callee-in-CallLocal.field-0.0 in
+          let n = w.in-CallLocal.offset in
+          let again : cast_signed w32 (cast_unsigned w32 n) ≡ n = search rules in
+          call_fails f is w.args.slot w.args.pending.now w.args.returned.now w.args.pass.now.visits p inside x.visit.value e x.insn x-is (7 - w.args.left) (ap (λ (k : ℕ). 7 - k) (sym left)) n w.in-CallLocal.is (finds_same w.deref.result.now x.visit.value x.insn (7 - w.args.left) None w.deref.ensures w.in_ok-begin.ensures.right) refusal.fault refusal.slot
+          (λ m rep none.
+          subst (λ (k : ℕ). FailsInCall f w.args.slot n m k refusal.fault refusal.slot) w.in_ok-begin.ensures.count.0
+          (subst (λ (z : ℤ). FailsInCall f w.args.slot z m w.begin.new.self.visits refusal.fault refusal.slot) again
+          (fails f m at left is (subst (λ (u : Visit). Represents u.state m) (sym w.deref-in-CallLocal.ensures) rep) (x-is ∙ ap Some w.in-CallLocal.is ∙ ap (λ (z : ℤ). Some (CallLocal z)) (sym again)) none))))
+    ])
+
+pub visit_slot-resume-requires-clause-deep : goal.visit_slot-resume-requires-clause-deep
+visit_slot-resume-requires-clause-deep c w =
+    let few = called_few w.in_ok-callee-in-CallLocal.field-0 w.in-Some.callee w.args.left w.begin.new.self.visits w.call.new.pass.visits w.in-Some.is w.in_ok-callee-in-CallLocal.ensures.few in
+    omega (arith, few.0, w.requires.deep)
+
+pub visit_slot-overflow_add-deref_mut-in-Exit : goal.visit_slot-overflow_add-deref_mut-in-Exit
+visit_slot-overflow_add-deref_mut-in-Exit c w =
+    let inside : w.args.slot < length w.args.pending.now = omega (arith, w.requires.inside, w.requires.long) in
+    let x = w.in-Some-Some in
+    let e = pending_is w.args.pending.now w.args.slot w.take.result w.index-pending-slot.result (Some x.visit) w.take.ensures.value inside x.is-1 in
+    let few = steps_few 0 w.args.pass.now.visits w.args.slot w.args.pending.now w.args.returned.now.bound x.visit.value w.requires.few e in
+    let same = ap (λ (u : Visit). u.steps) w.deref_mut-in-Exit.ensures.value in
+    let most = w.requires.few.visits_few in
+    omega (arith, few, same, most)
+
+pub visit_slot-overflow_add-deref_mut-in_default-insn : goal.visit_slot-overflow_add-deref_mut-in_default-insn
+visit_slot-overflow_add-deref_mut-in_default-insn c w =
+    let inside : w.args.slot < length w.args.pending.now = omega (arith, w.requires.inside, w.requires.long) in
+    let x = w.in-Some-Some in
+    let e = pending_is w.args.pending.now w.args.slot w.take.result w.index-pending-slot.result (Some x.visit) w.take.ensures.value inside x.is-1 in
+    let few = steps_few 0 w.args.pass.now.visits w.args.slot w.args.pending.now w.args.returned.now.bound x.visit.value w.requires.few e in
+    let same = ap (λ (u : Visit). u.steps) w.deref_mut-in_default-insn.ensures.value in
+    let most = w.requires.few.visits_few in
+    omega (arith, few, same, most)
+
+pub visit_slot-returns-in-Some-clause-few : goal.visit_slot-returns-in-Some-clause-few
+visit_slot-returns-in-Some-clause-few c w = λ base few.
+    let inside : w.args.slot < length w.args.pending.now = omega (arith, w.requires.inside, w.requires.long) in
+    let x = w.in-Some-Some in
+    let v : Visit = x.visit.value in
+    let e = pending_is w.args.pending.now w.args.slot w.take.result w.index-pending-slot.result (Some x.visit) w.take.ensures.value inside x.is-1 in
+    let back = w.in-Some.callee in
+    let own = own_state v in
+    let gone = own_exit back.exit in
+    let less = called_few w.in_ok-callee-in-CallLocal.field-0 back w.args.left w.begin.new.self.visits w.call.new.pass.visits w.in-Some.is w.in_ok-callee-in-CallLocal.ensures.few in
+    let one = w.in_ok-begin.ensures.count.0 in
+    let same = w.resume.ensures.visits in
+    let m : Visit = w.deref_mut.result.now in
+    let is : m ≡ v = w.deref_mut.ensures.value in
+    few_visited base w.args.pass.now.visits w.resume.new.pass.visits w.args.slot w.args.pending.now w.resume.new.pending w.args.returned.now.bound w.max-returned.result (1 + back.bound) v _ few e (omega (arith, less.1, one, same)) (omega (arith, less.2, same))
+    (w.max-returned.ensures ∙ ap (λ (u : Visit). max w.args.returned.now.bound u.steps) w.deref-in-Some.ensures ∙ ap (λ (u : Visit). max w.args.returned.now.bound (u.steps + (1 + back.bound))) is)
+    (flowed_from _ (m.steps + (1 + back.bound)) (v.steps + (1 + back.bound)) w.args.pending.now w.resume.new.pending w.args.slot w.take.new.self w.take.ensures.after (ap (λ (u : Visit). u.steps + (1 + back.bound)) is) (w.resume.ensures.flowed own.0 gone.0 (subst (λ (u : Visit). Represents u.state own.0) (sym is) own.1) gone.1))
+
+pub visit_slot-returns-in-Some-clause-right : goal.visit_slot-returns-in-Some-clause-right
+visit_slot-returns-in-Some-clause-right c w = λ f at left is p.
+    let inside : w.args.slot < length w.args.pending.now = omega (arith, w.requires.inside, w.requires.long) in
+    let x = w.in-Some-Some in
+    let v : Visit = x.visit.value in
+    let e = pending_is w.args.pending.now w.args.slot w.take.result w.index-pending-slot.result (Some x.visit) w.take.ensures.value inside x.is-1 in
+    let x-is = insn_there f.code w.args.slots.now w.args.slot w.index-slots-slot.result at w.requires.inside w.index-slots-slot.is ∙ x.is-0 in
+    let back = w.in-Some.callee in
+    let m : Visit = w.deref_mut.result.now in
+    let same : m ≡ v = w.deref_mut.ensures.value in
+    let n = w.in-CallLocal.offset in
+    let again : cast_signed w32 (cast_unsigned w32 n) ≡ n = search rules in
+    call_visited f is w.args.slot w.args.pending.now w.args.returned.now w.args.pass.now.visits p inside v e x.insn x-is (7 - w.args.left) (ap (λ (k : ℕ). 7 - k) (sym left)) w.resume.new.pending (record { exit = w.args.returned.now.exit; bound = w.max-returned.result }) w.resume.new.pass.visits (finds_same w.deref.result.now v x.insn (7 - w.args.left) None w.deref.ensures w.in_ok-begin.ensures.right) n w.in-CallLocal.is back
+    (λ s rep none.
+    subst (λ (k : ℕ). CalledBack f w.args.slot n s k (Some back) w.resume.new.pass.visits) w.in_ok-begin.ensures.count.0
+    (subst (λ (k : ℕ). CalledBack f w.args.slot n s w.begin.new.self.visits (Some back) k) (sym w.resume.ensures.visits)
+    (subst (λ (o : Option Returned). CalledBack f w.args.slot n s w.begin.new.self.visits o w.call.new.pass.visits) w.in-Some.is
+    (subst (λ (z : ℤ). CalledBack f w.args.slot z s w.begin.new.self.visits w.in_ok-callee-in-CallLocal.field-0 w.call.new.pass.visits) again
+    (w.in_ok-callee-in-CallLocal.ensures.right f s at left is (subst (λ (u : Visit). Represents u.state s) (sym w.deref-in-CallLocal.ensures) rep) (x-is ∙ ap Some w.in-CallLocal.is ∙ ap (λ (z : ℤ). Some (CallLocal z)) (sym again)) none)))))
+    (λ s gone rep out.
+    flowed_from _ (m.steps + (1 + back.bound)) (v.steps + (1 + back.bound)) w.args.pending.now w.resume.new.pending w.args.slot w.take.new.self w.take.ensures.after (ap (λ (u : Visit). u.steps + (1 + back.bound)) same) (w.resume.ensures.flowed s gone (subst (λ (u : Visit). Represents u.state s) (sym same) rep) out))
+    refl
+    (w.max-returned.ensures ∙ ap (λ (u : Visit). max w.args.returned.now.bound u.steps) w.deref-in-Some.ensures ∙ ap (λ (u : Visit). max w.args.returned.now.bound (u.steps + (1 + back.bound))) same)
+
+pub visit_slot-returns-in_default-2-clause-right : goal.visit_slot-returns-in_default-2-clause-right
+visit_slot-returns-in_default-2-clause-right c w = λ f at left is p.
+    let inside : w.args.slot < length w.args.pending.now = omega (arith, w.requires.inside, w.requires.long) in
+    let x = w.in-Some-Some in
+    let v : Visit = x.visit.value in
+    let e = pending_is w.args.pending.now w.args.slot w.take.result w.index-pending-slot.result (Some x.visit) w.take.ensures.value inside x.is-1 in
+    let x-is = insn_there f.code w.args.slots.now w.args.slot w.index-slots-slot.result at w.requires.inside w.index-slots-slot.is ∙ x.is-0 in
+    let n = w.in-CallLocal.offset in
+    let again : cast_signed w32 (cast_unsigned w32 n) ≡ n = search rules in
+    let none_back : w.in_ok-callee-in-CallLocal.field-0 ≡ None = is_none_of w.in_ok-callee-in-CallLocal.field-0 w.in_default-2.not-Some in
+    absurd (call_lands f is w.args.slot w.args.pending.now w.args.returned.now w.args.pass.now.visits p inside v e x.insn x-is (7 - w.args.left) (ap (λ (k : ℕ). 7 - k) (sym left)) w.args.pending.now w.args.returned.now w.call.new.pass.visits (finds_same w.deref.result.now v x.insn (7 - w.args.left) None w.deref.ensures w.in_ok-begin.ensures.right) n w.in-CallLocal.is
+    (λ s rep none.
+    subst (λ (k : ℕ). CalledBack f w.args.slot n s k None w.call.new.pass.visits) w.in_ok-begin.ensures.count.0
+    (subst (λ (o : Option Returned). CalledBack f w.args.slot n s w.begin.new.self.visits o w.call.new.pass.visits) none_back
+    (subst (λ (z : ℤ). CalledBack f w.args.slot z s w.begin.new.self.visits w.in_ok-callee-in-CallLocal.field-0 w.call.new.pass.visits) again
+    (w.in_ok-callee-in-CallLocal.ensures.right f s at left is (subst (λ (u : Visit). Represents u.state s) (sym w.deref-in-CallLocal.ensures) rep) (x-is ∙ ap Some w.in-CallLocal.is ∙ ap (λ (z : ℤ). Some (CallLocal z)) (sym again)) none)))))
+
+pub visit_slot-returns-in-Exit-clause-right : goal.visit_slot-returns-in-Exit-clause-right
+visit_slot-returns-in-Exit-clause-right c w = λ f at left is p.
+    let inside : w.args.slot < length w.args.pending.now = omega (arith, w.requires.inside, w.requires.long) in
+    let x = w.in-Some-Some in
+    let v : Visit = x.visit.value in
+    let e = pending_is w.args.pending.now w.args.slot w.take.result w.index-pending-slot.result (Some x.visit) w.take.ensures.value inside x.is-1 in
+    let x-is = insn_there f.code w.args.slots.now w.args.slot w.index-slots-slot.result at w.requires.inside w.index-slots-slot.is ∙ x.is-0 in
+    let m : Visit = w.deref_mut-in-Exit.result.now in
+    let same : m ≡ v = w.deref_mut-in-Exit.ensures.value in
+    let after : Returned = record { exit = Some w.joined.result; bound = w.max-returned-in-Exit.result } in
+    exit_visited f is w.args.slot w.args.pending.now w.args.returned.now w.args.pass.now.visits p inside v e x.insn x-is (7 - w.args.left) (ap (λ (k : ℕ). 7 - k) (sym left)) (set w.args.pending.now w.args.slot w.take.new.self) after w.joined.new.pass.visits (finds_same w.deref.result.now v x.insn (7 - w.args.left) None w.deref.ensures w.in_ok-begin.ensures.right) w.in-Exit.is
+    (ap (λ (z : Option (Box Visit Global)). set w.args.pending.now w.args.slot z) w.take.ensures.after)
+    (λ of rep.
+    subst (λ (o : Option (Box Visit Global)). VisitJoined (visit_in o) of (v.steps + 1) (Some w.joined.result.value)) w.take-before.ensures.value
+    (subst (λ (u : Visit). VisitJoined (visit_in w.take-before.result) of (u.steps + 1) (Some w.joined.result.value)) same
+    (w.joined.ensures.visit of (subst (λ (u : Visit). Represents u.state of) (sym same) rep))))
+    (w.joined.ensures.visits ∙ w.in_ok-begin.ensures.count.0)
+    (w.max-returned-in-Exit.ensures ∙ ap (λ (u : Visit). max w.args.returned.now.bound u.steps) w.deref-in-Exit.ensures ∙ ap (λ (u : Visit). max w.args.returned.now.bound (u.steps + 1)) same)
+
+pub visit_slot-returns-in_ok-flow-in_default-insn-clause-few : goal.visit_slot-returns-in_ok-flow-in_default-insn-clause-few
+visit_slot-returns-in_ok-flow-in_default-insn-clause-few c w = λ base few.
+    let inside : w.args.slot < length w.args.pending.now = omega (arith, w.requires.inside, w.requires.long) in
+    let x = w.in-Some-Some in
+    let v : Visit = x.visit.value in
+    let e = pending_is w.args.pending.now w.args.slot w.take.result w.index-pending-slot.result (Some x.visit) w.take.ensures.value inside x.is-1 in
+    let m : Visit = w.deref_mut-in_default-insn.result.now in
+    let same : m ≡ v = w.deref_mut-in_default-insn.ensures.value in
+    let words = m.state.initialized.words in
+    let one = w.in_ok-begin.ensures.count.0 in
+    let less = w.in_ok-begin.ensures.count.1 in
+    let visits = w.in_ok-flow-in_default-insn.ensures.visits in
+    few_visited base w.args.pass.now.visits w.flow.new.pass.visits w.args.slot w.args.pending.now w.flow.new.pending w.args.returned.now.bound w.max-returned-in_default-insn.result 1 v _ few e (omega (arith, one, visits)) (omega (arith, one, less, visits))
+    (w.max-returned-in_default-insn.ensures ∙ ap (λ (u : Visit). max w.args.returned.now.bound u.steps) w.deref-in_default-insn.ensures ∙ ap (λ (u : Visit). max w.args.returned.now.bound (u.steps + 1)) same)
+    (flowed_from _ (m.steps + 1) (v.steps + 1) w.args.pending.now w.flow.new.pending w.args.slot w.take.new.self w.take.ensures.after (ap (λ (u : Visit). u.steps + 1) same) (w.in_ok-flow-in_default-insn.ensures.flowed (λ _ _. None) (own_marks words) w.in_default-insn.not-CallLocal (own_marks_are words)))
+
+pub visit_slot-returns-in_ok-flow-in_default-insn-clause-right : goal.visit_slot-returns-in_ok-flow-in_default-insn-clause-right
+visit_slot-returns-in_ok-flow-in_default-insn-clause-right c w = λ f at left is p.
+    let inside : w.args.slot < length w.args.pending.now = omega (arith, w.requires.inside, w.requires.long) in
+    let x = w.in-Some-Some in
+    let v : Visit = x.visit.value in
+    let e = pending_is w.args.pending.now w.args.slot w.take.result w.index-pending-slot.result (Some x.visit) w.take.ensures.value inside x.is-1 in
+    let x-is = insn_there f.code w.args.slots.now w.args.slot w.index-slots-slot.result at w.requires.inside w.index-slots-slot.is ∙ x.is-0 in
+    let m : Visit = w.deref_mut-in_default-insn.result.now in
+    let same : m ≡ v = w.deref_mut-in_default-insn.ensures.value in
+    other_visited f is w.args.slot w.args.pending.now w.args.returned.now w.args.pass.now.visits p inside v e x.insn x-is (7 - w.args.left) (ap (λ (k : ℕ). 7 - k) (sym left)) w.flow.new.pending (record { exit = w.args.returned.now.exit; bound = w.max-returned-in_default-insn.result }) w.flow.new.pass.visits (finds_same w.deref.result.now v x.insn (7 - w.args.left) None w.deref.ensures w.in_ok-begin.ensures.right) w.in_default-insn.not-CallLocal w.in_default-insn.not-Exit
+    (subst (λ (u : Visit). (b : ℕ → model.AbstractState → Option model.AbstractState) (marked : ℕ → Bool) → Marks u.state.initialized.words marked → Flowed (edges b w.args.slot (state_of u.state.ranges marked) x.insn) (u.steps + 1) (taken w.args.pending.now w.args.slot) w.flow.new.pending) same
+    (λ b marked marks. flowed_from _ (m.steps + 1) (m.steps + 1) w.args.pending.now w.flow.new.pending w.args.slot w.take.new.self w.take.ensures.after refl (w.in_ok-flow-in_default-insn.ensures.flowed b marked w.in_default-insn.not-CallLocal marks)))
+    (w.in_ok-flow-in_default-insn.ensures.visits ∙ w.in_ok-begin.ensures.count.0)
+    refl
+    (w.max-returned-in_default-insn.ensures ∙ ap (λ (u : Visit). max w.args.returned.now.bound u.steps) w.deref-in_default-insn.ensures ∙ ap (λ (u : Visit). max w.args.returned.now.bound (u.steps + 1)) same)
+
+pub visit_slot-returns-in_ok-flow-in_default-insn-clause-long : goal.visit_slot-returns-in_ok-flow-in_default-insn-clause-long
+visit_slot-returns-in_ok-flow-in_default-insn-clause-long c w =
+    let m : Visit = w.deref_mut-in_default-insn.result.now in
+    let words = m.state.initialized.words in
+    length_flow _ (m.steps + 1) (set w.args.pending.now w.args.slot w.take.new.self) w.flow.new.pending (w.in_ok-flow-in_default-insn.ensures.flowed (λ _ _. None) (own_marks words) w.in_default-insn.not-CallLocal (own_marks_are words)) ∙ length-set w.args.pending.now w.args.slot w.take.new.self
+
+-- ---- sweep
+
+pub sweep-loop-slot-preserved : goal.sweep-loop-slot-preserved
+sweep-loop-slot-preserved c w =
+    let i = w.loop-slot.invariant in
+    record {
+      long = w.in_ok-visit_slot.ensures.long ∙ i.long;
+      few = w.in_ok-visit_slot.ensures.few w.args.pass.now.visits i.few;
+      sweep = λ f at left is start. w.in_ok-visit_slot.ensures.right f at left is (i.sweep f at left is start);
+    }
+
+pub sweep-returns-in_err-visit_slot-clause-refused : goal.sweep-returns-in_err-visit_slot-clause-refused
+sweep-returns-in_err-visit_slot-clause-refused c w =
+    let same : IfErr w.from_residual.result (λ (e : Refusal). e ≡ w.in_err-visit_slot.field-0.0) = search rules in
+    handed_on w.from_residual.result w.in_err-visit_slot.field-0.0 _ same
+    (elim w.in_err-visit_slot.ensures.refused [
+      | inl memory ↦ inl memory
+      | inr fails ↦ inr (λ f at left is start. fails f at left is (w.loop-slot.invariant.sweep f at left is start))
+    ])
+
+pub sweep-returns-clause-right : goal.sweep-returns-clause-right
+sweep-returns-clause-right c w = λ f at left is start.
+    let many = ap length at in
+    let end : w.loop-slot.slot ≡ length w.args.slots.now = omega (arith, w.loop-slot-test.false, w.loop-slot.auto.slot-end, w.requires.inside) in
+    followed f is w.loop-slot.slot w.loop-slot.pending w.loop-slot.returned w.loop-slot.pass.visits (w.loop-slot.invariant.sweep f at left is start) (end ∙ many)
+
+-- ---- follow
+
+pub follow-returns-clause-right : goal.follow-returns-clause-right
+follow-returns-clause-right c w =
+    if_ok w.sweep.result _ _ w.sweep.ensures.right (λ back h f at left entry base is rep.
+    h f at left is (subst (λ (l : Pending). SweepAt f w.args.entry l nothing_returned w.args.pass.now.visits) (sym w.deref_mut.ensures.value) (started f is w.in_ok-pending.pending.items w.args.slots.now w.args.visit w.args.entry w.args.pass.now.visits at entry base w.requires.inside w.in_ok-pending.ensures w.requires.steps rep)))
+
+pub follow-returns-clause-refused : goal.follow-returns-clause-refused
+follow-returns-clause-refused c w =
+    if_err w.sweep.result _ _ w.sweep.ensures.refused (λ e h.
+    elim h [
+      | inl memory ↦ inl memory
+      | inr fails ↦ inr (λ f at left entry base is rep.
+          fails f at left is (subst (λ (l : Pending). SweepAt f w.args.entry l nothing_returned w.args.pass.now.visits) (sym w.deref_mut.ensures.value) (started f is w.in_ok-pending.pending.items w.args.slots.now w.args.visit w.args.entry w.args.pass.now.visits at entry base w.requires.inside w.in_ok-pending.ensures w.requires.steps rep)))
+    ])
+
+-- ---- call
+
+pub call-returns-in_err-follow-clause-refused : goal.call-returns-in_err-follow-clause-refused
+call-returns-in_err-follow-clause-refused c w =
+    let same : IfErr w.from_residual-in_err-follow.result (λ (e : Refusal). e ≡ w.in_err-follow.field-0.0) = search rules in
+    handed_on w.from_residual-in_err-follow.result w.in_err-follow.field-0.0 _ same
+    (elim w.in_err-follow.ensures.refused [
+      | inl memory ↦ inl memory
+      | inr fails ↦ inr (λ f of at left is rep x-is none.
+          let x = w.in-Some-Some in
+          let n = w.args.offset in
+          let again : cast_signed w32 (cast_unsigned w32 n) ≡ n = search rules in
+          let leads : target_of w.args.slot n ≡ Some x.target = ap (target_of w.args.slot) (sym again) ∙ sym w.target_of.ensures ∙ x.is-0 in
+          let one = x.ensures' in
+          let deeper : f.left ≡ suc x.left = omega (arith, left, one.0, one.1) in
+          let g : Entered = callee_of f of x.target x.left w.args.pass.now.visits in
+          let depth : 7 - x.left ≡ 7 - f.left + 1 = omega (arith, deeper, left, w.requires.deep) in
+          (x.target, x.left, leads, deeper, fails g at refl refl (sym w.in_ok-callee.ensures.visits) (is_callee f is w.args.slot n of x.target x.left w.args.pass.now.visits x-is leads) (subst (λ (d : ℕ). Represents w.in_ok-callee.callee.value.state (entry_state d of)) depth (w.in_ok-callee.ensures.state of rep))))
+    ])
+
+pub call-returns-clause-right : goal.call-returns-clause-right
+call-returns-clause-right c w = λ f of at left is rep x-is none.
+    let x = w.in-Some-Some in
+    let n = w.args.offset in
+    let again : cast_signed w32 (cast_unsigned w32 n) ≡ n = search rules in
+    let leads : target_of w.args.slot n ≡ Some x.target = ap (target_of w.args.slot) (sym again) ∙ sym w.target_of.ensures ∙ x.is-0 in
+    let one = x.ensures' in
+    let deeper : f.left ≡ suc x.left = omega (arith, left, one.0, one.1) in
+    let g : Entered = callee_of f of x.target x.left w.args.pass.now.visits in
+    let depth : 7 - x.left ≡ 7 - f.left + 1 = omega (arith, deeper, left, w.requires.deep) in
+    (x.target, x.left, leads, deeper, w.in_ok-follow.ensures.right g at refl refl (sym w.in_ok-callee.ensures.visits) (is_callee f is w.args.slot n of x.target x.left w.args.pass.now.visits x-is leads) (subst (λ (d : ℕ). Represents w.in_ok-callee.callee.value.state (entry_state d of)) depth (w.in_ok-callee.ensures.state of rep)))

@@ -1,0 +1,16 @@
+use Rattle.std.proofs.Common.{◌≡◌, rules, refl, length, arith}
+use Rattle.bpf_verifier.proofs.Bits.{met_none, met_more, met_all}
+use Rattle.bpf_verifier.proofs.frame_bytes.FrameBytes.intersect.Goals as goal
+
+pub loop-word-init : goal.loop-word-init
+loop-word-init c = met_none _ _
+
+pub loop-word-preserved : goal.loop-word-preserved
+loop-word-preserved c =
+    let a : length c.loop-word.self.words ≡ 64 = search rules in
+    let b : length c.args.other.now.words ≡ 64 = search rules in
+    met_more c.loop-word.word c.loop-word.self.words c.args.self.now.words c.args.other.now.words _ _ _ c.loop-word.invariant (omega (arith, a, c.loop-word-test.true)) (omega (arith, b, c.loop-word-test.true)) refl
+
+pub returns : goal.returns
+returns c = λ i h.
+    met_all c.loop-word.self.words c.args.self.now.words c.args.other.now.words c.loop-word.word (omega (arith, c.loop-word-test.false, c.loop-word.auto.word-end)) c.loop-word.invariant i h
