@@ -8,6 +8,7 @@ use std::test::Fail;
 mod calls;
 mod helpers;
 mod instructions;
+mod procedures;
 mod rows;
 mod texts;
 mod worlds;
@@ -57,6 +58,20 @@ fn run_rows<R: Abort + AllocGlobal>(rt: &R, rows: &str) -> Result<(), Fail> {
         let wanted = output.replace(rt.alloc(), "/", "\n")?;
         let status = status.parse::<u8>()?;
         assert!(rt; ends_so(rt, &words, input, status, &wanted)?, "{row}");
+    }
+    Ok(())
+}
+
+/// Runs each row of a table of procedures, whose input is a procedure's name, and compares status and
+/// output.
+fn run_procedures<R: Abort + AllocGlobal>(rt: &R, rows: &str) -> Result<(), Fail> {
+    for row in rows.lines() {
+        let (words, name, status, output) = fields_of(row).ok_or("a field is missing")?;
+        let words = words_of(rt.alloc(), words)?;
+        let code = procedures::code_of(name).ok_or("no such procedure")?;
+        let wanted = output.replace(rt.alloc(), "/", "\n")?;
+        let status = status.parse::<u8>()?;
+        assert!(rt; ends_so(rt, &words, code, status, &wanted)?, "{row}");
     }
     Ok(())
 }
@@ -112,6 +127,11 @@ fn results_of_every_instruction(rt: HostRuntime) -> Result<(), Fail> {
 #[test]
 fn results_of_local_calls(rt: HostRuntime) -> Result<(), Fail> {
     run_rows(&rt, calls::CALLS)
+}
+
+#[test]
+fn runs_of_the_procedures(rt: HostRuntime) -> Result<(), Fail> {
+    run_procedures(&rt, procedures::RUNS)
 }
 
 /// The code of seven functions that each call the next one twice, the last of them one of straight code.
