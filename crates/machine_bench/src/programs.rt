@@ -186,7 +186,66 @@ pub fn joins(alloc: Global, name: &'static str, count: u32) -> Result<Program, A
     ended_program(name, code)
 }
 
-/// All programs that are measured. The last is a call of two instructions.
+/// Local calls of a function of three instructions, which stands behind the exit.
+fn local_calls(alloc: Global, count: i32) -> Result<Program, AllocError> {
+    let mut code = Vec::new(alloc);
+    code.extend_from_slice(&slot(0xb7, 0, 0, 0, 7))?;
+    for index in 0..count {
+        let offset = count.wrapping_sub(index).wrapping_mul(2).wrapping_sub(1);
+        code.extend_from_slice(&slot(0xbf, 1, 0, 0, 0))?;
+        code.extend_from_slice(&slot(0x85, 0, 1, 0, offset))?;
+    }
+    code.extend_from_slice(&slot(0x95, 0, 0, 0, 0))?;
+    code.extend_from_slice(&slot(0xbf, 0, 1, 0, 0))?;
+    code.extend_from_slice(&slot(0x07, 0, 0, 0, 1))?;
+    ended_program("local_calls", code)
+}
+
+/// Calls of the helper of a number, each with another key at r1, and with a value at r2. The last eight
+/// bytes of a key are one of these words, its first ones are 0.
+pub fn helper_calls(
+    alloc: Global,
+    name: &'static str,
+    helper: i32,
+    words: &[i32],
+) -> Result<Program, AllocError> {
+    let mut code = Vec::new(alloc);
+    for (register, offset) in [(6, -16), (7, -48)] {
+        code.extend_from_slice(&slot(0xbf, register, 10, 0, 0))?;
+        code.extend_from_slice(&slot(0x07, register, 0, 0, offset))?;
+    }
+    for offset in [-16i16, -48, -40, -32, -24] {
+        code.extend_from_slice(&slot(0x7a, 10, 0, offset, 0))?;
+    }
+    for word in words {
+        code.extend_from_slice(&slot(0x7a, 10, 0, -8, *word))?;
+        code.extend_from_slice(&slot(0xbf, 1, 6, 0, 0))?;
+        code.extend_from_slice(&slot(0xbf, 2, 7, 0, 0))?;
+        code.extend_from_slice(&slot(0x85, 0, 0, 0, helper))?;
+    }
+    ended_program(name, code)
+}
+
+/// Straight code of so many slots, at least 9.
+pub fn straight(alloc: Global, slots: u32) -> Result<Program, AllocError> {
+    same_operation(alloc, slots.wrapping_sub(9))
+}
+
+/// Seven functions that each call the next one twice, the last of them one of so many moves.
+pub fn two_calls_each(alloc: Global, moves: u32) -> Result<Program, AllocError> {
+    let mut code = Vec::new(alloc);
+    for _ in 0..7 {
+        code.extend_from_slice(&slot(0x85, 0, 1, 0, 2))?;
+        code.extend_from_slice(&slot(0x85, 0, 1, 0, 1))?;
+        code.extend_from_slice(&slot(0x95, 0, 0, 0, 0))?;
+    }
+    for _ in 0..moves {
+        code.extend_from_slice(&slot(0xb7, 0, 0, 0, 0))?;
+    }
+    ended_program("two_calls_each", code)
+}
+
+/// All programs that are measured against the C interpreter. The last is a call of two instructions.
 pub fn all(alloc: Global) -> Result<Vec<Program>, AllocError> {
     let mut programs = Vec::new(alloc);
     programs.push(same_operation(alloc, 1000)?)?;
@@ -194,6 +253,7 @@ pub fn all(alloc: Global) -> Result<Vec<Program>, AllocError> {
     programs.push(mixed(alloc, "mixed_1000", 1000)?)?;
     programs.push(accesses(alloc, 990)?)?;
     programs.push(tests(alloc, "tests", 500)?)?;
+    programs.push(local_calls(alloc, 200)?)?;
     let mut code = Vec::new(alloc);
     code.extend_from_slice(&slot(0xb7, 0, 0, 0, 7))?;
     programs.push(ended_program("call", code)?)?;

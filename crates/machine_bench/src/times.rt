@@ -1,21 +1,27 @@
 //! Runs of the programs, and their times.
 
-use crate::programs::{Program, all, joins, tests};
+use crate::programs::{Program, all, joins, straight, tests, two_calls_each};
 use anyhow::{Result, anyhow};
 use bpf_machine::{Finished, run};
-use bpf_verifier::{Procedure, verify};
+use bpf_verifier::{Procedure, VerifyFault, verify};
 use host_types::ClientId;
 use std::time::Instant;
 use tenant_maps::TenantMap;
 
 /// The rounds of which the least counts.
-const ROUNDS: u32 = 20;
+pub const ROUNDS: u32 = 20;
 
 /// What the verifier may take for a slot, in picoseconds.
 const SLOT: u128 = 40_000;
 
 /// What a slot of 1,024 may take, in thousandths of one of 256.
 const LINEAR: u128 = 1300;
+
+/// How many visits the verifier makes before it gives up.
+const VISITS: u128 = 65_536;
+
+/// What a visit of code with calls may take, in visits of straight code.
+const VISIT: u128 = 100;
 
 /// The 48 argument bytes 0, 1, 2, ..
 fn arguments() -> [u8; 48] {
@@ -28,7 +34,8 @@ fn arguments() -> [u8; 48] {
     bytes
 }
 
-fn verified(rt: &HostRuntime, program: &Program) -> Result<Procedure> {
+/// The procedure that a program is.
+pub fn verified(rt: &HostRuntime, program: &Program) -> Result<Procedure> {
     match verify(rt.alloc(), &program.code) {
         Ok(procedure) => Ok(procedure),
         Err(_) => Err(anyhow!("the program is not accepted")),
@@ -36,7 +43,7 @@ fn verified(rt: &HostRuntime, program: &Program) -> Result<Procedure> {
 }
 
 /// One run.
-fn finished(procedure: &Procedure, map: &mut TenantMap) -> Result<Finished> {
+pub fn finished(procedure: &Procedure, map: &mut TenantMap) -> Result<Finished> {
     Ok(run(procedure, &arguments(), ClientId(16), map)?)
 }
 
@@ -117,15 +124,42 @@ fn keeps_limits(rt: &HostRuntime, name: &str, short: &Program, long: &Program) -
     Ok(long <= SLOT && long.saturating_mul(1000) <= short.saturating_mul(LINEAR))
 }
 
-/// Prints what the verifier takes for a slot of tests that it decides, and of tests whose edges join; an
-/// error where it is too much.
+/// The least time of refusing code after the last visit, for each visit, in picoseconds.
+fn picoseconds_of_visit(rt: &HostRuntime, program: &Program) -> Result<u128> {
+    let mut least = u128::MAX;
+    for _ in 0..ROUNDS {
+        let start = Instant::now(rt)?;
+        let verdict = verify(rt.alloc(), &program.code);
+        least = least.min(start.elapsed(rt)?.as_nanos());
+        match verdict {
+            Err(refusal) if refusal.fault == VerifyFault::TooComplex => (),
+            _ => return Err(anyhow!("the program is not refused as too complex")),
+        }
+    }
+    Ok(least.saturating_mul(1000) / VISITS)
+}
+
+/// Prints what the verifier takes for a visit, of 65,536 in code with calls and of one a slot in straight
+/// code. Whether the limit is kept.
+fn keeps_visits(rt: &HostRuntime) -> Result<bool> {
+    let visit = picoseconds_of_visit(rt, &two_calls_each(rt.alloc(), 509)?)?;
+    let slot = picoseconds_of_slot(rt, &straight(rt.alloc(), 1024)?)?;
+    println!(rt;
+        "verify, calls: {visit} ps a visit of 65,536, straight code {slot} ps a slot of 1,024, limit {VISIT} times"
+    )?;
+    Ok(visit <= slot.saturating_mul(VISIT))
+}
+
+/// Prints what the verifier takes for a slot of tests that it decides, and of tests whose edges join, and
+/// for a visit of code with calls; an error where it is too much.
 pub fn print_verification(rt: &HostRuntime) -> Result<()> {
     let alloc = rt.alloc();
     let (short, long) = (tests(alloc, "short", 123)?, tests(alloc, "long", 507)?);
     let decided = keeps_limits(rt, "decided tests", &short, &long)?;
     let (short, long) = (joins(alloc, "short", 123)?, joins(alloc, "long", 507)?);
     let joined = keeps_limits(rt, "tests with joins", &short, &long)?;
-    if decided && joined {
+    let visits = keeps_visits(rt)?;
+    if decided && joined && visits {
         Ok(())
     } else {
         Err(anyhow!("a limit is passed"))
