@@ -1,136 +1,126 @@
 //! What a call of a helper costs over the map's own operation.
 
 use crate::programs::helper_calls;
-use crate::times::{ROUNDS, finished, verified};
+use crate::times::{finished, verified};
 use anyhow::{Result, anyhow};
 use bpf_verifier::Procedure;
 use std::alloc::{AllocError, Global};
 use std::time::Instant;
 use tenant_maps::{MapPort, TenantMap};
 
-/// The helpers' words.
+/// The number of the helper `get`.
 const GET: i32 = 1;
 
+/// The number of the helper `put`.
 const PUT: i32 = 2;
 
 /// The entries of the map.
-const ENTRIES: i32 = 4096;
+const ENTRIES: u64 = 4096;
+
+/// How far a key lies behind the one before it.
+const STRIDE: u64 = 1009;
 
 /// The calls of a program.
-const CALLS: i32 = 250;
+const CALLS: u32 = 150;
 
-/// How often a program is run in a round.
-const RUNS: u32 = 50;
+/// The rounds of which the least counts.
+const ROUNDS: u32 = 100;
+
+/// How often a program is run in a round, each time from another key on.
+const RUNS: u32 = 40;
 
 /// What a call may take, in thousandths of what the map's own operation takes.
 const LIMIT: u128 = 1500;
 
-/// The word of an entry's key: those of neighbours lie far apart.
-fn word_of(index: i32) -> i32 {
-    index.wrapping_mul(524_287) & 0x7fff_ffff
+/// The key of a number, as the programs make it.
+fn key_of(number: u64) -> [u8; 16] {
+    let mut key = [0; 16];
+    key[8..].copy_from_slice(&(number % ENTRIES).to_le_bytes());
+    key
 }
 
-/// The key of a word, as the programs make it.
-fn key_of(word: i32) -> [u8; 16] {
-    let mut key = [0; 16];
-    key[8..].copy_from_slice(&i64::from(word).to_le_bytes());
-    key
+/// The number of the first key of a run.
+fn first_of(run: u32) -> u64 {
+    u64::from(run.wrapping_mul(2_654_435_761))
 }
 
 fn full_map(alloc: Global) -> Result<TenantMap, AllocError> {
     let mut map = TenantMap::new(alloc);
-    for index in 0..ENTRIES {
-        map.put(key_of(word_of(index)), [7; 32])?;
+    for number in 0..ENTRIES {
+        map.put(key_of(number), [7; 32])?;
     }
     Ok(map)
 }
 
-/// The words of the keys that the calls are given.
-fn reached_words(alloc: Global) -> Result<Vec<i32>, AllocError> {
-    let mut words = Vec::new(alloc);
-    for call in 0..CALLS {
-        words.push(word_of(call.wrapping_mul(1009) & 4095))?;
+/// The nanoseconds of a round of calls of a helper.
+fn round_of_calls(rt: &HostRuntime, procedure: &Procedure, map: &mut TenantMap) -> Result<u128> {
+    let start = Instant::now(rt)?;
+    for run in 0..RUNS {
+        let mut args = [0; 48];
+        args[..8].copy_from_slice(&first_of(run).to_le_bytes());
+        finished(procedure, &args, map)?;
     }
-    Ok(words)
+    Ok(start.elapsed(rt)?.as_nanos())
 }
 
-/// The picoseconds of an operation, given the nanoseconds of a round.
-fn each_of(round: u128) -> u128 {
-    round.saturating_mul(1000) / u128::from(RUNS) / CALLS.unsigned_abs().max(1) as u128
-}
-
-/// The least time of a call of a helper, in picoseconds.
-fn time_of_call(rt: &HostRuntime, procedure: &Procedure, map: &mut TenantMap) -> Result<u128> {
-    let mut least = u128::MAX;
-    for _ in 0..ROUNDS {
-        let start = Instant::now(rt)?;
-        for _ in 0..RUNS {
-            finished(procedure, map)?;
-        }
-        least = least.min(start.elapsed(rt)?.as_nanos());
-    }
-    Ok(each_of(least))
-}
-
-/// The least time of the map's own `get` in picoseconds, and the value that it found last.
-fn time_of_get(rt: &HostRuntime, keys: &[[u8; 16]], map: &TenantMap) -> Result<(u128, [u8; 32])> {
-    let mut least = u128::MAX;
-    let mut found = [0; 32];
-    for _ in 0..ROUNDS {
-        let start = Instant::now(rt)?;
-        for _ in 0..RUNS {
-            for key in keys {
-                if let Some(value) = map.get(key) {
-                    found = value;
-                }
+/// The nanoseconds of a round of the map's own `get`; gives the value that it found last.
+fn round_of_gets(rt: &HostRuntime, map: &TenantMap, found: &mut [u8; 32]) -> Result<u128> {
+    let start = Instant::now(rt)?;
+    for run in 0..RUNS {
+        let mut number = first_of(run);
+        for _ in 0..CALLS {
+            if let Some(value) = map.get(&key_of(number)) {
+                *found = value;
             }
+            number = number.wrapping_add(STRIDE);
         }
-        least = least.min(start.elapsed(rt)?.as_nanos());
     }
-    Ok((each_of(least), found))
+    Ok(start.elapsed(rt)?.as_nanos())
 }
 
-/// The least time of the map's own `put`, in picoseconds.
-fn time_of_put(rt: &HostRuntime, keys: &[[u8; 16]], map: &mut TenantMap) -> Result<u128> {
-    let mut least = u128::MAX;
-    for _ in 0..ROUNDS {
-        let start = Instant::now(rt)?;
-        for _ in 0..RUNS {
-            for key in keys {
-                map.put(*key, [0; 32])?;
-            }
+/// The nanoseconds of a round of the map's own `put`.
+fn round_of_puts(rt: &HostRuntime, map: &mut TenantMap) -> Result<u128> {
+    let start = Instant::now(rt)?;
+    for run in 0..RUNS {
+        let mut number = first_of(run);
+        for _ in 0..CALLS {
+            map.put(key_of(number), [0; 32])?;
+            number = number.wrapping_add(STRIDE);
         }
-        least = least.min(start.elapsed(rt)?.as_nanos());
     }
-    Ok(each_of(least))
+    Ok(start.elapsed(rt)?.as_nanos())
 }
 
-/// Prints what a call costs and what the map's own operation does. Whether the limit is kept.
+/// Prints what a call costs and what the map's own operation does, given the least round of each.
+/// Whether the limit is kept.
 fn keeps_limit(rt: &HostRuntime, name: &str, call: u128, own: u128) -> Result<bool> {
+    let operations = u128::from(RUNS.saturating_mul(CALLS).max(1));
+    let call = call.saturating_mul(1000) / operations;
+    let own = own.saturating_mul(1000) / operations;
     println!(rt;
         "{name}, 4,096 entries: {call} ps a call, the map's own {own} ps, limit {LIMIT} thousandths"
     )?;
     Ok(call.saturating_mul(1000) <= own.saturating_mul(LIMIT))
 }
 
-/// Prints what calls of `get` and `put` cost over the map's own; an error where it is too much.
+/// Prints what calls of `get` and `put` cost over the map's own, in turn with them; an error where it is
+/// too much. The keys change from run to run, so that neither side learns the way to one.
 pub fn print_costs(rt: &HostRuntime) -> Result<()> {
     let alloc = rt.alloc();
-    let words = reached_words(alloc)?;
-    let keys = words
-        .iter()
-        .map(|word| key_of(*word))
-        .collect::<Vec<_>>(alloc)?;
     let mut map = full_map(alloc)?;
-    let gets = verified(rt, &helper_calls(alloc, "gets", GET, &words)?)?;
-    let puts = verified(rt, &helper_calls(alloc, "puts", PUT, &words)?)?;
-    let call = time_of_call(rt, &gets, &mut map)?;
-    let (own, found) = time_of_get(rt, &keys, &map)?;
-    println!(rt; "get finds {}", hex::encode(alloc, &found)?)?;
-    let get = keeps_limit(rt, "get", call, own)?;
-    let call = time_of_call(rt, &puts, &mut map)?;
-    let own = time_of_put(rt, &keys, &mut map)?;
-    let put = keeps_limit(rt, "put", call, own)?;
+    let gets = verified(rt, &helper_calls(alloc, "gets", GET, CALLS)?)?;
+    let puts = verified(rt, &helper_calls(alloc, "puts", PUT, CALLS)?)?;
+    let mut least = [u128::MAX; 4];
+    let mut found = [0; 32];
+    for _ in 0..ROUNDS {
+        least[0] = least[0].min(round_of_calls(rt, &gets, &mut map)?);
+        least[1] = least[1].min(round_of_gets(rt, &map, &mut found)?);
+        least[2] = least[2].min(round_of_calls(rt, &puts, &mut map)?);
+        least[3] = least[3].min(round_of_puts(rt, &mut map)?);
+    }
+    println!(rt; "the value found last: {}", hex::encode(alloc, &found)?)?;
+    let get = keeps_limit(rt, "get", least[0], least[1])?;
+    let put = keeps_limit(rt, "put", least[2], least[3])?;
     if get && put {
         Ok(())
     } else {

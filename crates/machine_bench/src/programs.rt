@@ -202,14 +202,16 @@ fn local_calls(alloc: Global, count: i32) -> Result<Program, AllocError> {
 }
 
 /// Calls of the helper of a number, each with another key at r1, and with a value at r2. The last eight
-/// bytes of a key are one of these words, its first ones are 0.
+/// bytes of the first key are the first eight argument bytes modulo 4,096, those of the next key 1,009
+/// more, and so on; a key's first bytes are 0.
 pub fn helper_calls(
     alloc: Global,
     name: &'static str,
     helper: i32,
-    words: &[i32],
+    count: u32,
 ) -> Result<Program, AllocError> {
     let mut code = Vec::new(alloc);
+    code.extend_from_slice(&slot(0x79, 8, 1, 0, 0))?;
     for (register, offset) in [(6, -16), (7, -48)] {
         code.extend_from_slice(&slot(0xbf, register, 10, 0, 0))?;
         code.extend_from_slice(&slot(0x07, register, 0, 0, offset))?;
@@ -217,11 +219,13 @@ pub fn helper_calls(
     for offset in [-16i16, -48, -40, -32, -24] {
         code.extend_from_slice(&slot(0x7a, 10, 0, offset, 0))?;
     }
-    for word in words {
-        code.extend_from_slice(&slot(0x7a, 10, 0, -8, *word))?;
+    for _ in 0..count {
+        code.extend_from_slice(&slot(0x57, 8, 0, 0, 4095))?;
+        code.extend_from_slice(&slot(0x7b, 10, 8, -8, 0))?;
         code.extend_from_slice(&slot(0xbf, 1, 6, 0, 0))?;
         code.extend_from_slice(&slot(0xbf, 2, 7, 0, 0))?;
         code.extend_from_slice(&slot(0x85, 0, 0, 0, helper))?;
+        code.extend_from_slice(&slot(0x07, 8, 0, 0, 1009))?;
     }
     ended_program(name, code)
 }

@@ -2,14 +2,14 @@
 
 use crate::programs::{Program, all, joins, straight, tests, two_calls_each};
 use anyhow::{Result, anyhow};
-use bpf_machine::{Finished, run};
+use bpf_machine::run;
 use bpf_verifier::{Procedure, VerifyFault, verify};
 use host_types::ClientId;
 use std::time::Instant;
 use tenant_maps::TenantMap;
 
 /// The rounds of which the least counts.
-pub const ROUNDS: u32 = 20;
+const ROUNDS: u32 = 20;
 
 /// What the verifier may take for a slot, in picoseconds.
 const SLOT: u128 = 40_000;
@@ -42,9 +42,10 @@ pub fn verified(rt: &HostRuntime, program: &Program) -> Result<Procedure> {
     }
 }
 
-/// One run.
-pub fn finished(procedure: &Procedure, map: &mut TenantMap) -> Result<Finished> {
-    Ok(run(procedure, &arguments(), ClientId(16), map)?)
+/// What one run returns, and its steps. The output stays behind, so that it isn't copied once more.
+pub fn finished(procedure: &Procedure, args: &[u8; 48], map: &mut TenantMap) -> Result<(u64, u32)> {
+    let end = run(procedure, args, ClientId(16), map)?;
+    Ok((end.result, end.steps))
 }
 
 /// Prints the steps and the result of each program.
@@ -52,11 +53,8 @@ pub fn print_results(rt: &HostRuntime) -> Result<()> {
     for program in &all(rt.alloc())? {
         let procedure = verified(rt, program)?;
         let mut map = TenantMap::new(rt.alloc());
-        let end = finished(&procedure, &mut map)?;
-        println!(rt;
-            "{}: {} steps, result {}",
-            program.name, end.steps, end.result
-        )?;
+        let (result, steps) = finished(&procedure, &arguments(), &mut map)?;
+        println!(rt; "{}: {steps} steps, result {result}", program.name)?;
     }
     Ok(())
 }
@@ -66,11 +64,10 @@ pub fn print_programs(rt: &HostRuntime) -> Result<()> {
     for program in &all(rt.alloc())? {
         let procedure = verified(rt, program)?;
         let mut map = TenantMap::new(rt.alloc());
-        let end = finished(&procedure, &mut map)?;
+        let (_, steps) = finished(&procedure, &arguments(), &mut map)?;
         println!(rt;
-            "{} {} {}",
+            "{} {steps} {}",
             program.name,
-            end.steps,
             hex::encode(rt.alloc(), &program.code)?
         )?;
     }
@@ -82,14 +79,14 @@ pub fn print_times(rt: &HostRuntime) -> Result<()> {
     for program in &all(rt.alloc())? {
         let procedure = verified(rt, program)?;
         let mut map = TenantMap::new(rt.alloc());
-        let end = finished(&procedure, &mut map)?;
-        let runs = 1_000_000 / end.steps.saturating_add(20).max(1);
+        let (_, steps) = finished(&procedure, &arguments(), &mut map)?;
+        let runs = 1_000_000 / steps.saturating_add(20).max(1);
         let mut least = u128::MAX;
         let mut result = 0;
         for _ in 0..ROUNDS {
             let start = Instant::now(rt)?;
             for _ in 0..runs {
-                result = finished(&procedure, &mut map)?.result;
+                result = finished(&procedure, &arguments(), &mut map)?.0;
             }
             least = least.min(start.elapsed(rt)?.as_nanos());
         }
