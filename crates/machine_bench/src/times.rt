@@ -79,14 +79,15 @@ pub fn print_times(rt: &HostRuntime) -> Result<()> {
     for program in &all(rt.alloc())? {
         let procedure = verified(rt, program)?;
         let mut map = TenantMap::new(rt.alloc());
-        let (_, steps) = finished(&procedure, &arguments(), &mut map)?;
+        let args = arguments();
+        let (_, steps) = finished(&procedure, &args, &mut map)?;
         let runs = 1_000_000 / steps.saturating_add(20).max(1);
         let mut least = u128::MAX;
         let mut result = 0;
         for _ in 0..ROUNDS {
             let start = Instant::now(rt)?;
             for _ in 0..runs {
-                result = finished(&procedure, &arguments(), &mut map)?.0;
+                result = finished(&procedure, &args, &mut map)?.0;
             }
             least = least.min(start.elapsed(rt)?.as_nanos());
         }
