@@ -1,0 +1,30 @@
+//! Tests of one replica by its public calls alone: what it answers to each message, row by row; and of
+//! four replicas beside one another.
+#![tactic(auto)]
+
+#[cfg(test)]
+mod halts;
+#[cfg(test)]
+mod life;
+#[cfg(test)]
+mod messages;
+#[cfg(test)]
+mod net;
+#[cfg(test)]
+mod node;
+#[cfg(test)]
+mod normal;
+#[cfg(test)]
+mod order;
+#[cfg(test)]
+mod scene;
+#[cfg(test)]
+mod script;
+#[cfg(test)]
+mod signing;
+#[cfg(test)]
+mod states;
+#[cfg(test)]
+mod views;
+#[cfg(test)]
+mod words;

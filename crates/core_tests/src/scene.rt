@@ -1,0 +1,310 @@
+//! One replica, and those around it, who say whatever a test has them say.
+
+use crate::node::Node;
+use crate::signing::checked;
+use crate::words::Words;
+use host_types::{Bytes, ClientEntry, ClientId, Config, ReplicaId, Request, TenantId};
+use lms_tree::{Height, Signer};
+use pbft_codec::{Body, RequestBody, Role};
+use replica_core::{Halt, Input, Output, Row};
+use seal::{Checked, open, request_digest};
+use service_core::State;
+use std::alloc::Global;
+use std::sync::Arc;
+use std::test::Fail;
+use view_change::null_digest;
+
+/// The one client.
+pub const CLIENT: u32 = 16;
+
+/// The client's requests: name and time. The operation is none that the service knows, so that the
+/// result is the one byte 1.
+static REQUESTS: [(&str, u64); 7] = [
+    ("a", 1),
+    ("b", 2),
+    ("c", 3),
+    ("d", 4),
+    ("e", 5),
+    ("f", 6),
+    ("g", 7),
+];
+
+/// States by the times of the requests that were executed before them, 0 for a null request.
+static SERVED: [(&str, &[u64]); 7] = [
+    ("s0", &[]),
+    ("s2", &[0, 0]),
+    ("s3", &[0, 0, 0]),
+    ("s4", &[0, 0, 0, 0]),
+    ("after-a", &[1]),
+    ("after-b", &[2]),
+    ("after-ab", &[1, 2]),
+];
+
+/// The replica under test, the signers of all replicas, the client's requests, and the names of
+/// digests. The fault bound is 1, and a checkpoint is at each second number.
+#[derive(Drop)]
+pub struct Scene {
+    pub alloc: Global,
+    config: Arc<Config>,
+    id: u8,
+    node: Option<Node>,
+    pub signers: Vec<Signer>,
+    requests: Vec<(&'static str, Checked)>,
+    pub words: Words,
+    left: u32,
+    last: Option<Row>,
+}
+
+/// The signer of this id; ids 0 to 3 are replicas.
+pub fn key(alloc: Global, secret: u8, id: u8) -> Result<Signer, Fail> {
+    Ok(Signer::from_seed(alloc, Height::H5, [id; 16], [secret; 32])?)
+}
+
+/// The configuration of these replicas and this client.
+pub fn config_of(alloc: Global, signers: &[Signer], client: &Signer) -> Result<Arc<Config>, Fail> {
+    let mut keys = Vec::new(alloc);
+    for signer in signers {
+        keys.push(signer.public_key())?;
+    }
+    let mut clients = Vec::new(alloc);
+    clients.push(ClientEntry {
+        id: ClientId(CLIENT),
+        tenant: TenantId(1),
+        key: client.public_key(),
+    })?;
+    Ok(Arc::new(alloc, Config::new(1, 2, keys, clients)?)?)
+}
+
+// Takes one more request.
+fn apply(state: &mut State, request: Option<&Request>) -> Result<(), Fail> {
+    if state.number().0 > 1000 {
+        return Err(Fail::new("too many requests"));
+    }
+    let Some(taken) = request else {
+        state.apply(None)?;
+        return Ok(());
+    };
+    if !state.is_listed(taken.client) {
+        return Err(Fail::new("no such client"));
+    }
+    state.apply(Some(taken))?;
+    Ok(())
+}
+
+impl Scene {
+    /// Those around a replica, which `begin` gives.
+    pub fn new(alloc: Global) -> Result<Scene, Fail> {
+        let mut signers = Vec::new(alloc);
+        for index in 0..4u8 {
+            signers.push(key(alloc, 7, index)?)?;
+        }
+        let client = key(alloc, 7, 9)?;
+        let config = config_of(alloc, &signers, &client)?;
+        let mut scene = Scene {
+            alloc,
+            config,
+            id: 0,
+            node: None,
+            signers,
+            requests: Vec::new(alloc),
+            words: Words::new(alloc),
+            left: 0,
+            last: None,
+        };
+        scene.add_names(client)?;
+        Ok(scene)
+    }
+
+    /// Replica `id` before its first message, whose signer has so many leaves left.
+    pub fn begin(&mut self, id: u8, left: u32) -> Result<(), Fail> {
+        let mut own = key(self.alloc, 7, id)?;
+        for _ in left..own.leaves_left() {
+            own.sign(&[])?;
+        }
+        let node = Node::new(self.alloc, &self.config, ReplicaId(id), own)?;
+        self.left = node.replica().leaves_left();
+        self.id = id;
+        self.node = Some(node);
+        self.last = None;
+        Ok(())
+    }
+
+    fn node(&mut self) -> Result<&mut Node, Fail> {
+        match &mut self.node {
+            Some(node) => Ok(node),
+            None => Err(Fail::new("no replica")),
+        }
+    }
+
+    // The null request, the client's requests, and states.
+    fn add_names(&mut self, mut client: Signer) -> Result<(), Fail> {
+        self.words.add("null", null_digest(), &[])?;
+        for (name, time) in &REQUESTS {
+            self.add_request(name, *time, &mut client)?;
+        }
+        for (name, times) in &SERVED {
+            let state = self.state_after(times)?;
+            self.words.add(name, state.digest(), &state.to_bytes()?)?;
+        }
+        self.add_late_state()
+    }
+
+    // The first state's bytes, with the last number but one in place of 0: behind the version.
+    fn add_late_state(&mut self) -> Result<(), Fail> {
+        let first = self.words.state("s0")?;
+        let (_, rest) = first.as_slice().split_at(first.as_slice().len().min(9));
+        let mut bytes = Vec::from_slice(self.alloc, &[1])?;
+        bytes.extend_from_slice(&((1u64 << 48) - 2).to_be_bytes())?;
+        bytes.extend_from_slice(rest)?;
+        let config = Arc::try_clone(&self.config)?;
+        let state = State::from_bytes(self.alloc, config, &bytes)?;
+        self.words.add("late", state.digest(), &bytes)?;
+        Ok(())
+    }
+
+    // The state after requests at these times, 0 for a null request.
+    fn state_after(&self, times: &[u64]) -> Result<State, Fail> {
+        let mut state = State::genesis(self.alloc, Arc::try_clone(&self.config)?)?;
+        for time in times {
+            let request = Request {
+                client: ClientId(CLIENT),
+                time: *time,
+                op: Bytes::from_vec(Vec::new(self.alloc)),
+            };
+            let is_null = *time == 0;
+            apply(&mut state, if is_null { None } else { Some(&request) })?;
+        }
+        Ok(state)
+    }
+
+    fn add_request(
+        &mut self,
+        name: &'static str,
+        time: u64,
+        client: &mut Signer,
+    ) -> Result<(), Fail> {
+        let body = Body::Request(RequestBody {
+            time,
+            op: Bytes::from_vec(Vec::new(self.alloc)),
+        });
+        let message = checked(self.alloc, &self.config, client, Role::Client, CLIENT, body)?;
+        self.words.add(name, request_digest(&message), &[])?;
+        self.requests.push((name, message))?;
+        Ok(())
+    }
+
+    // ---- what others say
+
+    /// The client's request of this name.
+    pub fn request(&self, name: &str) -> Result<Checked, Fail> {
+        match self.requests.iter().find(|request| request.0 == name) {
+            Some(request) => Ok(request.1.copy()?),
+            None => Err(Fail::new("no such request")),
+        }
+    }
+
+    /// A replica's message.
+    pub fn say(&mut self, id: u8, body: Body) -> Result<Checked, Fail> {
+        let Some(signer) = self.signers.get_mut(usize::from(id)) else {
+            return Err(Fail::new("no such signer"));
+        };
+        let id = u32::from(id);
+        checked(self.alloc, &self.config, signer, Role::Replica, id, body)
+    }
+
+    // ---- what the replica does
+
+    /// What it does for a message, in words; or why it stops.
+    pub fn take(&mut self, message: &Checked) -> Result<String, Fail> {
+        let answer = self.node()?.take(message.bytes())?;
+        if let Ok(row) = &answer {
+            if !matches!(row.input(), Input::Message(taken) if taken.bytes() == message.bytes()) {
+                return Err(Fail::new("another input"));
+            }
+        }
+        self.in_words(answer)
+    }
+
+    /// What it does for a timeout.
+    pub fn timeout(&mut self) -> Result<String, Fail> {
+        let answer = self.node()?.timeout();
+        if let Ok(row) = &answer {
+            if !matches!(row.input(), Input::Timeout) {
+                return Err(Fail::new("another input"));
+            }
+        }
+        self.in_words(answer)
+    }
+
+    // Checks the outputs and the leaves of a row.
+    fn in_words(&mut self, answer: Result<Row, Halt>) -> Result<String, Fail> {
+        let row = match answer {
+            Ok(row) => row,
+            Err(halt) => return Ok(format!(in self.alloc; "halts: {halt}")?),
+        };
+        for output in row.outputs() {
+            self.check_output(output)?;
+        }
+        let left = self.node()?.replica().leaves_left();
+        if left.checked_add(row.leaves()) != Some(self.left) {
+            return Err(Fail::new("other leaves were taken"));
+        }
+        self.left = left;
+        let text = self.words.row(&row)?;
+        self.last = Some(row);
+        Ok(text)
+    }
+
+    // An output is signed, and by the replica itself if it is its own.
+    fn check_output(&self, output: &Output) -> Result<(), Fail> {
+        let opened = open(self.alloc, &self.config, output.message.bytes())?;
+        let is_own = opened.signer() == (Role::Replica, u32::from(self.id));
+        if is_own == output.own {
+            Ok(())
+        } else {
+            Err(Fail::new("another has signed"))
+        }
+    }
+
+    /// What it does for the messages of its last row, which come back to it: the last of these rows that
+    /// is not empty.
+    pub fn echo(&mut self) -> Result<String, Fail> {
+        let row = match &self.last {
+            Some(row) => row.copy()?,
+            None => return Err(Fail::new("no row")),
+        };
+        let mut text = format!(in self.alloc; "leaves 0")?;
+        for output in row.outputs() {
+            let said = self.take(&output.message)?;
+            if said.as_str() != "leaves 0" {
+                text = said;
+            }
+        }
+        Ok(text)
+    }
+
+    /// Where it stands, how many leaves it has left, and its state.
+    pub fn stands(&self) -> Result<String, Fail> {
+        let Some(node) = &self.node else {
+            return Err(Fail::new("no replica"));
+        };
+        let status = node.replica().status();
+        let (view, low, executed) = (status.view.0, status.low.0, status.executed.0);
+        let active = if status.active { "active" } else { "changing" };
+        let left = node.replica().leaves_left();
+        let mut text = format!(in self.alloc;
+            "view {view} {active} low {low} executed {executed} left {left}"
+        )?;
+        if let Some(halt) = status.halted {
+            text.push_str(&format!(in self.alloc; " halted {halt}")?)?;
+        }
+        match node.replica().state() {
+            Some(state) => {
+                let name = self.words.of(&state.digest());
+                text.push_str(&format!(in self.alloc; " state {name}")?)?;
+            }
+            None => text.push_str(" no state")?,
+        }
+        Ok(text)
+    }
+}
