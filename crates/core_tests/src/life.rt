@@ -37,7 +37,7 @@ fn execute_alike(rt: &impl Abort, net: &mut Net) -> Result<(), Fail> {
     assert_eq!(rt; net.done.len(), 4);
     assert!(rt; net.has_one_state());
 
-    // The same again: the kept replies, and nothing else.
+    // The same again: the last replies again, and nothing else.
     net.post_all(255, &first)?;
     net.run()?;
     assert_eq!(rt; replies(net, 0, (1, 1, 5)), (8, true));
