@@ -37,8 +37,8 @@ impl Node {
         if *listed != key {
             return Err(Fail::new("another key is listed"));
         }
-        let replica = Replica::new(alloc, config, id, signer)?;
         let config = Arc::try_clone(config)?;
+        let replica = Replica::new(alloc, &config, id, signer)?;
         Ok(Node {
             alloc,
             config,

@@ -236,12 +236,20 @@ impl Scene {
         self.in_words(answer)
     }
 
-    // Checks the outputs and the leaves of a row.
     fn in_words(&mut self, answer: Result<Row, Halt>) -> Result<String, Fail> {
-        let row = match answer {
-            Ok(row) => row,
-            Err(halt) => return Ok(format!(in self.alloc; "halts: {halt}")?),
-        };
+        match answer {
+            Ok(row) => {
+                self.check_row(&row)?;
+                let text = self.words.row(&row)?;
+                self.last = Some(row);
+                Ok(text)
+            }
+            Err(halt) => Ok(format!(in self.alloc; "halts: {halt}")?),
+        }
+    }
+
+    // Each output is signed, and the signer has as many leaves less as the row says.
+    fn check_row(&mut self, row: &Row) -> Result<(), Fail> {
         for output in row.outputs() {
             self.check_output(output)?;
         }
@@ -250,9 +258,7 @@ impl Scene {
             return Err(Fail::new("other leaves were taken"));
         }
         self.left = left;
-        let text = self.words.row(&row)?;
-        self.last = Some(row);
-        Ok(text)
+        Ok(())
     }
 
     // An output is signed, and by the replica itself if it is its own.
