@@ -1,12 +1,13 @@
 //! The commands: what the words ask for, and the lines that are written.
 
+use crate::explain::explain;
 use crate::failure::Failure;
 use crate::input::{read_hex, read_input};
 use bpf_asm::{assemble, print};
 use bpf_decode::{decode_all, encode_all};
 use bpf_machine::{Finished, run};
 use bpf_verifier::{Procedure, verify};
-use clap::{Arg, ArgMatches, Command, value_parser};
+use clap::{Arg, ArgAction, ArgMatches, Command, value_parser};
 use host_script::run_script;
 use host_types::ClientId;
 use std::alloc::{AllocError, Global};
@@ -29,6 +30,7 @@ Examples:
   echo 'b700000007000000 9500000000000000' | bpf_host exec
   echo 'bf20000000000000 9500000000000000' | bpf_host exec --args '0a 0b' --client 100
   bpf_host verify < code.hex
+  echo '7110000000000000 9500000000000000' | bpf_host verify --explain
   printf 'mov64 r0, 7\nexit\n' | bpf_host asm
   echo 'b700000007000000 9500000000000000' | bpf_host disasm
 
@@ -69,11 +71,22 @@ fn command_line<'a>(alloc: Global) -> Result<Command<'a>, AllocError> {
             "Reads an assembler text and prints its code",
         ))?
         .subcommand(Command::new(alloc, "disasm").about("Prints the assembler text of code"))?
-        .subcommand(Command::new(alloc, "verify").about("Verifies code and prints the verdict"))?
+        .subcommand(verify_command(alloc)?)?
         .subcommand(exec_command(alloc)?)?
         .subcommand(Command::new(alloc, "world").about(
             "Runs a script of replicas, some of them faulty",
         ))
+}
+
+/// `verify` and its option.
+fn verify_command<'a>(alloc: Global) -> Result<Command<'a>, AllocError> {
+    let explain = Arg::new(alloc, "explain")
+        .long("explain")
+        .action(ArgAction::SetTrue)
+        .help("also what is known before each instruction, and why code is refused");
+    Command::new(alloc, "verify")
+        .about("Verifies code and prints the verdict")
+        .arg(explain)
 }
 
 /// `exec` and its options.
@@ -103,8 +116,11 @@ fn dispatch<'a, I: Read, O: Write>(
     match matches.subcommand() {
         Some(("asm", _)) => asm(alloc, reader, writer),
         Some(("disasm", _)) => disasm(alloc, reader, writer),
-        Some(("verify", _)) => {
+        Some(("verify", options)) => {
             let code = read_code(alloc, reader)?;
+            if options.get_flag("explain") {
+                return explain(alloc, &code, writer);
+            }
             write_verdict(alloc, &code, writer)?;
             Ok(())
         }
@@ -140,7 +156,7 @@ fn read_code<I: Read>(alloc: Global, reader: &mut I) -> Result<Vec<u8>, Failure>
 }
 
 /// Verifies the code and writes the verdict.
-fn write_verdict<O: Write>(
+pub(crate) fn write_verdict<O: Write>(
     alloc: Global,
     code: &[u8],
     writer: &mut O,
@@ -185,7 +201,7 @@ fn write_ending<O: Write>(
     write_line(writer, format!(in alloc; "out {out}\n")?)
 }
 
-fn write_line<O: Write>(writer: &mut O, line: String) -> Result<(), Failure> {
+pub(crate) fn write_line<O: Write>(writer: &mut O, line: String) -> Result<(), Failure> {
     writer.write_all(line.as_bytes())?;
     Ok(())
 }

@@ -23,6 +23,9 @@ pub enum Failure {
     /// The code was refused.
     #[error("refused {} {} at {}", .0.fault.number(), .0.fault, .0.slot)]
     Refused(Refusal),
+    /// The code was refused; the line that says so is written already.
+    #[error("{0}")]
+    Explained(Refusal),
     /// The bytes are no code.
     #[error("refused {} {} at {}", .0.fault.number(), .0.fault, .0.slot)]
     NoCode(bpf_decode::Refusal),
@@ -54,6 +57,7 @@ impl Failure {
             | Failure::NotHex
             | Failure::ArgsTooLong
             | Failure::Refused(_)
+            | Failure::Explained(_)
             | Failure::NoCode(_)
             | Failure::Assembler(_) => 1,
             Failure::Script(fault) => match fault.kind {
@@ -77,10 +81,10 @@ impl Failure {
     }
 
     /// Whether its text is still to be written: nothing is said where memory ran out or a stream failed,
-    /// and a script says it itself.
+    /// and an explanation and a script say it themselves.
     pub(crate) fn is_reported(&self) -> bool {
         match self {
-            Failure::Script(_) => false,
+            Failure::Script(_) | Failure::Explained(_) => false,
             _ => self.status() < 3,
         }
     }

@@ -6,8 +6,11 @@
 #![tactic(auto)]
 
 mod command;
+mod explain;
 mod failure;
 mod input;
+mod numbers;
+mod reason;
 
 use command::{report, run_command};
 use failure::Failure;

@@ -1,4 +1,5 @@
 use crate::command::run_command;
+use bpf_asm::assemble;
 use bpf_decode::{decode_all, encode_all};
 use std::alloc::Global;
 use std::io::{self, Read, Write};
@@ -6,6 +7,7 @@ use std::process::Abort;
 use std::test::Fail;
 
 mod calls;
+mod explanations;
 mod helpers;
 mod instructions;
 mod procedures;
@@ -406,6 +408,95 @@ fn lengths_of_the_input(rt: HostRuntime) -> Result<(), Fail> {
         assert_eq!(rt; written.as_slice(), output.as_bytes());
     }
     Ok(())
+}
+
+/// What `verify --explain` writes of code in hex, and the status.
+fn explained<R: AllocGlobal>(rt: &R, code: &str) -> Result<(u8, String), Fail> {
+    let mut written = Vec::new(rt.alloc());
+    let words = ["bpf_host", "verify", "--explain"];
+    let status = run_command(rt, &words, &mut code.as_bytes(), &mut written);
+    Ok((status, str::from_utf8(&written)?.to_string(rt.alloc())?))
+}
+
+#[test]
+fn explanations_of_visits(rt: HostRuntime) -> Result<(), Fail> {
+    for (text, status, output) in explanations::EXPLANATIONS {
+        let code = assemble(rt.alloc(), text.as_bytes())?;
+        let bytes = encode_all(rt.alloc(), &code)?;
+        let code = hex::encode(rt.alloc(), bytes.as_slice())?;
+        let (got, written) = explained(&rt, &code)?;
+        assert_eq!(rt; got, status, "{text}");
+        assert_eq!(rt; written.as_str(), output, "{text}");
+        let verdict = output.lines().next().ok_or("no verdict")?;
+        assert!(rt;
+            ends_so(&rt, &["bpf_host", "verify"], &code, status, verdict)?,
+            "{text}"
+        );
+    }
+    Ok(())
+}
+
+#[test]
+fn reasons_of_refusals(rt: HostRuntime) -> Result<(), Fail> {
+    for (code, verdict, reason) in explanations::REASONS {
+        let (status, written) = explained(&rt, code)?;
+        let last = format!(in rt.alloc(); "\nwhy: {reason}\n")?;
+        assert_eq!(rt; status, 1, "{code}");
+        assert_eq!(rt; written.lines().next(), Some(verdict), "{code}");
+        assert!(rt; written.ends_with(last.as_str()), "{code} {written}");
+    }
+    Ok(())
+}
+
+#[test]
+fn an_explanation_of_too_many_visits(rt: HostRuntime) -> Result<(), Fail> {
+    let code = code_of_two_calls_each(&rt, 509)?;
+    let (status, written) = explained(&rt, &code)?;
+    assert_eq!(rt; status, 1);
+    assert_eq!(rt;
+        written.lines().next(),
+        Some("refused 20 TooComplex at 413")
+    );
+    let visits = written
+        .lines()
+        .filter(|line| line.starts_with("at "))
+        .count();
+    assert_eq!(rt; visits, 65_537);
+    assert_eq!(rt;
+        written.lines().last(),
+        Some("why: 65536 visits were made before this one")
+    );
+    Ok(())
+}
+
+/// Takes so many writes, and fails at the next.
+#[derive(Drop)]
+struct Fills {
+    writes: u32,
+}
+
+impl Write for Fills {
+    fn write(&mut self, buf: &[u8]) -> io::Result<usize> {
+        if self.writes == 0 {
+            return Err(io::Error::from(io::ErrorKind::BrokenPipe));
+        }
+        self.writes -= 1;
+        Ok(buf.len())
+    }
+
+    fn flush(&mut self) -> io::Result<()> {
+        Ok(())
+    }
+}
+
+#[test]
+fn explanations_cut_short(rt: HostRuntime) {
+    let words = ["bpf_host", "verify", "--explain"];
+    for writes in 0..4 {
+        let mut input = "b7000000070000009500000000000000".as_bytes();
+        let got = run_command(&rt, &words, &mut input, &mut Fills { writes });
+        assert_eq!(rt; got, if writes < 3 { 4 } else { 0 }, "{writes}");
+    }
 }
 
 /// Gives two digits at its first read, and fails at the second.

@@ -1,7 +1,6 @@
 -- The sweep of a function: its start, one slot more, and its end.
-use Rattle.std.proofs.Common.{◌≡◌, ◌⊎◌, ℕ, zero, suc, ◌+◌, ◌<◌, ◌≤◌, Bool, true, false, cond, eqb, max, List, [], ◌∷◌, ◌++◌, length, get_or, set, replicate, Option, Some, None, Box, ℤ, refl, sym, ap, subst, ◌∙◌, arith, inl, inr}
+use Rattle.std.proofs.Common.{◌≡◌, ◌⊎◌, ℕ, zero, suc, ◌+◌, ◌<◌, ◌≤◌, Bool, false, cond, eqb, max, List, [], ◌∷◌, ◌++◌, length, get_or, replicate, Option, Some, None, Box, refl, sym, ap, subst, ◌∙◌, arith, inl, inr}
 use Rattle.std.specs.Prelude.{slice_get, option_and_then}
-use Rattle.std.specs.Option.{option_map}
 use Rattle.std.specs.declared.alloc.Global.{Global}
 use Rattle.std.proofs.lemmas.Option.{slice_get-get_or}
 use Rattle.std.proofs.lemmas.Bool.{cases_lt, eq-eqb}
@@ -11,7 +10,7 @@ use Rattle.bpf_decode.specs.declared.insn.Insn.{Insn}
 use Rattle.bpf_model.specs.Code.{insns_by_slot, insn_at}
 use Rattle.bpf_model.specs.AbstractState as model
 use Rattle.bpf_model.specs.AbstractState.{Edge, edges, join_all, IsOneOf}
-use Rattle.bpf_model.specs.Dataflow.{Activation, called, entered, behind, edges_of, flows_to, incoming, state_at, edges_at, exit_of, exits_below, exits, Bounds, TakesIn, Takes, Path, HasBound}
+use Rattle.bpf_model.specs.Dataflow.{Activation, called, entered, edges_of, flows_to, incoming, state_at, edges_at, exit_of, exits_below, Bounds, Takes, Path, HasBound}
 use Rattle.bpf_model.specs.Verdict.{Visit as ModelVisit, Visits, insn_dataflow_fault, visits_of, visits_of_callee, visits_at, visits_below, visits_in, visit_fault, max_visits}
 use Rattle.bpf_model.specs.declared.fault.VerifyFault.{VerifyFault}
 use Rattle.bpf_model.proofs.Edges.{edge_within, edges_lead}
@@ -22,8 +21,7 @@ use Rattle.bpf_model.proofs.Visits.{right_both, visits_here}
 use Rattle.bpf_verifier.specs.declared.abstract_state.AbstractState.{AbstractState}
 use Rattle.bpf_verifier.specs.declared.dataflow.Visit.{Visit}
 use Rattle.bpf_verifier.specs.declared.dataflow.Returned.{Returned}
-use Rattle.bpf_verifier.specs.FrameBytes.{has_byte, Marks}
-use Rattle.bpf_verifier.specs.Represents.{state_of, Represents, RepresentsOption}
+use Rattle.bpf_verifier.specs.Represents.{state_of, Represents}
 use Rattle.bpf_verifier.specs.Sweep.{Pending, visit_in, RepresentsVisit, pending_at, Flowed, HasAtLeast, OfSteps, AreFew, AreRight, Fails, Entered, activation_of, IsEntered, SweepAt, IsStart, Followed}
 use Rattle.bpf_verifier.proofs.Bits.{not_equal}
 use Rattle.bpf_verifier.proofs.Sweeps.{states_flow, least_flow, brought, steps_flow, length_flow, taken, taken_others}
@@ -35,6 +33,36 @@ same_state v m h = λ i. record { ranges = λ r. h.ranges_are r i; initialized =
 weaker : (o : Option Visit) (a b : ℕ) → b ≤ a → HasAtLeast o a → HasAtLeast o b
 weaker None a b h k = absurd k
 weaker (Some v) a b h k = omega (arith, h, k)
+
+-- ---- what is pending as a function is entered
+
+pub start_long : (pending : Pending) (slots entry : ℕ) (visit : Box Visit Global) → IsStart pending slots entry visit → length pending ≡ slots
+start_long pending slots entry visit start =
+    ap length start ∙ length-set (replicate slots None) entry (Some visit) ∙ length-replicate slots None
+
+start_here : (pending : Pending) (slots entry : ℕ) (visit : Box Visit Global) → entry < slots → IsStart pending slots entry visit → pending_at pending entry ≡ Some visit.value
+start_here pending slots entry visit inside start =
+    let long = length-replicate {A = Option (Box Visit Global)} slots None in
+    ap (λ (l : Pending). pending_at l entry) start ∙ ap visit_in (get_or-set_same (replicate slots None) entry (Some visit) None (omega (arith, inside, long)))
+
+nothing_at : (slots t : ℕ) → pending_at (replicate slots None) t ≡ None
+nothing_at zero t = refl
+nothing_at (suc k) zero = refl
+nothing_at (suc k) (suc t) = nothing_at k t
+
+start_elsewhere : (pending : Pending) (slots entry : ℕ) (visit : Box Visit Global) → IsStart pending slots entry visit → (t : ℕ) → (t ≡ entry → ⊥) → pending_at pending t ≡ None
+start_elsewhere pending slots entry visit start t apart =
+    ap (λ (l : Pending). pending_at l t) start ∙ ap visit_in (get_or-set_other (replicate slots None) entry t (Some visit) None apart) ∙ nothing_at slots t
+
+pub start_few : (pending : Pending) (slots entry visits : ℕ) (visit : Box Visit Global) → entry < slots → IsStart pending slots entry visit → visit.value.steps ≡ 0 → visits ≤ max_visits → AreFew visits visits pending 0
+start_few pending slots entry visits visit inside start none few = record {
+  pending_few = λ t. elim (eqb_tells t entry) [
+    | inl (e, same) ↦ subst (λ (o : Option Visit). OfSteps (λ n. visits + n ≤ visits) o) (sym (ap (pending_at pending) same ∙ start_here pending slots entry visit inside start)) (omega (arith, none))
+    | inr (e, apart) ↦ subst (λ (o : Option Visit). OfSteps (λ n. visits + n ≤ visits) o) (sym (start_elsewhere pending slots entry visit start t apart)) tt
+  ];
+  bound_few = omega arith;
+  visits_few = few;
+}
 
 module _ (f : Entered) where
   abbrev A : Activation
@@ -112,17 +140,10 @@ module _ (f : Entered) where
       reached = inl (omega arith, refl);
     } where
       at_entry : pending_at pending f.entry ≡ Some visit.value
-      at_entry =
-          let long = length-replicate {A = Option (Box Visit Global)} slots None in
-          ap (λ (l : Pending). pending_at l f.entry) start ∙ ap visit_in (get_or-set_same (replicate slots None) f.entry (Some visit) None (omega (arith, inside, long)))
-
-      nothing : (k t : ℕ) → pending_at (replicate k None) t ≡ None
-      nothing zero t = refl
-      nothing (suc k) zero = refl
-      nothing (suc k) (suc t) = nothing k t
+      at_entry = start_here pending slots f.entry visit inside start
 
       others : (t : ℕ) → (t ≡ f.entry → ⊥) → pending_at pending t ≡ None
-      others t apart = ap (λ (l : Pending). pending_at l t) start ∙ ap visit_in (get_or-set_other (replicate slots None) f.entry t (Some visit) None apart) ∙ nothing slots t
+      others = start_elsewhere pending slots f.entry visit start
 
     -- ---- the end
 

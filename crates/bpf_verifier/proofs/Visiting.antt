@@ -1,5 +1,5 @@
 -- The visit of a slot: what it makes of the sweep, by what its instruction is, and how it fails.
-use Rattle.std.proofs.Common.{◌≡◌, ◌⊎◌, ℕ, zero, suc, ◌+◌, ◌-◌, ◌<◌, ◌≤◌, Bool, true, false, ◌&&◌, cond, leb, max, List, [], ◌∷◌, ◌++◌, length, get_or, set, Option, Some, None, Box, Result, Ok, Err, ℤ, refl, sym, ap, subst, ◌∙◌, arith, inl, inr}
+use Rattle.std.proofs.Common.{◌≡◌, ℕ, suc, ◌+◌, ◌-◌, ◌<◌, ◌≤◌, Bool, false, ◌&&◌, cond, max, List, [], ◌∷◌, ◌++◌, length, set, Option, Some, None, Box, Result, Ok, Err, ℤ, refl, sym, ap, subst, ◌∙◌, arith}
 use Rattle.std.specs.Prelude.{nat_le, IfOk, IfErr, IfSome}
 use Rattle.std.specs.Option.{option_map}
 use Rattle.std.specs.declared.alloc.Global.{Global}
@@ -13,21 +13,21 @@ use Rattle.bpf_model.specs.Machine.{frames}
 use Rattle.bpf_model.specs.AbstractState as model
 use Rattle.bpf_model.specs.AbstractState.{Edge, start_state, edge_if, edges, after_call, join_all, has_operands, has_accesses, has_bytes}
 use Rattle.bpf_model.specs.Dataflow.{called, is_exit, entered, behind, edges_of, state_at, edges_at, exit_of, exits_below, exits, TakesIn, Takes, HasBound}
-use Rattle.bpf_model.specs.Verdict.{Visit as ModelVisit, insn_dataflow_fault, calls_local, visits_of_callee, visits_at, visits_in, visits, visit_fault, max_visits, IsFirstVisit}
+use Rattle.bpf_model.specs.Verdict.{insn_dataflow_fault, calls_local, visits_of_callee, visits_at, visits_in, visits, visit_fault, max_visits, IsFirstVisit}
 use Rattle.bpf_model.specs.declared.fault.VerifyFault.{VerifyFault}
 use Rattle.bpf_model.specs.declared.fault.VerifyFault.TheVariants.{UninitRegister, BadAccess, UninitBytes, CallDepth}
-use Rattle.bpf_model.proofs.Options.{some_is, no_fault_of_four}
+use Rattle.bpf_model.proofs.Options.{no_fault_of_four}
 use Rattle.bpf_model.proofs.Edges.{stands, called_begins}
 use Rattle.bpf_model.proofs.Slots.{first_at}
 use Rattle.bpf_model.proofs.Visits.{visits_here, first_visit}
-use Rattle.bpf_verifier.specs.declared.abstract_state.AbstractState.{AbstractState}
 use Rattle.bpf_verifier.specs.declared.dataflow.Visit.{Visit}
 use Rattle.bpf_verifier.specs.declared.dataflow.Returned.{Returned}
 use Rattle.bpf_verifier.specs.FrameBytes.{Marks}
-use Rattle.bpf_verifier.specs.Represents.{state_of, Represents, RepresentsOption}
-use Rattle.bpf_verifier.specs.Sweep.{Pending, visit_in, RepresentsVisit, pending_at, VisitJoined, Brings, Flowed, IsStructured, AreRight, Fails, Entered, activation_of, IsEntered, SweepAt, Followed, callee_of, CalledBack, FailsInCall}
+use Rattle.bpf_verifier.specs.Represents.{state_of, Represents}
+use Rattle.bpf_verifier.specs.Sweep.{Pending, visit_in, RepresentsVisit, pending_at, VisitJoined, Brings, Flowed, IsStructured, AreRight, Fails, Entered, activation_of, IsEntered, SweepAt, Followed, callee_of, CalledBack, FailsInCall, IsTold}
+use Rattle.bpf_verifier.specs.Observed.{IsActive}
 use Rattle.bpf_verifier.proofs.Sweeps.{visit_of, taken, own_marks, own_marks_are}
-use Rattle.bpf_verifier.proofs.Functions.{same_state, state_here, Visited, sweep_visited, fails_own, fails_in_call}
+use Rattle.bpf_verifier.proofs.Functions.{same_state, state_here, sweep_visited, fails_own, fails_in_call}
 
 -- what a fault is found by, for whatever marks the words have
 abbrev Finds : Visit → Insn → ℕ → Option VerifyFault → Type 0
@@ -186,6 +186,18 @@ is_callee f is slot offset m t l visits x-is leads =
     let begins = called_begins f.code slot (insn.CallLocal offset) t (stands f.code slot (insn.CallLocal offset) (is.structured slot) x-is) leads in
     record { structured = is.structured; insn = begins.0; begins = begins.1 }
 
+-- and runs one deeper
+pub callee_told : (slots : List (Option Insn)) (before left slot t : ℕ) (offset : ℤ) (visits : ℕ) (f : Entered) (m : model.AbstractState) → IsTold slots before f → state_at f.code (activation_of f) slot ≡ Some m → insn_at f.code slot ≡ Some (insn.CallLocal offset) → target_of slot offset ≡ Some t → before ≡ suc left → before < 8 → IsTold slots left (callee_of f m t left visits)
+callee_told slots before left slot t offset visits f m told known x-is leads one deep =
+    let deeper : suc (7 - before) ≡ 7 - left = omega (arith, one, deep) in
+    let within : left + suc (7 - before) ≡ frames - 1 = omega (arith, one, deep) in
+    record {
+      slots_are = told.slots_are;
+      left_is = refl;
+      entered = is_callee f told.entered slot offset m t left visits x-is leads;
+      active = subst (λ (d : ℕ). IsActive f.code d (activation_of (callee_of f m t left visits))) deeper (activation_of f, slot, m, insn.CallLocal offset, t, left, told.active, known, x-is, leads, within, refl);
+    }
+
 -- ---- a state for what the arrays hold
 
 pub own_state : (v : Visit) → (m : model.AbstractState) × Represents v.state m
@@ -248,6 +260,14 @@ main_of code = record { code = code; left = 7; entry = 0; state = start_state; b
 pub is_main : (code : List Insn) → IsStructured code → 0 < length (insns_by_slot code) → IsEntered (main_of code)
 is_main code structured some =
     let first = first_at code some in record { structured = structured; insn = first.0; begins = first.1 }
+
+pub main_told : (slots : List (Option Insn)) (code : List Insn) → slots ≡ insns_by_slot code → IsStructured code → 0 < length slots → IsTold slots 7 (main_of code)
+main_told slots code same structured some = record {
+  slots_are = same;
+  left_is = refl;
+  entered = is_main code structured (subst (λ (l : List (Option Insn)). 0 < length l) same some);
+  active = refl;
+}
 
 -- the first visit that fails is the verdict's
 pub fails_first : (code : List Insn) (fault : VerifyFault) (slot : ℕ) → Fails 0 (visits code) fault slot → IsFirstVisit code fault slot

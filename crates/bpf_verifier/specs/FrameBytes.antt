@@ -1,4 +1,4 @@
--- Internal: the bytes of the stack as bits of 64-bit words, the least bit first.
+-- Statement: the bytes of the stack as bits of 64-bit words, the least bit first.
 use Rattle.std.specs.Prelude.{◌≡◌, ℕ, ◌+◌, ◌/◌, ◌%◌, ◌<◌, ◌==◌, Bool, List, slice_index_or}
 use Rattle.std.specs.Int.{bit_at}
 use Rattle.bpf_model.specs.Machine.{frame_start}

@@ -1,5 +1,6 @@
 pub mod Flat
 pub mod FrameBytes
+pub mod Observed
 pub mod Represents
 pub mod Sweep
 pub mod Verified

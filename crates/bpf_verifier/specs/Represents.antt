@@ -1,4 +1,4 @@
--- Internal: what the verifier's arrays say of an abstract state.
+-- Statement: what the verifier's arrays say of an abstract state.
 use Rattle.std.specs.Prelude.{◌≡◌, ℕ, Bool, List, slice_index_or, Option, Some, None}
 use Rattle.std.specs.Option.{option_map}
 use Rattle.reg_ranges.specs.Ranges as reg

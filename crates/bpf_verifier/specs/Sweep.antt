@@ -1,5 +1,5 @@
 -- Internal: what the sweep of a function has found as it comes to a slot.
-use Rattle.std.specs.Prelude.{◌≡◌, ◌≢◌, ◌⊎◌, ℕ, suc, ◌+◌, ◌<◌, ◌≤◌, max, replicate, List, [], ◌∷◌, ◌++◌, length, slice_index_or, slice_set, Option, Some, None, Box, ℤ}
+use Rattle.std.specs.Prelude.{◌≡◌, ◌≢◌, ◌⊎◌, ℕ, suc, ◌+◌, ◌-◌, ◌<◌, ◌≤◌, max, replicate, List, [], ◌∷◌, ◌++◌, length, slice_index_or, slice_set, Option, Some, None, Box, ℤ}
 use Rattle.std.specs.List.{AllByRecursion}
 use Rattle.std.specs.Option.{option_map}
 use Rattle.std.specs.declared.alloc.Global.{Global}
@@ -13,6 +13,7 @@ use Rattle.bpf_model.specs.Verdict.{structure_fault, Visit as ModelVisit, max_vi
 use Rattle.bpf_model.specs.declared.fault.VerifyFault.{VerifyFault}
 use Rattle.bpf_verifier.specs.declared.dataflow.Visit.{Visit}
 use Rattle.bpf_verifier.specs.declared.dataflow.Returned.{Returned}
+use Rattle.bpf_verifier.specs.Observed.{IsActive}
 use Rattle.bpf_verifier.specs.Represents.{Represents, RepresentsOption, join_with}
 
 -- What is pending for each slot.
@@ -113,6 +114,13 @@ pub record IsEntered (f : Entered) : Type 0 where
   pub structured : IsStructured f.code
   pub insn : Insn
   pub begins : insn_at f.code f.entry ≡ Some insn
+
+-- A function of these slots, for whose callees so many frames are left, and that runs at its depth.
+pub record IsTold (slots : List (Option Insn)) (left : ℕ) (f : Entered) : Type 0 where
+  pub slots_are : slots ≡ insns_by_slot f.code
+  pub left_is : f.left ≡ left
+  pub entered : IsEntered f
+  pub active : IsActive f.code (7 - left) (activation_of f)
 
 -- As the sweep comes to a slot: for it and each later one the state that all edges out of the slots before have
 -- brought, and the length of the longest path; no visit of the slots before has a fault; what came to their exits, the

@@ -7,7 +7,7 @@ ghost use Rattle.bpf_model.specs.AbstractState.{join_option};
 
 use crate::frame_bytes::FrameBytes;
 use bpf_decode::{Reg, Source};
-use bpf_model::layout::{ARGUMENTS_START, FRAME_END, REGISTERS, frame_end};
+use bpf_model::layout::{ARGUMENTS_START, FRAME_END, FRAME_START, REGISTERS, STACK_END, frame_end};
 use reg_ranges::{Range, join};
 
 /// The range of each register that holds a number for certain, and which bytes of the stack are
@@ -19,16 +19,17 @@ pub struct AbstractState {
 }
 
 impl AbstractState {
-    ghost use Rattle.std.specs.Prelude.{◌≡◌, ℕ, ◌<◌, Some, Option, slice_set};
+    ghost use Rattle.std.specs.Prelude.{◌≡◌, ℕ, ◌<◌, ◌≤◌, false, Some, Option, slice_set};
     ghost use Rattle.std.specs.Option.{option_map, is_some};
     ghost use Rattle.std.specs.Int.{w64, cast_unsigned};
     ghost use Rattle.reg_ranges.specs.RangeOf.{range_of};
     ghost use Rattle.bpf_decode.specs.declared.insn.Source.{Source};
+    ghost use Rattle.bpf_model.specs.Machine.{frame_start, frame_end};
     ghost use Rattle.bpf_model.specs.AbstractState.{AbstractState as ModelState, start_state, entry_state, after_call, has_all, source_operands};
     ghost use Rattle.bpf_verifier.specs.Represents.{Represents, RepresentsOption, ranges_of, join_with};
 
     /// As a call begins.
-    pub fn at_start() -> AbstractState
+    pub(crate) fn at_start() -> AbstractState
         ensures { Represents result start_state }
     {
         AbstractState {
@@ -49,7 +50,8 @@ impl AbstractState {
         }
     }
 
-    /// The range of a register, where it has one.
+    /// The range of the numbers that a register may hold, where it holds one for certain. Registers above
+    /// r10 hold none.
     pub fn range_of(&self, register: u8) -> Option<Range>
         ensures { option_map range_of result ≡ ranges_of self.now.ranges register }
     {
@@ -60,15 +62,27 @@ impl AbstractState {
         }
     }
 
+    /// Whether the byte at an address is one of the stack that is initialized for certain.
+    pub fn has_byte_at(&self, address: u64) -> bool
+        ensures inside { (of : ModelState) → Represents self.now of → frame_start 0 ≤ address →
+            address < frame_end 7 → result ≡ of.initialized address }
+        ensures below { address < frame_start 0 → result ≡ false }
+        ensures above { frame_end 7 ≤ address → result ≡ false }
+    {
+        address >= FRAME_START
+            && address < STACK_END
+            && self.initialized.contains((address - FRAME_START) as usize)
+    }
+
     /// Whether a register holds a number for certain.
-    pub fn has(&self, register: u8) -> bool
+    pub(crate) fn has(&self, register: u8) -> bool
         ensures { result ≡ is_some (ranges_of self.now.ranges register) }
     {
         self.range_of(register).is_some()
     }
 
     /// Whether all of these registers do.
-    pub fn has_all(&self, registers: &[u8]) -> bool
+    pub(crate) fn has_all(&self, registers: &[u8]) -> bool
         ensures { result ≡ has_all (ranges_of self.now.ranges) registers.now }
     {
         for register in registers {
@@ -80,7 +94,7 @@ impl AbstractState {
     }
 
     /// Whether an operand holds a number for certain.
-    pub fn has_source(&self, src: Source) -> bool
+    pub(crate) fn has_source(&self, src: Source) -> bool
         ensures { result ≡ has_all (ranges_of self.now.ranges) (source_operands src) }
     {
         match src {
@@ -90,7 +104,7 @@ impl AbstractState {
     }
 
     /// Gives a register a range, or none.
-    pub fn set(&mut self, register: Reg, range: Option<Range>)
+    pub(crate) fn set(&mut self, register: Reg, range: Option<Range>)
         ensures ranges { self.new.ranges ≡ slice_set self.old.ranges register.number range }
         ensures initialized { self.new.initialized ≡ self.old.initialized }
     {
@@ -99,7 +113,7 @@ impl AbstractState {
 
     /// Keeps what is certain in both states.
     #[inline(never)]
-    pub fn join(&mut self, other: &AbstractState)
+    pub(crate) fn join(&mut self, other: &AbstractState)
         ensures { (a b : ModelState) → Represents self.old a → Represents other.now b →
             Represents self.new (join_with (Some a) b) }
     {
@@ -110,7 +124,7 @@ impl AbstractState {
     }
 
     /// The state in which a function is entered at a depth, by a call in this state.
-    pub fn entered(&self, depth: u32) -> AbstractState
+    pub(crate) fn entered(&self, depth: u32) -> AbstractState
         requires { depth < 8 }
         ensures { (of : ModelState) → Represents self.now of →
             Represents result (entry_state depth of) }
@@ -134,7 +148,7 @@ impl AbstractState {
     }
 
     /// Goes over a call of a function at a depth, given the join over its exits.
-    pub fn after_call(&mut self, depth: u32, returned: &AbstractState)
+    pub(crate) fn after_call(&mut self, depth: u32, returned: &AbstractState)
         requires { depth < 8 }
         ensures { (of exit : ModelState) → Represents self.old of → Represents returned.now exit →
             Represents self.new (after_call depth of exit) }

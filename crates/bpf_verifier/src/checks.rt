@@ -40,7 +40,7 @@ impl AbstractState {
 
     /// What is wrong with an instruction that is reached in the frame of a depth: an operand, then an
     /// access, then bytes that are read, then a local call for which no frame is left.
-    pub fn insn_dataflow_fault(&self, depth: u32, insn: &Insn) -> Option<VerifyFault>
+    pub(crate) fn insn_dataflow_fault(&self, depth: u32, insn: &Insn) -> Option<VerifyFault>
         requires { depth < 8 }
         ensures { (marked : ℕ → Bool) → Marks self.now.initialized.words marked →
             result ≡ insn_dataflow_fault depth (state_of self.now.ranges marked) insn.now }
@@ -165,7 +165,8 @@ impl AbstractState {
         self.is_initialized(self.address_range(base, offset), u64::from(bytes_of(size)))
     }
 
-    /// The range of the address that a load or a store accesses.
+    /// The range of the address that a load or a store accesses: what its base may hold and its offset;
+    /// none where the base may hold nothing.
     pub fn address_range(&self, base: Reg, offset: i16) -> Option<Range>
         ensures { (marked : ℕ → Bool) →
             option_map range_of result ≡

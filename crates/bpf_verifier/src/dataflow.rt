@@ -7,14 +7,15 @@ ghost use Rattle.bpf_decode.specs.declared.insn.Insn.{Insn};
 ghost use Rattle.bpf_decode.specs.declared.insn.Insn.TheVariants.{CallLocal};
 ghost use Rattle.bpf_model.specs.Code.{insns_by_slot, insn_at};
 ghost use Rattle.bpf_model.specs.AbstractState.{AbstractState as ModelState, edge_if, edges, after_test, after_call, start_state, entry_state};
-ghost use Rattle.bpf_model.specs.Dataflow.{IsBound};
+ghost use Rattle.bpf_model.specs.Dataflow.{IsBound, state_at};
 ghost use Rattle.bpf_model.specs.Verdict.{insn_dataflow_fault, visits_in, visit_fault, max_visits, dataflow_fault, IsFirstVisit};
 ghost use Rattle.bpf_model.specs.declared.fault.VerifyFault.TheVariants.{Memory};
 ghost use Rattle.bpf_verifier.specs.FrameBytes.{Marks};
 ghost use Rattle.bpf_verifier.specs.Represents.{Represents, RepresentsOption, state_of};
-ghost use Rattle.bpf_verifier.specs.Sweep.{visit_in, RepresentsVisit, Brings, VisitJoined, Flowed, AreFew, SweepAt, IsStart, IsStructured, Fails, Entered, IsEntered, activation_of, nothing_returned, Followed, CalledBack, FailsInCall};
+ghost use Rattle.bpf_verifier.specs.Sweep.{visit_in, RepresentsVisit, Brings, VisitJoined, Flowed, AreFew, SweepAt, IsStart, IsStructured, Fails, Entered, IsEntered, activation_of, nothing_returned, Followed, CalledBack, FailsInCall, IsTold};
 
 use crate::abstract_state::AbstractState;
+use crate::observer::Observer;
 use crate::slots::target_of;
 use bpf_decode::{Insn, Reg, Source};
 use bpf_model::layout::FRAMES;
@@ -142,9 +143,14 @@ impl Pass {
 
 /// Checks each visit, by its abstract state, and counts the steps. Returns the bound, or the first
 /// fault. `Memory` may come at any allocation.
-pub fn check_dataflow(alloc: Global, slots: &[Option<Insn>]) -> Result<u32, Refusal>
+pub fn check_dataflow<O: Observer>(
+    alloc: Global,
+    slots: &[Option<Insn>],
+    observer: &mut O,
+) -> Result<u32, Refusal>
     requires some { 0 < length slots.now }
     requires few { length slots.now ≤ 1024 }
+    requires code { (code : List Insn) × (slots.now ≡ insns_by_slot code) × IsStructured code }
     ensures right { IfOk result (λ _. (code : List Insn) → slots.now ≡ insns_by_slot code →
         IsStructured code →
         (index : ℕ) → dataflow_fault code index ≡ None) }
@@ -164,14 +170,15 @@ pub fn check_dataflow(alloc: Global, slots: &[Option<Insn>]) -> Result<u32, Refu
         steps: 0,
     };
     let visit = pass.copied(&start)?;
-    let returned = follow(&mut pass, slots, FRAMES as u32 - 1, 0, visit)?;
+    let returned = follow(&mut pass, observer, slots, FRAMES as u32 - 1, 0, visit)?;
     Ok(returned.bound)
 }
 
 /// Follows a function from its slot on, where so many frames are left for those that it calls.
 #[cycle(calls)]
-fn follow(
+fn follow<O: Observer>(
     pass: &mut Pass,
+    observer: &mut O,
     slots: &[Option<Insn>],
     left: u32,
     entry: usize,
@@ -182,6 +189,8 @@ fn follow(
     requires inside { entry < length slots.now }
     requires steps { visit.value.steps ≡ 0 }
     requires few { pass.old.visits ≤ max_visits }
+    requires told { (f : Entered) × IsTold slots.now left f × (f.entry ≡ entry)
+        × (f.base ≡ pass.old.visits) × Represents visit.value.state f.state }
     ensures few { IfOk result (λ returned. (pass.old.visits + returned.bound ≤ pass.new.visits)
         × (pass.new.visits ≤ max_visits)) }
     ensures right { IfOk result (λ returned. (f : Entered) → slots.now ≡ insns_by_slot f.code →
@@ -194,13 +203,14 @@ fn follow(
         Fails f.base (visits_in f.code (suc f.left) f.entry f.state) refusal.fault refusal.slot)) }
 {
     let mut pending = pending_at_entry(pass.alloc, slots.len(), entry, visit)?;
-    sweep(pass, slots, left, entry, &mut pending)
+    sweep(pass, observer, slots, left, entry, &mut pending)
 }
 
 /// Visits the slots of a function, ascending from its own on.
 #[cycle(calls)]
-fn sweep(
+fn sweep<O: Observer>(
     pass: &mut Pass,
+    observer: &mut O,
     slots: &[Option<Insn>],
     left: u32,
     entry: usize,
@@ -211,6 +221,8 @@ fn sweep(
     requires inside { entry < length slots.now }
     requires long { length pending.old ≡ length slots.now }
     requires few { AreFew pass.old.visits pass.old.visits pending.old 0 }
+    requires told { (f : Entered) × IsTold slots.now left f
+        × SweepAt f entry pending.old nothing_returned pass.old.visits }
     ensures few { IfOk result (λ returned. (pass.old.visits + returned.bound ≤ pass.new.visits)
         × (pass.new.visits ≤ max_visits)) }
     ensures right { IfOk result (λ returned. (f : Entered) → slots.now ≡ insns_by_slot f.code →
@@ -227,7 +239,7 @@ fn sweep(
         bound: 0,
     };
     for slot in entry..slots.len() {
-        visit_slot(pass, slots, left, pending, slot, &mut returned)?;
+        visit_slot(pass, observer, slots, left, pending, slot, &mut returned)?;
     }
     Ok(returned)
 }
@@ -252,8 +264,9 @@ fn pending_at_entry(
 
 /// Visits a slot, where something has reached it.
 #[cycle(calls)]
-fn visit_slot(
+fn visit_slot<O: Observer>(
     pass: &mut Pass,
+    observer: &mut O,
     slots: &[Option<Insn>],
     left: u32,
     pending: &mut [Option<Box<Visit>>],
@@ -265,6 +278,8 @@ fn visit_slot(
     requires inside { slot < length slots.now }
     requires long { length pending.old ≡ length slots.now }
     requires few { AreFew 0 pass.old.visits pending.old returned.old.bound }
+    requires told { (f : Entered) × IsTold slots.now left f
+        × SweepAt f slot pending.old returned.old pass.old.visits }
     ensures long { IfOk result (λ _. length pending.new ≡ length pending.old) }
     ensures few { IfOk result (λ _. (base : ℕ) →
         AreFew base pass.old.visits pending.old returned.old.bound →
@@ -282,10 +297,11 @@ fn visit_slot(
         return Ok(());
     };
     let depth = FRAMES as u32 - 1 - left;
+    observer.visit(slots, depth, slot, &insn, &visit.state);
     pass.begin(depth, slot, &insn, &visit.state)?;
     match insn {
         Insn::CallLocal { offset } => {
-            if let Some(callee) = call(pass, slots, left, slot, offset, &visit.state)? {
+            if let Some(callee) = call(pass, observer, slots, left, slot, offset, &visit.state)? {
                 visit.steps += 1 + callee.bound;
                 returned.bound = returned.bound.max(visit.steps);
                 resume(pass, pending, slot, depth + 1, visit, callee.exit);
@@ -309,8 +325,9 @@ fn visit_slot(
 /// Follows the function that a local call leads to. There is none where the call leads out of the code
 /// or no frame is left, which the checks have refused.
 #[cycle(calls)]
-fn call(
+fn call<O: Observer>(
     pass: &mut Pass,
+    observer: &mut O,
     slots: &[Option<Insn>],
     left: u32,
     slot: usize,
@@ -321,6 +338,9 @@ fn call(
     requires deep { left < 8 }
     requires inside { slot < length slots.now }
     requires few { pass.old.visits ≤ max_visits }
+    requires told { (f : Entered) × (of : ModelState) × IsTold slots.now left f
+        × Represents state.now of × (state_at f.code (activation_of f) slot ≡ Some of)
+        × (insn_at f.code slot ≡ Some (CallLocal offset)) }
     ensures none { IfOk result (λ callee. callee ≡ None → pass.new.visits ≡ pass.old.visits) }
     ensures few { IfOk result (λ callee. IfSome callee (λ back. (0 < left)
         × (pass.old.visits + back.bound ≤ pass.new.visits) × (pass.new.visits ≤ max_visits))) }
@@ -342,7 +362,7 @@ fn call(
         return Ok(None);
     }
     let callee = pass.entered(FRAMES as u32 - 1 - left, state)?;
-    Ok(Some(follow(pass, slots, left, target, callee)?))
+    Ok(Some(follow(pass, observer, slots, left, target, callee)?))
 }
 
 /// Goes on behind a call, where its callee returns.

@@ -23,7 +23,7 @@ impl AbstractState {
     ghost use Rattle.bpf_verifier.specs.Represents.{Represents, state_of};
 
     /// Goes over an instruction, by the edge to the slot behind it.
-    pub fn after_insn(&mut self, insn: &Insn)
+    pub(crate) fn after_insn(&mut self, insn: &Insn)
         ensures { (marked : ℕ → Bool) → Marks self.old.initialized.words marked →
             Represents self.new (after_insn (state_of self.old.ranges marked) insn.now) }
     {
@@ -157,7 +157,7 @@ impl AbstractState {
 
     /// The ranges of a test's operands where it is taken, or isn't; none where that can't be.
     #[inline(always)]
-    pub fn tested(
+    pub(crate) fn tested(
         &self,
         narrow: bool,
         test: Test,
@@ -175,7 +175,7 @@ impl AbstractState {
     }
 
     /// Gives the operands of a test these ranges. Where both are one register, it keeps its own.
-    pub fn set_tested(&mut self, dst: Reg, src: Source, ranges: (Range, Range))
+    pub(crate) fn set_tested(&mut self, dst: Reg, src: Source, ranges: (Range, Range))
         ensures { (marked : ℕ → Bool) → Marks self.old.initialized.words marked →
             Represents self.new
             (with_ranges (state_of self.old.ranges marked) dst.number src (pair_of ranges)) }

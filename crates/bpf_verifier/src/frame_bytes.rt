@@ -29,7 +29,8 @@ impl FrameBytes {
         FrameBytes { words: [0; WORDS] }
     }
 
-    fn contains(&self, index: usize) -> bool
+    /// Whether a byte is in the set.
+    pub fn contains(&self, index: usize) -> bool
         requires { index < 4096 }
         ensures { result ≡ has_byte self.now.words index }
     {

@@ -8,10 +8,13 @@ mod dataflow;
 mod effects;
 mod flat;
 mod frame_bytes;
+mod observer;
 mod procedure;
 mod slots;
 mod structure;
 
+pub use abstract_state::AbstractState;
 pub use bpf_model::{Refusal, VerifyFault};
 pub use flat::FlatInsn;
-pub use procedure::{Procedure, verify};
+pub use observer::{Observer, Unobserved};
+pub use procedure::{Procedure, verify, verify_observed};

@@ -1,31 +1,30 @@
-use Rattle.std.proofs.Common.{◌≡◌, ◌≢◌, ◌⊎◌, ◌∙◌, ◌<◌, ◌≤◌, ◌+◌, ◌-◌, ℕ, ℤ, suc, Bool, max, Option, Some, None, Box, List, length, set, refl, sym, ap, subst, arith, rules, inl, inr}
+use Rattle.std.proofs.Common.{◌≡◌, ◌∙◌, ◌<◌, ◌+◌, ◌-◌, ℕ, ℤ, suc, Bool, max, Option, Some, None, Box, length, set, refl, sym, ap, subst, arith, rules, inl, inr}
 use Rattle.std.specs.Prelude.{IfErr}
 use Rattle.std.specs.Int.{w32, cast_signed, cast_unsigned}
 use Rattle.std.specs.declared.alloc.Global.{Global}
 use Rattle.std.proofs.lemmas.List.{length-set}
-use Rattle.bpf_decode.specs.declared.insn.Insn.{Insn}
 use Rattle.bpf_decode.specs.declared.insn.Insn.TheVariants.{CallLocal}
 use Rattle.bpf_model.specs.AbstractState as model
 use Rattle.bpf_model.specs.AbstractState.{edges, entry_state}
-use Rattle.bpf_model.specs.Code.{insns_by_slot, insn_at, target_of}
+use Rattle.bpf_model.specs.Code.{target_of}
 use Rattle.bpf_model.specs.Verdict.{insn_dataflow_fault, visits_in, visit_fault}
 use Rattle.bpf_model.specs.declared.fault.Refusal.{Refusal}
-use Rattle.bpf_model.specs.declared.fault.VerifyFault.TheVariants.{Memory}
 use Rattle.bpf_verifier.specs.declared.dataflow.Visit.{Visit}
 use Rattle.bpf_verifier.specs.declared.dataflow.Returned.{Returned}
 use Rattle.bpf_verifier.specs.FrameBytes.{Marks}
 use Rattle.bpf_verifier.specs.Represents.{Represents, state_of}
-use Rattle.bpf_verifier.specs.Sweep.{Pending, visit_in, pending_at, VisitJoined, Flowed, AreFew, Fails, Entered, IsEntered, activation_of, SweepAt, nothing_returned, FailsInCall, CalledBack, callee_of}
+use Rattle.bpf_verifier.specs.Sweep.{Pending, visit_in, VisitJoined, Flowed, AreFew, Fails, Entered, SweepAt, nothing_returned, FailsInCall, CalledBack, callee_of}
+use Rattle.bpf_model.proofs.Slots.{insn_at_less}
 use Rattle.bpf_verifier.proofs.Sweeps.{pending_is, taken, length_flow, few_visited, steps_few, own_marks, own_marks_are}
-use Rattle.bpf_verifier.proofs.Functions.{insn_there, sweep_none, sweep_gap, started, followed}
-use Rattle.bpf_verifier.proofs.Visiting.{at_next, begin_fails, other_visited, exit_visited, call_visited, call_lands, call_fails, own_state, own_exit, is_callee, is_none_of, flowed_from, called_few, finds_same, handed_on, if_ok, if_err}
+use Rattle.bpf_verifier.proofs.Functions.{insn_there, sweep_none, sweep_gap, start_long, start_few, started, followed}
+use Rattle.bpf_verifier.proofs.Visiting.{at_next, begin_fails, other_visited, exit_visited, call_visited, call_lands, call_fails, own_state, own_exit, is_callee, callee_told, is_none_of, flowed_from, called_few, finds_same, handed_on, if_ok, if_err}
 use Rattle.bpf_verifier.proofs.dataflow.+calls.Goals.{visit_slot-in_default-via-in-Some+in_default, visit_slot-in_default-via-in_default}
 use Rattle.bpf_verifier.proofs.dataflow.+calls.Goals as goal
 
 -- ---- visit_slot
 
 pub visit_slot-returns-in_default-clause-right : goal.visit_slot-returns-in_default-clause-right
-visit_slot-returns-in_default-clause-right c w = λ f same left is p.
+visit_slot-returns-in_default-clause-right g c w = λ f same left is p.
     let inside : w.args.slot < length w.args.pending.now = omega (arith, w.requires.inside, w.requires.long) in
     subst (λ (z : Option (Box Visit Global)). SweepAt f (w.args.slot + 1) (set w.args.pending.now w.args.slot z) w.args.returned.now w.args.pass.now.visits) (sym w.take.ensures.after)
     (at_next f w.args.slot (taken w.args.pending.now w.args.slot) w.args.returned.now w.args.pass.now.visits
@@ -35,7 +34,7 @@ visit_slot-returns-in_default-clause-right c w = λ f same left is p.
     ]))
 
 pub visit_slot-returns-in_err-begin-clause-refused : goal.visit_slot-returns-in_err-begin-clause-refused
-visit_slot-returns-in_err-begin-clause-refused c w =
+visit_slot-returns-in_err-begin-clause-refused g c w =
     let same : IfErr w.from_residual.result (λ (e : Refusal). e ≡ w.in_err-begin.field-0.0) = search rules in
     handed_on w.from_residual.result w.in_err-begin.field-0.0 _ same (inr (λ f at left is p.
     let inside : w.args.slot < length w.args.pending.now = omega (arith, w.requires.inside, w.requires.long) in
@@ -44,10 +43,10 @@ visit_slot-returns-in_err-begin-clause-refused c w =
     let x-is = insn_there f.code w.args.slots.now w.args.slot w.index-slots-slot.result at w.requires.inside w.index-slots-slot.is ∙ x.is-0 in
     let bad = w.in_err-begin.ensures.refused in
     subst (λ (n : ℕ). Fails f.base (visits_in f.code (suc f.left) f.entry f.state) w.in_err-begin.field-0.0.fault n) (sym bad.0)
-    (begin_fails f is w.args.slot w.args.pending.now w.args.returned.now w.args.pass.now.visits p inside x.visit.value e x.insn x-is (7 - w.args.left) (ap (λ (n : ℕ). 7 - n) (sym left)) w.in_err-begin.field-0.0.fault w.requires.few.visits_few (subst (λ (u : Visit). (marked : ℕ → Bool) → Marks u.state.initialized.words marked → visit_fault w.args.pass.now.visits (Some (record { slot = w.args.slot; fault = insn_dataflow_fault (7 - w.args.left) (state_of u.state.ranges marked) x.insn })) ≡ Some w.in_err-begin.field-0.0.fault) w.deref.ensures bad.1))))
+    (begin_fails f is w.args.slot w.args.pending.now w.args.returned.now w.args.pass.now.visits p inside x.visit.value e x.insn x-is (7 - w.args.left) (ap (λ (n : ℕ). 7 - n) (sym left)) w.in_err-begin.field-0.0.fault w.requires.few.visits_few (subst (λ (u : Visit). (marked : ℕ → Bool) → Marks u.state.initialized.words marked → visit_fault w.args.pass.now.visits (Some (record { slot = w.args.slot; fault = insn_dataflow_fault (7 - w.args.left) (state_of u.state.ranges marked) x.insn })) ≡ Some w.in_err-begin.field-0.0.fault) w.deref-2.ensures bad.1))))
 
 pub visit_slot-returns-in_err-callee-in-CallLocal-clause-refused : goal.visit_slot-returns-in_err-callee-in-CallLocal-clause-refused
-visit_slot-returns-in_err-callee-in-CallLocal-clause-refused c w =
+visit_slot-returns-in_err-callee-in-CallLocal-clause-refused g c w =
     let same : IfErr w.from_residual-in_err-callee-in-CallLocal.result (λ (e : Refusal). e ≡ w.in_err-callee-in-CallLocal.field-0.0) = search rules in
     handed_on w.from_residual-in_err-callee-in-CallLocal.result w.in_err-callee-in-CallLocal.field-0.0 _ same
     (elim w.in_err-callee-in-CallLocal.ensures.refused [
@@ -60,7 +59,7 @@ visit_slot-returns-in_err-callee-in-CallLocal-clause-refused c w =
           let refusal = w.in_err-callee-in-CallLocal.field-0.0 in
           let n = w.in-CallLocal.offset in
           let again : cast_signed w32 (cast_unsigned w32 n) ≡ n = search rules in
-          call_fails f is w.args.slot w.args.pending.now w.args.returned.now w.args.pass.now.visits p inside x.visit.value e x.insn x-is (7 - w.args.left) (ap (λ (k : ℕ). 7 - k) (sym left)) n w.in-CallLocal.is (finds_same w.deref.result.now x.visit.value x.insn (7 - w.args.left) None w.deref.ensures w.in_ok-begin.ensures.right) refusal.fault refusal.slot
+          call_fails f is w.args.slot w.args.pending.now w.args.returned.now w.args.pass.now.visits p inside x.visit.value e x.insn x-is (7 - w.args.left) (ap (λ (k : ℕ). 7 - k) (sym left)) n w.in-CallLocal.is (finds_same w.deref-2.result.now x.visit.value x.insn (7 - w.args.left) None w.deref-2.ensures w.in_ok-begin.ensures.right) refusal.fault refusal.slot
           (λ m rep none.
           subst (λ (k : ℕ). FailsInCall f w.args.slot n m k refusal.fault refusal.slot) w.in_ok-begin.ensures.count.0
           (subst (λ (z : ℤ). FailsInCall f w.args.slot z m w.begin.new.self.visits refusal.fault refusal.slot) again
@@ -68,12 +67,12 @@ visit_slot-returns-in_err-callee-in-CallLocal-clause-refused c w =
     ])
 
 pub visit_slot-resume-requires-clause-deep : goal.visit_slot-resume-requires-clause-deep
-visit_slot-resume-requires-clause-deep c w =
+visit_slot-resume-requires-clause-deep g c w =
     let few = called_few w.in_ok-callee-in-CallLocal.field-0 w.in-Some.callee w.args.left w.begin.new.self.visits w.call.new.pass.visits w.in-Some.is w.in_ok-callee-in-CallLocal.ensures.few in
     omega (arith, few.0, w.requires.deep)
 
 pub visit_slot-overflow_add-deref_mut-in-Exit : goal.visit_slot-overflow_add-deref_mut-in-Exit
-visit_slot-overflow_add-deref_mut-in-Exit c w =
+visit_slot-overflow_add-deref_mut-in-Exit g c w =
     let inside : w.args.slot < length w.args.pending.now = omega (arith, w.requires.inside, w.requires.long) in
     let x = w.in-Some-Some in
     let e = pending_is w.args.pending.now w.args.slot w.take.result w.index-pending-slot.result (Some x.visit) w.take.ensures.value inside x.is-1 in
@@ -83,7 +82,7 @@ visit_slot-overflow_add-deref_mut-in-Exit c w =
     omega (arith, few, same, most)
 
 pub visit_slot-overflow_add-deref_mut-in_default-insn : goal.visit_slot-overflow_add-deref_mut-in_default-insn
-visit_slot-overflow_add-deref_mut-in_default-insn c w =
+visit_slot-overflow_add-deref_mut-in_default-insn g c w =
     let inside : w.args.slot < length w.args.pending.now = omega (arith, w.requires.inside, w.requires.long) in
     let x = w.in-Some-Some in
     let e = pending_is w.args.pending.now w.args.slot w.take.result w.index-pending-slot.result (Some x.visit) w.take.ensures.value inside x.is-1 in
@@ -93,7 +92,7 @@ visit_slot-overflow_add-deref_mut-in_default-insn c w =
     omega (arith, few, same, most)
 
 pub visit_slot-returns-in-Some-clause-few : goal.visit_slot-returns-in-Some-clause-few
-visit_slot-returns-in-Some-clause-few c w = λ base few.
+visit_slot-returns-in-Some-clause-few g c w = λ base few.
     let inside : w.args.slot < length w.args.pending.now = omega (arith, w.requires.inside, w.requires.long) in
     let x = w.in-Some-Some in
     let v : Visit = x.visit.value in
@@ -111,7 +110,7 @@ visit_slot-returns-in-Some-clause-few c w = λ base few.
     (flowed_from _ (m.steps + (1 + back.bound)) (v.steps + (1 + back.bound)) w.args.pending.now w.resume.new.pending w.args.slot w.take.new.self w.take.ensures.after (ap (λ (u : Visit). u.steps + (1 + back.bound)) is) (w.resume.ensures.flowed own.0 gone.0 (subst (λ (u : Visit). Represents u.state own.0) (sym is) own.1) gone.1))
 
 pub visit_slot-returns-in-Some-clause-right : goal.visit_slot-returns-in-Some-clause-right
-visit_slot-returns-in-Some-clause-right c w = λ f at left is p.
+visit_slot-returns-in-Some-clause-right g c w = λ f at left is p.
     let inside : w.args.slot < length w.args.pending.now = omega (arith, w.requires.inside, w.requires.long) in
     let x = w.in-Some-Some in
     let v : Visit = x.visit.value in
@@ -122,7 +121,7 @@ visit_slot-returns-in-Some-clause-right c w = λ f at left is p.
     let same : m ≡ v = w.deref_mut.ensures.value in
     let n = w.in-CallLocal.offset in
     let again : cast_signed w32 (cast_unsigned w32 n) ≡ n = search rules in
-    call_visited f is w.args.slot w.args.pending.now w.args.returned.now w.args.pass.now.visits p inside v e x.insn x-is (7 - w.args.left) (ap (λ (k : ℕ). 7 - k) (sym left)) w.resume.new.pending (record { exit = w.args.returned.now.exit; bound = w.max-returned.result }) w.resume.new.pass.visits (finds_same w.deref.result.now v x.insn (7 - w.args.left) None w.deref.ensures w.in_ok-begin.ensures.right) n w.in-CallLocal.is back
+    call_visited f is w.args.slot w.args.pending.now w.args.returned.now w.args.pass.now.visits p inside v e x.insn x-is (7 - w.args.left) (ap (λ (k : ℕ). 7 - k) (sym left)) w.resume.new.pending (record { exit = w.args.returned.now.exit; bound = w.max-returned.result }) w.resume.new.pass.visits (finds_same w.deref-2.result.now v x.insn (7 - w.args.left) None w.deref-2.ensures w.in_ok-begin.ensures.right) n w.in-CallLocal.is back
     (λ s rep none.
     subst (λ (k : ℕ). CalledBack f w.args.slot n s k (Some back) w.resume.new.pass.visits) w.in_ok-begin.ensures.count.0
     (subst (λ (k : ℕ). CalledBack f w.args.slot n s w.begin.new.self.visits (Some back) k) (sym w.resume.ensures.visits)
@@ -135,7 +134,7 @@ visit_slot-returns-in-Some-clause-right c w = λ f at left is p.
     (w.max-returned.ensures ∙ ap (λ (u : Visit). max w.args.returned.now.bound u.steps) w.deref-in-Some.ensures ∙ ap (λ (u : Visit). max w.args.returned.now.bound (u.steps + (1 + back.bound))) same)
 
 pub visit_slot-returns-in_default-2-clause-right : goal.visit_slot-returns-in_default-2-clause-right
-visit_slot-returns-in_default-2-clause-right c w = λ f at left is p.
+visit_slot-returns-in_default-2-clause-right g c w = λ f at left is p.
     let inside : w.args.slot < length w.args.pending.now = omega (arith, w.requires.inside, w.requires.long) in
     let x = w.in-Some-Some in
     let v : Visit = x.visit.value in
@@ -144,7 +143,7 @@ visit_slot-returns-in_default-2-clause-right c w = λ f at left is p.
     let n = w.in-CallLocal.offset in
     let again : cast_signed w32 (cast_unsigned w32 n) ≡ n = search rules in
     let none_back : w.in_ok-callee-in-CallLocal.field-0 ≡ None = is_none_of w.in_ok-callee-in-CallLocal.field-0 w.in_default-2.not-Some in
-    absurd (call_lands f is w.args.slot w.args.pending.now w.args.returned.now w.args.pass.now.visits p inside v e x.insn x-is (7 - w.args.left) (ap (λ (k : ℕ). 7 - k) (sym left)) w.args.pending.now w.args.returned.now w.call.new.pass.visits (finds_same w.deref.result.now v x.insn (7 - w.args.left) None w.deref.ensures w.in_ok-begin.ensures.right) n w.in-CallLocal.is
+    absurd (call_lands f is w.args.slot w.args.pending.now w.args.returned.now w.args.pass.now.visits p inside v e x.insn x-is (7 - w.args.left) (ap (λ (k : ℕ). 7 - k) (sym left)) w.args.pending.now w.args.returned.now w.call.new.pass.visits (finds_same w.deref-2.result.now v x.insn (7 - w.args.left) None w.deref-2.ensures w.in_ok-begin.ensures.right) n w.in-CallLocal.is
     (λ s rep none.
     subst (λ (k : ℕ). CalledBack f w.args.slot n s k None w.call.new.pass.visits) w.in_ok-begin.ensures.count.0
     (subst (λ (o : Option Returned). CalledBack f w.args.slot n s w.begin.new.self.visits o w.call.new.pass.visits) none_back
@@ -152,7 +151,7 @@ visit_slot-returns-in_default-2-clause-right c w = λ f at left is p.
     (w.in_ok-callee-in-CallLocal.ensures.right f s at left is (subst (λ (u : Visit). Represents u.state s) (sym w.deref-in-CallLocal.ensures) rep) (x-is ∙ ap Some w.in-CallLocal.is ∙ ap (λ (z : ℤ). Some (CallLocal z)) (sym again)) none)))))
 
 pub visit_slot-returns-in-Exit-clause-right : goal.visit_slot-returns-in-Exit-clause-right
-visit_slot-returns-in-Exit-clause-right c w = λ f at left is p.
+visit_slot-returns-in-Exit-clause-right g c w = λ f at left is p.
     let inside : w.args.slot < length w.args.pending.now = omega (arith, w.requires.inside, w.requires.long) in
     let x = w.in-Some-Some in
     let v : Visit = x.visit.value in
@@ -161,7 +160,7 @@ visit_slot-returns-in-Exit-clause-right c w = λ f at left is p.
     let m : Visit = w.deref_mut-in-Exit.result.now in
     let same : m ≡ v = w.deref_mut-in-Exit.ensures.value in
     let after : Returned = record { exit = Some w.joined.result; bound = w.max-returned-in-Exit.result } in
-    exit_visited f is w.args.slot w.args.pending.now w.args.returned.now w.args.pass.now.visits p inside v e x.insn x-is (7 - w.args.left) (ap (λ (k : ℕ). 7 - k) (sym left)) (set w.args.pending.now w.args.slot w.take.new.self) after w.joined.new.pass.visits (finds_same w.deref.result.now v x.insn (7 - w.args.left) None w.deref.ensures w.in_ok-begin.ensures.right) w.in-Exit.is
+    exit_visited f is w.args.slot w.args.pending.now w.args.returned.now w.args.pass.now.visits p inside v e x.insn x-is (7 - w.args.left) (ap (λ (k : ℕ). 7 - k) (sym left)) (set w.args.pending.now w.args.slot w.take.new.self) after w.joined.new.pass.visits (finds_same w.deref-2.result.now v x.insn (7 - w.args.left) None w.deref-2.ensures w.in_ok-begin.ensures.right) w.in-Exit.is
     (ap (λ (z : Option (Box Visit Global)). set w.args.pending.now w.args.slot z) w.take.ensures.after)
     (λ of rep.
     subst (λ (o : Option (Box Visit Global)). VisitJoined (visit_in o) of (v.steps + 1) (Some w.joined.result.value)) w.take-before.ensures.value
@@ -171,7 +170,7 @@ visit_slot-returns-in-Exit-clause-right c w = λ f at left is p.
     (w.max-returned-in-Exit.ensures ∙ ap (λ (u : Visit). max w.args.returned.now.bound u.steps) w.deref-in-Exit.ensures ∙ ap (λ (u : Visit). max w.args.returned.now.bound (u.steps + 1)) same)
 
 pub visit_slot-returns-in_ok-flow-in_default-insn-clause-few : goal.visit_slot-returns-in_ok-flow-in_default-insn-clause-few
-visit_slot-returns-in_ok-flow-in_default-insn-clause-few c w = λ base few.
+visit_slot-returns-in_ok-flow-in_default-insn-clause-few g c w = λ base few.
     let inside : w.args.slot < length w.args.pending.now = omega (arith, w.requires.inside, w.requires.long) in
     let x = w.in-Some-Some in
     let v : Visit = x.visit.value in
@@ -187,7 +186,7 @@ visit_slot-returns-in_ok-flow-in_default-insn-clause-few c w = λ base few.
     (flowed_from _ (m.steps + 1) (v.steps + 1) w.args.pending.now w.flow.new.pending w.args.slot w.take.new.self w.take.ensures.after (ap (λ (u : Visit). u.steps + 1) same) (w.in_ok-flow-in_default-insn.ensures.flowed (λ _ _. None) (own_marks words) w.in_default-insn.not-CallLocal (own_marks_are words)))
 
 pub visit_slot-returns-in_ok-flow-in_default-insn-clause-right : goal.visit_slot-returns-in_ok-flow-in_default-insn-clause-right
-visit_slot-returns-in_ok-flow-in_default-insn-clause-right c w = λ f at left is p.
+visit_slot-returns-in_ok-flow-in_default-insn-clause-right g c w = λ f at left is p.
     let inside : w.args.slot < length w.args.pending.now = omega (arith, w.requires.inside, w.requires.long) in
     let x = w.in-Some-Some in
     let v : Visit = x.visit.value in
@@ -195,7 +194,7 @@ visit_slot-returns-in_ok-flow-in_default-insn-clause-right c w = λ f at left is
     let x-is = insn_there f.code w.args.slots.now w.args.slot w.index-slots-slot.result at w.requires.inside w.index-slots-slot.is ∙ x.is-0 in
     let m : Visit = w.deref_mut-in_default-insn.result.now in
     let same : m ≡ v = w.deref_mut-in_default-insn.ensures.value in
-    other_visited f is w.args.slot w.args.pending.now w.args.returned.now w.args.pass.now.visits p inside v e x.insn x-is (7 - w.args.left) (ap (λ (k : ℕ). 7 - k) (sym left)) w.flow.new.pending (record { exit = w.args.returned.now.exit; bound = w.max-returned-in_default-insn.result }) w.flow.new.pass.visits (finds_same w.deref.result.now v x.insn (7 - w.args.left) None w.deref.ensures w.in_ok-begin.ensures.right) w.in_default-insn.not-CallLocal w.in_default-insn.not-Exit
+    other_visited f is w.args.slot w.args.pending.now w.args.returned.now w.args.pass.now.visits p inside v e x.insn x-is (7 - w.args.left) (ap (λ (k : ℕ). 7 - k) (sym left)) w.flow.new.pending (record { exit = w.args.returned.now.exit; bound = w.max-returned-in_default-insn.result }) w.flow.new.pass.visits (finds_same w.deref-2.result.now v x.insn (7 - w.args.left) None w.deref-2.ensures w.in_ok-begin.ensures.right) w.in_default-insn.not-CallLocal w.in_default-insn.not-Exit
     (subst (λ (u : Visit). (b : ℕ → model.AbstractState → Option model.AbstractState) (marked : ℕ → Bool) → Marks u.state.initialized.words marked → Flowed (edges b w.args.slot (state_of u.state.ranges marked) x.insn) (u.steps + 1) (taken w.args.pending.now w.args.slot) w.flow.new.pending) same
     (λ b marked marks. flowed_from _ (m.steps + 1) (m.steps + 1) w.args.pending.now w.flow.new.pending w.args.slot w.take.new.self w.take.ensures.after refl (w.in_ok-flow-in_default-insn.ensures.flowed b marked w.in_default-insn.not-CallLocal marks)))
     (w.in_ok-flow-in_default-insn.ensures.visits ∙ w.in_ok-begin.ensures.count.0)
@@ -203,7 +202,7 @@ visit_slot-returns-in_ok-flow-in_default-insn-clause-right c w = λ f at left is
     (w.max-returned-in_default-insn.ensures ∙ ap (λ (u : Visit). max w.args.returned.now.bound u.steps) w.deref-in_default-insn.ensures ∙ ap (λ (u : Visit). max w.args.returned.now.bound (u.steps + 1)) same)
 
 pub visit_slot-returns-in_ok-flow-in_default-insn-clause-long : goal.visit_slot-returns-in_ok-flow-in_default-insn-clause-long
-visit_slot-returns-in_ok-flow-in_default-insn-clause-long c w =
+visit_slot-returns-in_ok-flow-in_default-insn-clause-long g c w =
     let m : Visit = w.deref_mut-in_default-insn.result.now in
     let words = m.state.initialized.words in
     length_flow _ (m.steps + 1) (set w.args.pending.now w.args.slot w.take.new.self) w.flow.new.pending (w.in_ok-flow-in_default-insn.ensures.flowed (λ _ _. None) (own_marks words) w.in_default-insn.not-CallLocal (own_marks_are words)) ∙ length-set w.args.pending.now w.args.slot w.take.new.self
@@ -211,7 +210,7 @@ visit_slot-returns-in_ok-flow-in_default-insn-clause-long c w =
 -- ---- sweep
 
 pub sweep-loop-slot-preserved : goal.sweep-loop-slot-preserved
-sweep-loop-slot-preserved c w =
+sweep-loop-slot-preserved g c w =
     let i = w.loop-slot.invariant in
     record {
       long = w.in_ok-visit_slot.ensures.long ∙ i.long;
@@ -220,7 +219,7 @@ sweep-loop-slot-preserved c w =
     }
 
 pub sweep-returns-in_err-visit_slot-clause-refused : goal.sweep-returns-in_err-visit_slot-clause-refused
-sweep-returns-in_err-visit_slot-clause-refused c w =
+sweep-returns-in_err-visit_slot-clause-refused g c w =
     let same : IfErr w.from_residual.result (λ (e : Refusal). e ≡ w.in_err-visit_slot.field-0.0) = search rules in
     handed_on w.from_residual.result w.in_err-visit_slot.field-0.0 _ same
     (elim w.in_err-visit_slot.ensures.refused [
@@ -229,20 +228,49 @@ sweep-returns-in_err-visit_slot-clause-refused c w =
     ])
 
 pub sweep-returns-clause-right : goal.sweep-returns-clause-right
-sweep-returns-clause-right c w = λ f at left is start.
+sweep-returns-clause-right g c w = λ f at left is start.
     let many = ap length at in
     let end : w.loop-slot.slot ≡ length w.args.slots.now = omega (arith, w.loop-slot-test.false, w.loop-slot.auto.slot-end, w.requires.inside) in
     followed f is w.loop-slot.slot w.loop-slot.pending w.loop-slot.returned w.loop-slot.pass.visits (w.loop-slot.invariant.sweep f at left is start) (end ∙ many)
 
 -- ---- follow
 
+pub follow-sweep-requires : goal.follow-sweep-requires
+follow-sweep-requires g t c κs within =
+    let h = c.requires.told in
+    let told = h.1 in
+    let same = c.deref_mut.ensures.value in
+    let long : length c.deref_mut.result.now ≡ length c.args.slots.now = ap length same ∙ start_long c.in_ok-pending.pending.items (length c.args.slots.now) c.args.entry c.args.visit c.in_ok-pending.ensures in
+    let few : AreFew c.args.pass.now.visits c.args.pass.now.visits c.deref_mut.result.now 0 = subst (λ (l : Pending). AreFew c.args.pass.now.visits c.args.pass.now.visits l 0) (sym same) (start_few c.in_ok-pending.pending.items (length c.args.slots.now) c.args.entry c.args.pass.now.visits c.args.visit c.requires.inside c.in_ok-pending.ensures c.requires.steps c.requires.few) in (
+      search rules,
+      (
+        search rules,
+        (
+          c.requires.short,
+          (
+            c.requires.deep,
+            (
+              c.requires.inside,
+              (
+                long,
+                (
+                  few,
+                  (h.0, told, subst (λ (l : Pending). SweepAt h.0 c.args.entry l nothing_returned c.args.pass.now.visits) (sym c.deref_mut.ensures.value) (started h.0 told.entered c.in_ok-pending.pending.items c.args.slots.now c.args.visit c.args.entry c.args.pass.now.visits told.slots_are h.2 h.3 c.requires.inside c.in_ok-pending.ensures c.requires.steps h.4)),
+                ),
+              ),
+            ),
+          ),
+        ),
+      ),
+    )
+
 pub follow-returns-clause-right : goal.follow-returns-clause-right
-follow-returns-clause-right c w =
+follow-returns-clause-right g c w =
     if_ok w.sweep.result _ _ w.sweep.ensures.right (λ back h f at left entry base is rep.
     h f at left is (subst (λ (l : Pending). SweepAt f w.args.entry l nothing_returned w.args.pass.now.visits) (sym w.deref_mut.ensures.value) (started f is w.in_ok-pending.pending.items w.args.slots.now w.args.visit w.args.entry w.args.pass.now.visits at entry base w.requires.inside w.in_ok-pending.ensures w.requires.steps rep)))
 
 pub follow-returns-clause-refused : goal.follow-returns-clause-refused
-follow-returns-clause-refused c w =
+follow-returns-clause-refused g c w =
     if_err w.sweep.result _ _ w.sweep.ensures.refused (λ e h.
     elim h [
       | inl memory ↦ inl memory
@@ -252,8 +280,53 @@ follow-returns-clause-refused c w =
 
 -- ---- call
 
+pub call-returns-then-target-slots-clause-right : goal.call-returns-then-target-slots-clause-right
+call-returns-then-target-slots-clause-right g t c = λ f of at left is rep x-is none.
+    let x = c.in-Some-Some in
+    let n = c.args.offset in
+    let again : cast_signed w32 (cast_unsigned w32 n) ≡ n = search rules in
+    let leads : target_of c.args.slot n ≡ Some x.target = ap (target_of c.args.slot) (sym again) ∙ sym c.target_of.ensures ∙ x.is-0 in
+    let begins = is_callee f is c.args.slot n of x.target 0 0 x-is leads in
+    let less = insn_at_less f.code x.target begins.insn begins.begins in
+    let many = ap length at in
+    let outside = c.if-target-slots.true in
+    absurd (omega (arith, less, many, outside))
+
+pub call-follow-requires : goal.call-follow-requires
+call-follow-requires g t c κs within =
+    let h = c.requires.told in
+    let x = c.in-Some-Some in
+    let n = c.args.offset in
+    let again : cast_signed w32 (cast_unsigned w32 n) ≡ n = search rules in
+    let leads : target_of c.args.slot n ≡ Some x.target = ap (target_of c.args.slot) (sym again) ∙ sym c.target_of.ensures ∙ x.is-0 in
+    let one = x.ensures' in
+    let told = h.2 in
+    let left = told.left_is in
+    let depth : 7 - x.left ≡ 7 - (h.0).left + 1 = omega (arith, left, one.0, one.1, c.requires.deep) in (
+      search rules,
+      (
+        search rules,
+        (
+          c.requires.short,
+          (
+            search rules,
+            (
+              search rules,
+              (
+                search rules,
+                (
+                  search rules,
+                  (callee_of h.0 h.1 x.target x.left c.entered.new.self.visits, callee_told c.args.slots.now c.args.left x.left c.args.slot x.target n c.entered.new.self.visits h.0 h.1 told h.4 h.5 leads (omega (arith, one.0, one.1)) c.requires.deep, refl, refl, subst (λ (d : ℕ). Represents c.in_ok-callee.callee.value.state (entry_state d h.1)) depth (c.in_ok-callee.ensures.state h.1 h.3)),
+                ),
+              ),
+            ),
+          ),
+        ),
+      ),
+    )
+
 pub call-returns-in_err-follow-clause-refused : goal.call-returns-in_err-follow-clause-refused
-call-returns-in_err-follow-clause-refused c w =
+call-returns-in_err-follow-clause-refused g c w =
     let same : IfErr w.from_residual-in_err-follow.result (λ (e : Refusal). e ≡ w.in_err-follow.field-0.0) = search rules in
     handed_on w.from_residual-in_err-follow.result w.in_err-follow.field-0.0 _ same
     (elim w.in_err-follow.ensures.refused [
@@ -271,7 +344,7 @@ call-returns-in_err-follow-clause-refused c w =
     ])
 
 pub call-returns-clause-right : goal.call-returns-clause-right
-call-returns-clause-right c w = λ f of at left is rep x-is none.
+call-returns-clause-right g c w = λ f of at left is rep x-is none.
     let x = w.in-Some-Some in
     let n = w.args.offset in
     let again : cast_signed w32 (cast_unsigned w32 n) ≡ n = search rules in

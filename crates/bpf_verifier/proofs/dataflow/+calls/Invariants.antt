@@ -4,19 +4,19 @@ use Rattle.bpf_verifier.specs.Sweep.{Entered, IsEntered, AreFew, SweepAt, nothin
 use Rattle.bpf_verifier.proofs.dataflow.+calls.Given as goal
 
 abbrev pub decreases-follow : goal.decreases-follow
-decreases-follow l = 4 * l.left + 3
+decreases-follow g l = 4 * l.left + 3
 
 abbrev pub decreases-sweep : goal.decreases-sweep
-decreases-sweep l = 4 * l.left + 2
+decreases-sweep g l = 4 * l.left + 2
 
 abbrev pub decreases-visit_slot : goal.decreases-visit_slot
-decreases-visit_slot l = 4 * l.left + 1
+decreases-visit_slot g l = 4 * l.left + 1
 
 abbrev pub decreases-call : goal.decreases-call
-decreases-call l = 4 * l.left
+decreases-call g l = 4 * l.left
 
 abbrev pub invariant-sweep-loop-slot : goal.invariant-sweep-loop-slot
-invariant-sweep-loop-slot l = record {
+invariant-sweep-loop-slot g l = record {
   long : length l.pending ≡ length l.slots;
   few : AreFew l.fn.pass.visits l.pass.visits l.pending l.returned.bound;
   sweep : (f : Entered) → l.slots ≡ insns_by_slot f.code → f.left ≡ l.left → IsEntered f → SweepAt f l.entry l.fn.pending nothing_returned l.fn.pass.visits → SweepAt f l.slot l.pending l.returned l.pass.visits;
