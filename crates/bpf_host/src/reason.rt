@@ -4,7 +4,7 @@ use crate::explain::Reached;
 use crate::numbers::{Base, Numbers};
 use bpf_decode::{DecodeFault, Insn, Size, Source, decode_all};
 use bpf_model::layout::{
-    ARGUMENTS_END, ARGUMENTS_SIZE, ARGUMENTS_START, FRAME_END, FRAME_SIZE, FRAME_START,
+    ARGUMENTS_END, ARGUMENTS_SIZE, ARGUMENTS_START, FRAME_END, FRAME_SIZE, FRAME_START, FRAMES,
 };
 use bpf_verifier::{AbstractState, Refusal, VerifyFault};
 use map_helpers::{Access, Extent, Helper};
@@ -15,11 +15,35 @@ use std::fmt;
 /// The bytes of a slot.
 const SLOT: usize = 8;
 
-/// Memory that an instruction may touch.
+/// What an instruction does with memory.
+#[derive(Clone, Copy, PartialEq, Eq)]
+enum AccessKind {
+    /// A load.
+    Load,
+    /// A store.
+    Store,
+    /// A helper reads.
+    Read,
+    /// A helper writes.
+    Write,
+}
+
+impl fmt::Display for AccessKind {
+    fn fmt<W: fmt::Write>(&self, f: &mut fmt::Formatter<W>) -> fmt::Result {
+        match self {
+            AccessKind::Load => write!(f, "loads"),
+            AccessKind::Store => write!(f, "stores"),
+            AccessKind::Read => write!(f, "reads"),
+            AccessKind::Write => write!(f, "writes"),
+        }
+    }
+}
+
+/// Memory that an instruction may access.
 #[derive(Clone, Copy)]
-struct Touch {
+struct MemoryAccess {
     /// What it does there.
-    verb: &'static str,
+    kind: AccessKind,
     /// The register that a helper takes the address from.
     register: Option<u8>,
     /// Where it begins.
@@ -42,7 +66,7 @@ pub(crate) fn reason(
         (VerifyFault::Decode(fault), _) => reason_of_decode(alloc, code, fault, slot as usize),
         (VerifyFault::TooComplex, _) => format!(in alloc; "65536 visits were made before this one"),
         (VerifyFault::CallDepth, _) => format!(in alloc;
-            "calls a function with all 8 frames in use"
+            "calls a function with all {FRAMES} frames in use"
         ),
         (VerifyFault::UninitRegister, Some(last)) => reason_of_register(alloc, last),
         (VerifyFault::BadAccess, Some(last)) => reason_of_access(alloc, last),
@@ -113,7 +137,7 @@ fn reason_of_structure(
             }
         }
         (VerifyFault::UnknownHelper, Some(Insn::CallHelper { helper })) => {
-            format!(in alloc; "calls helper {helper}, and there are helpers 1 to 7")
+            format!(in alloc; "calls helper {helper}, which this host does not have")
         }
         (VerifyFault::FallsOffEnd, _) => format!(in alloc;
             "ends the code, and is neither an exit nor a jump"
@@ -194,10 +218,10 @@ fn register_of(src: Source) -> Option<u8> {
 
 /// Which access may leave the stack and the arguments, and by how much.
 fn reason_of_access(alloc: Global, last: &Reached) -> Result<String, AllocError> {
-    for touch in touches(alloc, last)? {
-        if let Some(excess) = excess(alloc, last.depth, touch)? {
-            let touch = text_of(alloc, touch)?;
-            return format!(in alloc; "{touch}, which {excess}");
+    for access in memory_accesses(alloc, last)? {
+        if let Some(excess) = excess(alloc, last.depth, access)? {
+            let access = text_of(alloc, access)?;
+            return format!(in alloc; "{access}, which {excess}");
         }
     }
     format!(in alloc; "touches memory that may lie outside the stack and the arguments")
@@ -205,55 +229,55 @@ fn reason_of_access(alloc: Global, last: &Reached) -> Result<String, AllocError>
 
 /// Which byte of the stack is read that may not be initialized.
 fn reason_of_bytes(alloc: Global, last: &Reached) -> Result<String, AllocError> {
-    for touch in touches(alloc, last)? {
-        if touch.verb == "writes" || touch.range.lo >= ARGUMENTS_START {
+    for access in memory_accesses(alloc, last)? {
+        if access.kind == AccessKind::Write || access.range.lo >= ARGUMENTS_START {
             continue;
         }
-        for address in touch.range.lo..touch.range.hi.saturating_add(touch.size) {
+        for address in access.range.lo..access.range.hi.saturating_add(access.size) {
             if !last.state.has_byte_at(address) {
                 let byte = Numbers::of_address(Range::single(address));
-                let touch = text_of(alloc, touch)?;
-                return format!(in alloc; "{touch}, and the byte at {byte} may not be initialized");
+                let access = text_of(alloc, access)?;
+                return format!(in alloc; "{access}, and the byte at {byte} may not be initialized");
             }
         }
     }
     format!(in alloc; "reads bytes of the stack that may not be initialized")
 }
 
-/// The memory that an instruction may touch, in the order in which it is checked.
-fn touches(alloc: Global, last: &Reached) -> Result<Vec<Touch>, AllocError> {
+/// The memory that an instruction may access, in the order in which it is checked.
+fn memory_accesses(alloc: Global, last: &Reached) -> Result<Vec<MemoryAccess>, AllocError> {
     let mut all = Vec::new(alloc);
-    let (size, base, offset, verb) = match last.insn {
+    let (size, base, offset, kind) = match last.insn {
         Insn::Load {
             size,
             base,
             offset,
             ..
-        } => (size, base, offset, "loads"),
+        } => (size, base, offset, AccessKind::Load),
         Insn::StoreImm {
             size,
             base,
             offset,
             ..
-        } => (size, base, offset, "stores"),
+        } => (size, base, offset, AccessKind::Store),
         Insn::Store {
             size,
             base,
             offset,
             ..
-        } => (size, base, offset, "stores"),
+        } => (size, base, offset, AccessKind::Store),
         Insn::CallHelper { helper } => {
             if let Some(helper) = Helper::of(helper) {
-                push_accesses(&mut all, &last.state, helper.reads(), "reads")?;
-                push_accesses(&mut all, &last.state, helper.writes(), "writes")?;
+                push_accesses(&mut all, &last.state, helper.reads(), AccessKind::Read)?;
+                push_accesses(&mut all, &last.state, helper.writes(), AccessKind::Write)?;
             }
             return Ok(all);
         }
         _ => return Ok(all),
     };
     if let Some(range) = last.state.address_range(base, offset) {
-        all.push(Touch {
-            verb,
+        all.push(MemoryAccess {
+            kind,
             register: None,
             range,
             size: bytes_of(size),
@@ -265,10 +289,10 @@ fn touches(alloc: Global, last: &Reached) -> Result<Vec<Touch>, AllocError> {
 
 /// Adds the memory that a helper touches.
 fn push_accesses(
-    all: &mut Vec<Touch>,
+    all: &mut Vec<MemoryAccess>,
     state: &AbstractState,
     accesses: &[Access],
-    verb: &'static str,
+    kind: AccessKind,
 ) -> Result<(), AllocError> {
     for access in accesses {
         let most = match access.size {
@@ -276,8 +300,8 @@ fn push_accesses(
             Extent::Second => state.range_of(2),
         };
         if let (Some(range), Some(most)) = (state.range_of(access.register), most) {
-            all.push(Touch {
-                verb,
+            all.push(MemoryAccess {
+                kind,
                 register: Some(access.register),
                 range,
                 size: most.hi,
@@ -314,27 +338,27 @@ impl fmt::Display for Bytes {
 }
 
 /// What is done where.
-fn text_of(alloc: Global, touch: Touch) -> Result<String, AllocError> {
-    let Touch {
-        verb,
+fn text_of(alloc: Global, access: MemoryAccess) -> Result<String, AllocError> {
+    let MemoryAccess {
+        kind,
         register,
         range,
         size,
         at_most,
-    } = touch;
+    } = access;
     let addresses = Numbers::of_address(range);
     let most = if at_most { "up to " } else { "" };
     let bytes = Bytes(size);
     match register {
-        Some(register) => { format!(in alloc; "{verb} {most}{bytes} at r{register} = {addresses}") }
-        None => format!(in alloc; "{verb} {most}{bytes} at {addresses}"),
+        Some(register) => { format!(in alloc; "{kind} {most}{bytes} at r{register} = {addresses}") }
+        None => format!(in alloc; "{kind} {most}{bytes} at {addresses}"),
     }
 }
 
 /// How an access may leave the frames in use and the arguments, if it may.
-fn excess(alloc: Global, depth: u32, touch: Touch) -> Result<Option<String>, AllocError> {
-    let Touch { range, size, .. } = touch;
-    let (may, s) = if range.is_single() && !touch.at_most {
+fn excess(alloc: Global, depth: u32, access: MemoryAccess) -> Result<Option<String>, AllocError> {
+    let MemoryAccess { range, size, .. } = access;
+    let (may, s) = if range.is_single() && !access.at_most {
         ("", "s")
     } else {
         ("may ", "")

@@ -231,7 +231,7 @@ pub(super) const REASONS: [(&str, &str, &str); 25] = [
     (
         "8500000008000000 9500000000000000",
         "refused 14 UnknownHelper at 0",
-        "calls helper 8, and there are helpers 1 to 7",
+        "calls helper 8, which this host does not have",
     ),
     (
         "b70a000000000000 9500000000000000",
