@@ -24,15 +24,16 @@ const MAX_ARGUMENTS: usize = 256;
 const EXAMPLES: &str = "\
 Code and --args are hex, of either case; spaces, tabs and line ends are skipped. asm reads a text,
 one instruction or one label (`name:`) a line, and prints its code; disasm prints such a text.
-No command means exec.
+No command means exec. world reads a script (docs/SCRIPTS.md); its faults name their step.
 
 Examples:
   echo 'b700000007000000 9500000000000000' | bpf_host exec
   echo 'bf20000000000000 9500000000000000' | bpf_host exec --args '0a 0b' --client 100
   bpf_host verify < code.hex
   echo '7110000000000000 9500000000000000' | bpf_host verify --explain
-  printf 'mov64 r0, 7\nexit\n' | bpf_host asm
+  printf 'mov64 r0, 7\\nexit\\n' | bpf_host asm
   echo 'b700000007000000 9500000000000000' | bpf_host disasm
+  bpf_host world < examples/worlds/normal_day.toml
 
 Status: 0 done, 1 refused, 2 a fault of the command line, 3 out of memory, 4 a read or write failed";
 
@@ -65,7 +66,7 @@ pub(crate) fn report<O: Write>(failure: &Failure, writer: &mut O) -> u8 {
 /// The commands and their options.
 fn command_line<'a>(alloc: Global) -> Result<Command<'a>, AllocError> {
     Command::new(alloc, "bpf_host")
-        .about("Assembles, verifies and runs BPF procedures, read on standard input")
+        .about("Runs BPF procedures, alone or on replicas, read on standard input")
         .after_help(EXAMPLES)
         .subcommand(Command::new(alloc, "asm").about(
             "Reads an assembler text and prints its code",

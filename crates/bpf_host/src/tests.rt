@@ -449,6 +449,18 @@ fn reasons_of_refusals(rt: HostRuntime) -> Result<(), Fail> {
 }
 
 #[test]
+fn a_reason_of_too_many_slots(rt: HostRuntime) -> Result<(), Fail> {
+    let slots = "b700000000000000".repeat(rt.alloc(), 1025)?;
+    let (status, written) = explained(&rt, &slots)?;
+    assert_eq!(rt; status, 1);
+    assert_eq!(rt;
+        written.as_str(),
+        "refused 3 TooLong at 0\nwhy: there are 1025 slots, and at most 1024 are taken\n"
+    );
+    Ok(())
+}
+
+#[test]
 fn an_explanation_of_too_many_visits(rt: HostRuntime) -> Result<(), Fail> {
     let code = code_of_two_calls_each(&rt, 509)?;
     let (status, written) = explained(&rt, &code)?;
