@@ -77,9 +77,10 @@ impl World {
 
     /// Lets an event happen, and returns the row that it gave. There is none where the replica is faulty
     /// or has stopped, where it stops at this event, and where it refuses the bytes. After
-    /// `NoSuchReplica` and `NoSuchOutput` the world is as it was.
+    /// `NoSuchReplica` and `NoSuchOutput` the world is as it was, after `Memory` only its configuration.
     pub fn event(&mut self, event: &Event) -> Result<Option<Row>, WorldFault>
-        ensures { Happens self.old event.now result self.new }
+        ensures happens { Happens self.old event.now result self.new }
+        ensures config { self.new.config ≡ self.old.config }
     {
         match event {
             Event::Deliver { to, bytes } => self.deliver(*to, bytes.as_slice()),
@@ -118,7 +119,8 @@ impl World {
     }
 
     fn deliver(&mut self, to: ReplicaId, bytes: &[u8]) -> Result<Option<Row>, WorldFault>
-        ensures { UnlessMemory result (Gives self.old (events.Deliver to bytes.now) result self.new) }
+        ensures given { UnlessMemory result (Gives self.old (events.Deliver to bytes.now) result self.new) }
+        ensures config { self.new.config ≡ self.old.config }
     {
         if !self.has(to) {
             return Err(WorldFault::NoSuchReplica);
@@ -128,7 +130,8 @@ impl World {
 
     /// Opens bytes that come to a replica, and hands them to it.
     fn open_at(&mut self, to: ReplicaId, bytes: &[u8]) -> Result<Option<Row>, WorldFault>
-        ensures { UnlessMemory result (Delivers self.old to.0 (opening self.old.config bytes.now) result self.new) }
+        ensures given { UnlessMemory result (Delivers self.old to.0 (opening self.old.config bytes.now) result self.new) }
+        ensures config { self.new.config ≡ self.old.config }
     {
         if self.member(to).is_none() {
             return Ok(None);
@@ -146,7 +149,8 @@ impl World {
         from: ReplicaId,
         number: u64,
     ) -> Result<Option<Row>, WorldFault>
-        ensures { UnlessMemory result (Gives self.old (events.Forward to from number) result self.new) }
+        ensures given { UnlessMemory result (Gives self.old (events.Forward to from number) result self.new) }
+        ensures config { self.new.config ≡ self.old.config }
     {
         if !self.has(to) || !self.has(from) {
             return Err(WorldFault::NoSuchReplica);
@@ -162,7 +166,8 @@ impl World {
     }
 
     fn time_out(&mut self, at: ReplicaId) -> Result<Option<Row>, WorldFault>
-        ensures { UnlessMemory result (Gives self.old (events.Timeout at) result self.new) }
+        ensures given { UnlessMemory result (Gives self.old (events.Timeout at) result self.new) }
+        ensures config { self.new.config ≡ self.old.config }
     {
         if !self.has(at) {
             return Err(WorldFault::NoSuchReplica);
@@ -173,7 +178,8 @@ impl World {
     /// Hands an opened message to a replica; a faulty one gives nothing.
     fn hand(&mut self, id: ReplicaId, message: &Checked) -> Result<Option<Row>, WorldFault>
         requires config { message.now.config ≡ self.old.config }
-        ensures { UnlessMemory result (Comes self.old id.0 (inputs.Message message.now) result self.new) }
+        ensures given { UnlessMemory result (Comes self.old id.0 (inputs.Message message.now) result self.new) }
+        ensures config { self.new.config ≡ self.old.config }
     {
         let Some(index) = self.index_of(id) else {
             return Ok(None);
@@ -184,7 +190,8 @@ impl World {
 
     /// Hands a timeout to a replica; a faulty one gives nothing.
     fn hand_timeout(&mut self, id: ReplicaId) -> Result<Option<Row>, WorldFault>
-        ensures { UnlessMemory result (Comes self.old id.0 inputs.Timeout result self.new) }
+        ensures given { UnlessMemory result (Comes self.old id.0 inputs.Timeout result self.new) }
+        ensures config { self.new.config ≡ self.old.config }
     {
         let Some(index) = self.index_of(id) else {
             return Ok(None);

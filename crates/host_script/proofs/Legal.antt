@@ -1,15 +1,15 @@
 -- A head's configuration is legal whatever the keys.
-use Rattle.std.proofs.Common.{◌≡◌, ℕ, suc, ◌+◌, ◌==◌, ◌≤◌, Bool, ◌||◌, not, ◌&&◌, nat_le, nat_lt, List, [], ◌∷◌, length, map, Option, Some, None, refl, sym, ap, ◌∙◌, subst, if◌then◌else◌}
+use Rattle.std.proofs.Common.{◌≡◌, ℕ, suc, ◌==◌, Bool, ◌||◌, not, ◌&&◌, nat_le, nat_lt, List, [], ◌∷◌, length, map, Option, Some, None, refl, sym, ap, ◌∙◌, subst, if◌then◌else◌}
 use Rattle.std.specs.Prelude.{fold, replicate}
 use Rattle.std.specs.List.{list_any}
 use Rattle.std.proofs.lemmas.List.{length-map, length-replicate}
-use Rattle.host_types.specs.Configuration.{Configuration, fault_of, insert_sorted, replicas_for, some_client_twice, tenants_of, too_many}
+use Rattle.host_types.specs.Configuration.{fault_of, insert_sorted, replicas_for, some_client_twice, tenants_of, too_many}
 use Rattle.host_types.specs.declared.TenantId.{TenantId}
 use Rattle.host_types.specs.declared.config.ClientEntry.{ClientEntry}
 use Rattle.host_types.specs.declared.config.ConfigFault.{ConfigFault}
 use Rattle.host_types.specs.declared.config.ConfigFault.TheVariants.{BadF, WrongReplicaCount, BadInterval, TooMany, DuplicateClient}
 use Rattle.lms_tree.specs.SigningState.{SigningState}
-use Rattle.script_text.specs.Heads.{HeadFacts, IsLegal, keyless, keyless_configuration, no_key}
+use Rattle.script_text.specs.Heads.{HeadFacts, IsLegal, keyless, no_key}
 use Rattle.script_text.specs.declared.script.Client.{Client}
 use Rattle.host_script.specs.Keys.{key_of, unkeyed}
 

@@ -1,2 +1,13 @@
+mod Deliveries
+mod Delivering
+mod Entries
 mod Legal
 mod Listed
+mod Lists
+mod Parties
+mod Playing
+mod Reporting
+mod Shown
+mod Timing
+mod Turns
+mod Written

@@ -1,5 +1,5 @@
 -- The signers of a script have the keys that are listed.
-use Rattle.std.proofs.Common.{◌≡◌, ◌≢◌, ℕ, zero, suc, ◌+◌, ◌-◌, ◌<◌, ◌==◌, Bool, true, false, not, cond, List, [], ◌∷◌, ◌++◌, length, map, drop, Option, Some, None, refl, sym, ap, subst, ◌∙◌, arith, if◌then◌else◌}
+use Rattle.std.proofs.Common.{◌≡◌, ◌≢◌, ℕ, zero, suc, ◌+◌, ◌<◌, Bool, true, false, not, cond, List, [], ◌∷◌, length, map, drop, Option, Some, refl, sym, ap, subst, ◌∙◌, arith, if◌then◌else◌}
 use Rattle.std.specs.Prelude.{IsSomeAnd, filter, slice_get, slice_index_or, AllPairs}
 use Rattle.std.proofs.lemmas.List.{drop_more, length-map}
 use Rattle.std.specs.List.{range_with_len}
@@ -8,8 +8,6 @@ use Rattle.host_types.specs.Configuration.{Configuration, IsConfiguration, entry
 use Rattle.host_types.specs.declared.config.ClientEntry.{ClientEntry}
 use Rattle.lms_tree.specs.Keys.{IsKeyOf}
 use Rattle.lms_tree.specs.SigningState.{SigningState}
-use Rattle.pbft_codec.specs.declared.signed.Role.TheVariants as roles
-use Rattle.seal.specs.Signers.{key_of as listed_key}
 use Rattle.byz_world.specs.Worlds.{AreListed, correct_ids}
 use Rattle.host_script.specs.Keys.{correct_from, key_of}
 

@@ -1,2 +1,11 @@
+pub mod Endings
 pub mod Faults
 pub mod Keys
+pub mod Letters
+pub mod Lines
+pub mod Parts
+pub mod Running
+pub mod Scripts
+pub mod Stages
+pub mod Starts
+pub mod Writing

@@ -1,9 +1,7 @@
 //! Why a step ends a script.
 
-use byz_world::WorldFault;
 use script_text::ScriptKind;
-use std::alloc::{AllocError, AllocFailed};
-use std::io;
+use std::alloc::AllocError;
 
 /// Why a step ends a script.
 #[derive(Clone, Copy, Debug, PartialEq, Eq)]
@@ -20,40 +18,6 @@ impl From<AllocError> for RunFault {
     ghost from_gives = { λ _ gives. gives ≡ Memory };
 
     fn from(_: AllocError) -> RunFault {
-        RunFault::Memory
-    }
-}
-
-impl<T: Drop> From<AllocFailed<T>> for RunFault {
-    ghost use Rattle.std.specs.Prelude.{◌≡◌};
-    ghost use Rattle.host_script.specs.declared.fault.RunFault.TheVariants.{Memory};
-
-    ghost from_gives = { λ _ gives. gives ≡ Memory };
-
-    fn from(_: AllocFailed<T>) -> RunFault {
-        RunFault::Memory
-    }
-}
-
-impl From<io::Error> for RunFault {
-    ghost use Rattle.std.specs.Prelude.{◌≡◌};
-    ghost use Rattle.host_script.specs.declared.fault.RunFault.TheVariants.{Write};
-
-    ghost from_gives = { λ _ gives. gives ≡ Write };
-
-    fn from(_: io::Error) -> RunFault {
-        RunFault::Write
-    }
-}
-
-/// No event names a replica or an output that is not there, so a world refuses for want of memory alone.
-impl From<WorldFault> for RunFault {
-    ghost use Rattle.std.specs.Prelude.{◌≡◌};
-    ghost use Rattle.host_script.specs.declared.fault.RunFault.TheVariants.{Memory};
-
-    ghost from_gives = { λ _ gives. gives ≡ Memory };
-
-    fn from(_: WorldFault) -> RunFault {
         RunFault::Memory
     }
 }

@@ -1,5 +1,7 @@
 //! The bytes of a script.
 
+ghost use Rattle.host_script.specs.Running.{ReadsAll};
+
 use script_text::{MAX_SCRIPT, ScriptKind};
 use std::alloc::Global;
 use std::io::Read;
@@ -9,7 +11,9 @@ const CHUNK: usize = 4096;
 
 /// Reads to the end: `TooLong` where there are more bytes than a script has, `Read` where a read fails,
 /// `Memory` where memory runs out.
-pub(crate) fn read_input<I: Read>(alloc: Global, reader: &mut I) -> Result<Vec<u8>, ScriptKind> {
+pub(crate) fn read_input<I: Read>(alloc: Global, reader: &mut I) -> Result<Vec<u8>, ScriptKind>
+    ensures { ReadsAll (I.remaining reader.old) result }
+{
     let mut input = Vec::new(alloc);
     let mut chunk = [0; CHUNK];
     for _ in 0..=MAX_SCRIPT {

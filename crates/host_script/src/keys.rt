@@ -3,8 +3,7 @@
 ghost use Rattle.std.specs.Prelude.{◌≡◌, IfOk, length, map};
 ghost use Rattle.host_types.specs.Configuration.{replicas_for};
 ghost use Rattle.host_types.specs.declared.config.ClientEntry.{ClientEntry};
-ghost use Rattle.script_text.specs.Heads.{keyless};
-ghost use Rattle.host_script.specs.Keys.{AreKeys, key_of, unkeyed};
+ghost use Rattle.host_script.specs.Keys.{AreKeys, client_signer, configuration_of, entry_of, key_hash, key_of, mark_of, number_of, part_number, replica_signers, signer_of};
 
 use host_types::{ClientEntry, ClientId, Config, ReplicaId};
 use lms_tree::{Height, Signer};
@@ -21,14 +20,18 @@ enum Owner {
 
 impl Owner {
     /// What tells the keys of replicas from those of clients.
-    fn mark(self) -> u8 {
+    fn mark(self) -> u8
+        ensures { result ≡ mark_of self }
+    {
         match self {
             Owner::Replica(_) => 0x52,
             Owner::Client(_) => 0x43,
         }
     }
 
-    fn number(self) -> u32 {
+    fn number(self) -> u32
+        ensures { result ≡ number_of self }
+    {
         match self {
             Owner::Replica(id) => u32::from(id.0),
             Owner::Client(id) => id.0,
@@ -43,6 +46,14 @@ enum Part {
     Seed = 1,
 }
 
+impl Part {
+    fn number(self) -> u8
+        ensures { result ≡ part_number self }
+    {
+        self as u8
+    }
+}
+
 /// A configuration, and fresh signers of the keys that it lists.
 #[derive(Drop)]
 pub(crate) struct Keys {
@@ -55,7 +66,11 @@ pub(crate) struct Keys {
 }
 
 /// The configuration of a head, with fresh signers.
-pub(crate) fn make_keys(alloc: Global, head: &Head) -> Result<Keys, AllocError> {
+pub(crate) fn make_keys(alloc: Global, head: &Head) -> Result<Keys, AllocError>
+    ensures config { IfOk result (λ keys. keys.config ≡ configuration_of head.now) }
+    ensures replicas { IfOk result (λ keys. keys.replicas.items ≡ replica_signers head.now) }
+    ensures clients { IfOk result (λ keys. keys.clients.items ≡ map (client_signer head.now) head.now.clients) }
+{
     let replicas = replica_signers(alloc, head)?;
     let keys = public_keys(alloc, &replicas)?;
     let (entries, clients) = client_signers(alloc, head)?;
@@ -71,7 +86,7 @@ pub(crate) fn make_keys(alloc: Global, head: &Head) -> Result<Keys, AllocError> 
 
 /// A signer for each replica, ids ascending.
 fn replica_signers(alloc: Global, head: &Head) -> Result<Vec<Signer>, AllocError>
-    ensures { IfOk result (λ signers. length signers.items ≡ replicas_for head.now.f) }
+    ensures { IfOk result (λ signers. signers.items ≡ replica_signers head.now) }
 {
     let mut signers = Vec::new(alloc);
     for id in 0..head.replica_count() {
@@ -97,8 +112,8 @@ fn public_key(signer: &Signer) -> [u8; 56]
 
 /// What is listed of the clients, in the order of the head, and a signer for each.
 fn client_signers(alloc: Global, head: &Head) -> Result<(Vec<ClientEntry>, Vec<Signer>), AllocError>
-    ensures keys { IfOk result (λ made. map (λ (e : ClientEntry). e.key) made.0.items ≡ map key_of made.1.items) }
-    ensures entries { IfOk result (λ made. map unkeyed made.0.items ≡ map keyless head.now.clients) }
+    ensures entries { IfOk result (λ made. made.0.items ≡ map (entry_of head.now) head.now.clients) }
+    ensures signers { IfOk result (λ made. made.1.items ≡ map (client_signer head.now) head.now.clients) }
 {
     let mut entries = Vec::new(alloc);
     let mut signers = Vec::new(alloc);
@@ -121,7 +136,9 @@ fn make_signer(
     owner: Owner,
     height: Height,
     secret: &Secret,
-) -> Result<Signer, AllocError> {
+) -> Result<Signer, AllocError>
+    ensures { IfOk result (λ s. s ≡ signer_of owner height secret.now) }
+{
     let hash = hash_of(owner, Part::Identity, secret);
     let mut identity = [0; 16];
     identity.copy_from_slice(&hash[..16]);
@@ -129,11 +146,13 @@ fn make_signer(
     Signer::from_seed(alloc, height, identity, seed)
 }
 
-fn hash_of(owner: Owner, part: Part, secret: &Secret) -> [u8; 32] {
+fn hash_of(owner: Owner, part: Part, secret: &Secret) -> [u8; 32]
+    ensures { result ≡ key_hash owner (part_number part) secret.now }
+{
     let mut hasher = Sha256::new();
     hasher.update([owner.mark()]);
     hasher.update(owner.number().to_be_bytes());
-    hasher.update([part as u8]);
+    hasher.update([part.number()]);
     hasher.update(secret.0);
     hasher.finalize()
 }

@@ -12,10 +12,12 @@ mod forging;
 mod input;
 mod keys;
 mod lines;
+mod made;
 mod play;
 mod queue;
 mod sessions;
 mod stage;
+mod writing;
 
 pub use play::run_script;
 pub use script_text::{Script, ScriptFault, ScriptKind, read_script};

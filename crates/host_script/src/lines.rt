@@ -1,21 +1,18 @@
 //! The lines that a script prints.
 
-use crate::fault::RunFault;
+ghost use Rattle.std.specs.Prelude.{◌≡◌, IfOk, string_bytes};
+ghost use Rattle.host_script.specs.Lines.{digest_line, refusal_line, reply_line, state_line, status_line};
+
 use host_types::{ReplicaId, Reply};
 use replica_core::Status;
 use seal::SealFault;
 use service_core::State;
 use std::alloc::{AllocError, Global};
-use std::io::Write;
-
-/// Writes a line whole.
-pub(crate) fn write_line<O: Write>(writer: &mut O, line: &str) -> Result<(), RunFault> {
-    writer.write_all(line.as_bytes())?;
-    Ok(())
-}
 
 /// What a client has accepted.
-pub(crate) fn line_of_reply(alloc: Global, reply: &Reply) -> Result<String, AllocError> {
+pub(crate) fn line_of_reply(alloc: Global, reply: &Reply) -> Result<String, AllocError>
+    ensures { IfOk result (λ line. string_bytes line ≡ reply_line reply.now) }
+{
     let client = reply.client.0;
     let time = reply.time;
     let number = reply.number.0;
@@ -28,7 +25,9 @@ pub(crate) fn line_of_refusal(
     alloc: Global,
     id: ReplicaId,
     fault: SealFault,
-) -> Result<String, AllocError> {
+) -> Result<String, AllocError>
+    ensures { IfOk result (λ line. string_bytes line ≡ refusal_line id fault) }
+{
     let id = id.0;
     format!(in alloc; "refused {id} {fault}\n")
 }
@@ -38,7 +37,9 @@ pub(crate) fn line_of_status(
     alloc: Global,
     id: ReplicaId,
     status: &Status,
-) -> Result<String, AllocError> {
+) -> Result<String, AllocError>
+    ensures { IfOk result (λ line. string_bytes line ≡ status_line id status.now) }
+{
     let id = id.0;
     if let Some(halt) = status.halted {
         let number = halt.number();
@@ -56,7 +57,9 @@ pub(crate) fn line_of_digest(
     alloc: Global,
     id: ReplicaId,
     state: &State,
-) -> Result<String, AllocError> {
+) -> Result<String, AllocError>
+    ensures { IfOk result (λ line. string_bytes line ≡ digest_line id state.now) }
+{
     let id = id.0;
     let number = state.number().0;
     let digest = hex::encode(alloc, state.digest().0)?;
@@ -68,7 +71,9 @@ pub(crate) fn line_of_state(
     alloc: Global,
     id: ReplicaId,
     state: &State,
-) -> Result<String, AllocError> {
+) -> Result<String, AllocError>
+    ensures { IfOk result (λ line. string_bytes line ≡ state_line id state.now) }
+{
     let id = id.0;
     let bytes = state.to_bytes()?;
     let digits = hex::encode(alloc, bytes.as_slice())?;

@@ -1,5 +1,11 @@
 //! A script from a reader to a writer.
 
+ghost use Rattle.std.specs.Prelude.{◌≡◌, ◌≢◌, ◌⊎◌, ◌++◌, OnOk, IfErr, IsOk};
+ghost use Rattle.std.specs.Io.KnownBytes.{Appends};
+ghost use Rattle.script_text.specs.declared.fault.ScriptKind.TheVariants as kinds;
+ghost use Rattle.host_script.specs.Running.{PlaysWhatIsRead, Reports, RunsSteps};
+ghost use Rattle.host_script.specs.Scripts.{WritesWhatIsRead};
+
 use crate::input::read_input;
 use crate::stage::Stage;
 use script_text::{Script, ScriptFault, ScriptKind, read_script};
@@ -12,7 +18,9 @@ pub fn run_script<I: Read, O: Write>(
     alloc: Global,
     reader: &mut I,
     writer: &mut O,
-) -> Result<(), ScriptFault> {
+) -> Result<(), ScriptFault>
+    ensures { WritesWhatIsRead (I.remaining reader.old) (O.contents writer.old) (O.contents writer.new) result }
+{
     match play(alloc, reader, writer) {
         Ok(()) => Ok(()),
         Err(fault) => Err(report(fault, writer)),
@@ -20,40 +28,42 @@ pub fn run_script<I: Read, O: Write>(
 }
 
 /// Reads a script and runs its steps.
-fn play<I: Read, O: Write>(
-    alloc: Global,
-    reader: &mut I,
-    writer: &mut O,
-) -> Result<(), ScriptFault> {
+fn play<I: Read, O: Write>(alloc: Global, reader: &mut I, writer: &mut O) -> Result<(), ScriptFault>
+    ensures { PlaysWhatIsRead (I.remaining reader.old) (O.contents writer.old) (O.contents writer.new) result }
+{
     let bytes = match read_input(alloc, reader) {
         Ok(bytes) => bytes,
         Err(kind) => return Err(ScriptFault::at_head(kind)),
     };
-    let script = read_script(alloc, &bytes)?;
-    run_steps(alloc, &script, writer)
+    match read_script(alloc, &bytes) {
+        Ok(script) => run_steps(alloc, &script, writer),
+        Err(fault) => Err(fault),
+    }
 }
 
 /// Runs the steps of a script, one after another.
-fn run_steps<O: Write>(alloc: Global, script: &Script, writer: &mut O) -> Result<(), ScriptFault> {
+fn run_steps<O: Write>(alloc: Global, script: &Script, writer: &mut O) -> Result<(), ScriptFault>
+    ensures { RunsSteps script.now (O.contents writer.old) (O.contents writer.new) result }
+{
     let mut stage = match Stage::new(alloc, &script.head) {
         Ok(stage) => stage,
-        Err(fault) => return Err(ScriptFault::at_head(fault.into())),
+        Err(_) => return Err(ScriptFault::at_head(ScriptKind::Memory)),
     };
     let mut number: u32 = 0;
     for step in script.steps.as_slice() {
         number = number.saturating_add(1);
         if let Err(fault) = stage.run(step, writer) {
-            return Err(ScriptFault {
-                kind: fault.into(),
-                step: number,
-            });
+            let kind = fault.into();
+            return Err(ScriptFault { kind, step: number });
         }
     }
     Ok(())
 }
 
 /// Writes the line of a fault, without memory. Where that write fails, this is the fault.
-fn report<O: Write>(fault: ScriptFault, writer: &mut O) -> ScriptFault {
+fn report<O: Write>(fault: ScriptFault, writer: &mut O) -> ScriptFault
+    ensures { Reports fault (O.contents writer.old) (O.contents writer.new) result }
+{
     if fault.kind == ScriptKind::Write {
         return fault;
     }

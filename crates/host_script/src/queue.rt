@@ -1,7 +1,11 @@
 //! Messages on their way.
 
-ghost use Rattle.std.specs.Prelude.{◌<◌, IfSome};
-ghost use Rattle.std.specs.VecDeque.{deque_len};
+ghost use Rattle.std.specs.Prelude.{◌≡◌, ◌++◌, ◌∷◌, [], Some, None, IfNone, IfOk, OnOk, MatchOption, filter as kept, not};
+ghost use Rattle.std.specs.List.{list_any};
+ghost use Rattle.script_text.specs.declared.kind.Kind.{Kind};
+ghost use Rattle.script_text.specs.declared.script.Place.{Place};
+ghost use Rattle.host_script.specs.Stages.{all_but};
+ghost use Rattle.host_script.specs.Letters.{LetterFacts, addressed, copies, first_meant, is_among, is_meant, same_kind, same_place, without_first};
 
 use host_types::Bytes;
 use pbft_codec::Sequence;
@@ -14,10 +18,18 @@ use std::sync::Arc;
 /// A message on its way: bytes, with what the script knows of them. Raw bytes have no sender or kind.
 #[derive(Drop)]
 pub(crate) struct Letter {
-    pub to: Place,
+    to: Place,
     from: Option<Place>,
     kind: Option<Kind>,
     bytes: Arc<Bytes>,
+}
+
+impl Model for Letter {
+    ghost use Rattle.host_script.specs.Letters.{LetterFacts};
+
+    ghost Value = { LetterFacts };
+
+    ghost view = { λ l. record { to = l.to; from = l.from; kind = l.kind; bytes = l.bytes.value } };
 }
 
 impl Letter {
@@ -28,7 +40,9 @@ impl Letter {
         from: Option<Place>,
         kind: Option<Kind>,
         bytes: &[u8],
-    ) -> Result<Letter, AllocError> {
+    ) -> Result<Letter, AllocError>
+        ensures { IfOk result (λ l. l ≡ record { to = to; from = from; kind = kind; bytes = bytes.now }) }
+    {
         let bytes = Bytes::from_vec(Vec::from_slice(alloc, bytes)?);
         Ok(Letter {
             to,
@@ -38,14 +52,25 @@ impl Letter {
         })
     }
 
+    /// Whom it is for.
+    pub fn to(&self) -> Place
+        ensures { result ≡ self.now.to }
+    {
+        self.to
+    }
+
     /// Its bytes.
-    pub fn bytes(&self) -> &[u8] {
+    pub fn bytes(&self) -> &[u8]
+        ensures { result.now ≡ self.now.bytes }
+    {
         let bytes: &Bytes = &self.bytes;
         bytes.as_slice()
     }
 
     /// The same letter for this addressee; its bytes are not copied.
-    fn copy_to(&self, to: Place) -> Result<Letter, AllocError> {
+    fn copy_to(&self, to: Place) -> Result<Letter, AllocError>
+        ensures { IfOk result (λ l. l ≡ addressed self.now to) }
+    {
         Ok(Letter {
             to,
             from: self.from,
@@ -55,20 +80,63 @@ impl Letter {
     }
 
     /// Whether a filter means it.
-    fn is_meant_by(&self, filter: &Filter) -> bool {
-        is_among(&filter.to, Some(self.to))
-            && is_among(&filter.from, self.from)
-            && is_among(&filter.kinds, self.kind)
+    fn is_meant_by(&self, filter: &Filter) -> bool
+        ensures { result ≡ is_meant filter.now self.now }
+    {
+        names_place(&filter.to, Some(self.to))
+            && names_place(&filter.from, self.from)
+            && names_kind(&filter.kinds, self.kind)
     }
 }
 
-/// Whether a list is left out, or has this value.
-fn is_among<T: Copy + PartialEq>(list: &Option<Sequence<T>>, value: Option<T>) -> bool {
-    match (list, value) {
+/// Whether a list of places is left out, or has this one.
+fn names_place(list: &Option<Sequence<Place>>, place: Option<Place>) -> bool
+    ensures { result ≡ is_among same_place list.now place }
+{
+    match (list, place) {
         (None, _) => true,
         (Some(_), None) => false,
-        (Some(list), Some(value)) => list.as_slice().contains(&value),
+        (Some(list), Some(place)) => has_place(list.as_slice(), place),
     }
+}
+
+fn has_place(list: &[Place], place: Place) -> bool
+    ensures { result ≡ list_any (λ (one : Place). same_place one place) list.now }
+{
+    list.iter().any(|one| is_same_place(*one, place))
+}
+
+fn is_same_place(one: Place, other: Place) -> bool
+    ensures { result ≡ same_place one other }
+{
+    match (one, other) {
+        (Place::Replica(one), Place::Replica(other)) => one.0 == other.0,
+        (Place::Client(one), Place::Client(other)) => one.0 == other.0,
+        (Place::Replica(_), Place::Client(_)) | (Place::Client(_), Place::Replica(_)) => false,
+    }
+}
+
+/// Whether a list of kinds is left out, or has this one.
+fn names_kind(list: &Option<Sequence<Kind>>, kind: Option<Kind>) -> bool
+    ensures { result ≡ is_among same_kind list.now kind }
+{
+    match (list, kind) {
+        (None, _) => true,
+        (Some(_), None) => false,
+        (Some(list), Some(kind)) => has_kind(list.as_slice(), kind),
+    }
+}
+
+fn has_kind(list: &[Kind], kind: Kind) -> bool
+    ensures { result ≡ list_any (λ (one : Kind). same_kind one kind) list.now }
+{
+    list.iter().any(|one| is_same_kind(*one, kind))
+}
+
+fn is_same_kind(one: Kind, other: Kind) -> bool
+    ensures { result ≡ same_kind one other }
+{
+    one.number() == other.number()
 }
 
 /// Messages on their way, the next one first.
@@ -78,9 +146,20 @@ pub(crate) struct Queue {
     letters: VecDeque<Letter>,
 }
 
+impl Model for Queue {
+    ghost use Rattle.std.specs.Prelude.{List};
+    ghost use Rattle.host_script.specs.Letters.{LetterFacts};
+
+    ghost Value = { List LetterFacts };
+
+    ghost view = { λ q. q.letters.items };
+}
+
 impl Queue {
     /// A queue of no messages.
-    pub fn new(alloc: Global) -> Queue {
+    pub fn new(alloc: Global) -> Queue
+        ensures { result ≡ [] }
+    {
         Queue {
             alloc,
             letters: VecDeque::new(alloc),
@@ -88,33 +167,53 @@ impl Queue {
     }
 
     /// Queues a letter last.
-    pub fn push(&mut self, letter: Letter) -> Result<(), AllocError> {
+    pub fn push(&mut self, letter: Letter) -> Result<(), AllocError>
+        ensures { OnOk result (self.new ≡ self.old ++ letter ∷ []) }
+    {
         self.letters.push_back(letter)?;
         Ok(())
     }
 
     /// Takes the next letter out.
-    pub fn pop(&mut self) -> Option<Letter>
-        ensures { IfSome result (λ _. deque_len self.new.letters < deque_len self.old.letters) }
+    fn pop(&mut self) -> Option<Letter>
+        ensures { MatchOption result ((self.old ≡ []) × (self.new ≡ [])) (λ l. self.old ≡ l ∷ self.new) }
     {
         self.letters.pop_front()
     }
 
     /// Queues a letter for each place of a list.
-    pub fn send(&mut self, letter: &Letter, to: &[Place]) -> Result<(), AllocError> {
+    pub fn send(&mut self, letter: &Letter, to: &[Place]) -> Result<(), AllocError>
+        ensures { OnOk result (self.new ≡ self.old ++ copies letter.now to.now) }
+    {
         for place in to {
             self.push(letter.copy_to(*place)?)?;
         }
         Ok(())
     }
 
+    /// Queues a letter for each place of a list but one.
+    pub fn send_but(&mut self, letter: &Letter, to: &[Place], one: Place) -> Result<(), AllocError>
+        ensures { OnOk result (self.new ≡ self.old ++ copies letter.now (all_but one to.now)) }
+    {
+        for place in to {
+            if !is_same_place(*place, one) {
+                self.push(letter.copy_to(*place)?)?;
+            }
+        }
+        Ok(())
+    }
+
     /// Removes the letters that are meant.
-    pub fn discard(&mut self, filter: &Filter) {
+    pub fn discard(&mut self, filter: &Filter)
+        ensures { self.new ≡ kept (λ l. not (is_meant filter.now l)) self.old }
+    {
         self.letters.retain(|letter| !letter.is_meant_by(filter));
     }
 
     /// Queues each letter that is meant once more.
-    pub fn repeat(&mut self, filter: &Filter) -> Result<(), AllocError> {
+    pub fn repeat(&mut self, filter: &Filter) -> Result<(), AllocError>
+        ensures { OnOk result (self.new ≡ self.old ++ kept (is_meant filter.now) self.old) }
+    {
         for index in 0..self.letters.len() {
             if let Some(letter) = self.letters.get(index) {
                 if letter.is_meant_by(filter) {
@@ -126,12 +225,18 @@ impl Queue {
         Ok(())
     }
 
-    /// Takes the first letter out that is meant; those before it go to `others`.
+    /// Takes the first letter out that is meant; those before it go to `others`, of which none is.
     pub fn next_meant(
         &mut self,
         filter: &Filter,
         others: &mut Queue,
-    ) -> Result<Option<Letter>, AllocError> {
+    ) -> Result<Option<Letter>, AllocError>
+        requires { first_meant filter.now others.old ≡ None }
+        ensures passed { OnOk result (first_meant filter.now others.new ≡ None) }
+        ensures found { IfOk result (λ letter. letter ≡ first_meant filter.now (others.old ++ self.old)) }
+        ensures rest { OnOk result (others.new ++ self.new ≡ without_first filter.now (others.old ++ self.old)) }
+        ensures emptied { IfOk result (λ letter. IfNone letter (self.new ≡ [])) }
+    {
         while let Some(letter) = self.pop() {
             if letter.is_meant_by(filter) {
                 return Ok(Some(letter));

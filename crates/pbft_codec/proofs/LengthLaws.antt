@@ -1,6 +1,6 @@
 -- How long encodings are.
-use Rattle.std.proofs.Common.{◌≡◌, ℕ, ◌+◌, List, [], ◌∷◌, ◌++◌, length, refl, ap, arith}
-use Rattle.std.specs.Int.{w32, w64, to_be_bytes}
+use Rattle.std.proofs.Common.{◌≡◌, ℕ, ◌+◌, List, [], ◌∷◌, ◌++◌, length, refl, arith}
+use Rattle.std.specs.Int.{w64, to_be_bytes}
 use Rattle.std.specs.List.{AllByRecursion, flat_map}
 use Rattle.std.proofs.lemmas.List.{length-append}
 use Rattle.host_types.specs.declared.Digest.{Digest}
@@ -10,7 +10,6 @@ use Rattle.pbft_codec.specs.declared.body.Body.{Body}
 use Rattle.pbft_codec.specs.declared.body.Body.TheVariants as bodies
 use Rattle.pbft_codec.specs.declared.body.certificate.Certificate.{Certificate}
 use Rattle.pbft_codec.specs.declared.body.checkpoint.Checkpoint.{Checkpoint}
-use Rattle.pbft_codec.specs.declared.body.fetch.Fetch.{Fetch}
 use Rattle.pbft_codec.specs.declared.body.fetch.Fetch.TheVariants as fetches
 use Rattle.pbft_codec.specs.declared.body.new_view.NewView.{NewView}
 use Rattle.pbft_codec.specs.declared.body.pre_prepare.PrePrepare.{PrePrepare}
@@ -19,13 +18,11 @@ use Rattle.pbft_codec.specs.declared.body.reply.ReplyBody.{ReplyBody}
 use Rattle.pbft_codec.specs.declared.body.request.RequestBody.{RequestBody}
 use Rattle.pbft_codec.specs.declared.body.snapshot.Snapshot.{Snapshot}
 use Rattle.pbft_codec.specs.declared.body.view_change.ViewChange.{ViewChange}
-use Rattle.pbft_codec.specs.declared.kind.Kind.{Kind}
 use Rattle.pbft_codec.specs.declared.kind.Kind.TheVariants as kinds
 use Rattle.pbft_codec.specs.declared.signed.Signed.{Signed}
-use Rattle.pbft_codec.specs.Kinds.{kind_byte}
 use Rattle.pbft_codec.specs.Layouts.{view, client, number, length_prefixed, encoded_list, signed, of_kind, request, proposal, pre_prepare, prepare, reply, checkpoint, signed_pre_prepare, signed_prepare, signed_checkpoint, certificate, view_change, signed_view_change, new_view, fetch, snapshot}
 use Rattle.pbft_codec.specs.Limits.{IsDigest, SignedFieldsInRange, PrePrepareFieldsInRange, PrepareFieldsInRange, CheckpointFieldsInRange, CertificateFieldsInRange, ViewChangeFieldsInRange, NewViewFieldsInRange}
-use Rattle.pbft_codec.specs.Lengths.{total, signed_length, certificate_length, view_change_length, new_view_length, fetch_length}
+use Rattle.pbft_codec.specs.Lengths.{total, signed_length, certificate_length, view_change_length, new_view_length}
 use Rattle.pbft_codec.specs.Bodies.{BodyFieldsInRange, encoded_length_of}
 use Rattle.pbft_codec.specs.Encoding.{body, encoding}
 use Rattle.pbft_codec.proofs.Widths.{length_length_prefixed, length_signed, length_list, length_more}

@@ -1,5 +1,5 @@
--- Statement: the number of each fault.
-use Rattle.std.specs.Prelude.{ℕ}
+-- Statement: the number and the name of each fault.
+use Rattle.std.specs.Prelude.{ℕ, List, codes}
 use Rattle.pbft_codec.specs.declared.fault.CodecFault.{CodecFault}
 use Rattle.pbft_codec.specs.declared.fault.CodecFault.TheVariants.{Truncated, Trailing, BadKind, BadField, TooLong, NotAscending, Memory}
 
@@ -11,3 +11,12 @@ number_of BadField = 4
 number_of TooLong = 5
 number_of NotAscending = 6
 number_of Memory = 7
+
+abbrev pub name_of : CodecFault → List ℕ
+name_of Truncated = codes "Truncated"
+name_of Trailing = codes "Trailing"
+name_of BadKind = codes "BadKind"
+name_of BadField = codes "BadField"
+name_of TooLong = codes "TooLong"
+name_of NotAscending = codes "NotAscending"
+name_of Memory = codes "Memory"

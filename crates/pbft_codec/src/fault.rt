@@ -3,38 +3,32 @@
 ghost use Rattle.std.specs.Prelude.{◌≡◌};
 
 use std::alloc::{AllocError, AllocFailed};
-use thiserror::Error;
+use std::error::Error;
+use std::fmt::{self, Display, Formatter};
 
 /// Why bytes are no message, or why a message has no bytes. Of several faults in bytes the first
 /// from the left is reported, `TooLong` before all others.
-#[derive(Clone, Copy, Debug, PartialEq, Eq, Error)]
+#[derive(Clone, Copy, Debug, PartialEq, Eq)]
 pub enum CodecFault {
     /// A field reaches past the end of what holds it.
-    #[error("Truncated")]
     Truncated = 1,
     /// Bytes are left at the end of a body, or behind the message.
-    #[error("Trailing")]
     Trailing = 2,
     /// The byte of a kind is none of the ten.
-    #[error("BadKind")]
     BadKind = 3,
     /// A field has a value that it can't have: a role, a number of 2^48 or more, a count, a selector,
     /// or a nested message of another kind than is wanted there.
-    #[error("BadField")]
     BadField = 4,
     /// The message has more than 8,388,608 bytes.
-    #[error("TooLong")]
     TooLong = 5,
     /// An id in a list is not above the one before it.
-    #[error("NotAscending")]
     NotAscending = 6,
     /// Memory ran out.
-    #[error("Memory")]
     Memory = 7,
 }
 
 impl CodecFault {
-    ghost use Rattle.pbft_codec.specs.Faults.{number_of};
+    ghost use Rattle.pbft_codec.specs.Faults.{name_of, number_of};
 
     /// The fault's number.
     pub fn number(&self) -> u8
@@ -42,7 +36,35 @@ impl CodecFault {
     {
         *self as u8
     }
+
+    /// The fault's name.
+    pub fn name(&self) -> &'static str
+        ensures { result.now ≡ name_of self.now }
+    {
+        match self {
+            CodecFault::Truncated => "Truncated",
+            CodecFault::Trailing => "Trailing",
+            CodecFault::BadKind => "BadKind",
+            CodecFault::BadField => "BadField",
+            CodecFault::TooLong => "TooLong",
+            CodecFault::NotAscending => "NotAscending",
+            CodecFault::Memory => "Memory",
+        }
+    }
 }
+
+impl Display for CodecFault {
+    ghost use Rattle.std.specs.Prelude.{Some};
+    ghost use Rattle.pbft_codec.specs.Faults.{name_of};
+
+    ghost output = { λ fault. Some (name_of fault) };
+
+    fn fmt<W: fmt::Write>(&self, f: &mut Formatter<W>) -> fmt::Result {
+        f.write_str(self.name())
+    }
+}
+
+impl Error for CodecFault {}
 
 impl From<AllocError> for CodecFault {
     ghost use Rattle.std.specs.Prelude.{◌≡◌};
@@ -51,7 +73,7 @@ impl From<AllocError> for CodecFault {
     ghost from_gives = { λ _ fault. fault ≡ Memory };
 
     fn from(_: AllocError) -> CodecFault {
-        CodecFault::Memory
+        Self::Memory
     }
 }
 

@@ -1,5 +1,5 @@
--- Statement: the number of each halt, and the halt of each fault of a signer.
-use Rattle.std.specs.Prelude.{ℕ, Result, Ok, Err}
+-- Statement: the number and the name of each halt, and the halt of each fault of a signer.
+use Rattle.std.specs.Prelude.{ℕ, List, codes, Result, Ok, Err}
 use Rattle.quorum_log.specs.declared.fault.LogFault.{LogFault}
 use Rattle.quorum_log.specs.declared.fault.LogFault.TheVariants as refusals
 use Rattle.lms_tree.specs.declared.fault.SignFault.{SignFault}
@@ -13,6 +13,13 @@ number_of Memory = 2
 number_of Worn = 3
 number_of JournalFull = 4
 number_of AlreadyHalted = 5
+
+abbrev pub name_of : Halt → List ℕ
+name_of Exhausted = codes "Exhausted"
+name_of Memory = codes "Memory"
+name_of Worn = codes "Worn"
+name_of JournalFull = codes "JournalFull"
+name_of AlreadyHalted = codes "AlreadyHalted"
 
 abbrev pub of_signing : SignFault → Halt
 of_signing faults.Exhausted = Exhausted

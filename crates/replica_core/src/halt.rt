@@ -7,33 +7,29 @@ use checkpoints::CheckpointFault;
 use lms_tree::SignFault;
 use quorum_log::LogFault;
 use std::alloc::{AllocError, AllocFailed};
-use thiserror::Error;
+use std::error::Error;
+use std::fmt::{self, Display, Formatter};
 use view_change::ViewFault;
 
 /// Why a replica has stopped for good. What it did for the message or the timeout by which it stopped is
 /// not given.
-#[derive(Clone, Copy, Debug, PartialEq, Eq, Error)]
+#[derive(Clone, Copy, Debug, PartialEq, Eq)]
 pub enum Halt {
     /// The signer has fewer leaves than the next own message takes.
-    #[error("Exhausted")]
     Exhausted = 1,
     /// Memory ran out.
-    #[error("Memory")]
     Memory = 2,
     /// The last view or the last sequence number was reached.
-    #[error("Worn")]
     Worn = 3,
     /// A journal has no place for a row more. It comes from stations alone.
-    #[error("JournalFull")]
     JournalFull = 4,
     /// The replica had stopped before this call.
-    #[error("AlreadyHalted")]
     AlreadyHalted = 5,
 }
 
 impl Halt {
     ghost use Rattle.std.specs.Prelude.{◌≡◌};
-    ghost use Rattle.replica_core.specs.Halts.{number_of};
+    ghost use Rattle.replica_core.specs.Halts.{name_of, number_of};
 
     /// The halt's number.
     pub fn number(&self) -> u8
@@ -41,7 +37,33 @@ impl Halt {
     {
         *self as u8
     }
+
+    /// The halt's name.
+    pub fn name(&self) -> &'static str
+        ensures { result.now ≡ name_of self.now }
+    {
+        match self {
+            Halt::Exhausted => "Exhausted",
+            Halt::Memory => "Memory",
+            Halt::Worn => "Worn",
+            Halt::JournalFull => "JournalFull",
+            Halt::AlreadyHalted => "AlreadyHalted",
+        }
+    }
 }
+
+impl Display for Halt {
+    ghost use Rattle.std.specs.Prelude.{Some};
+    ghost use Rattle.replica_core.specs.Halts.{name_of};
+
+    ghost output = { λ halt. Some (name_of halt) };
+
+    fn fmt<W: fmt::Write>(&self, f: &mut Formatter<W>) -> fmt::Result {
+        f.write_str(self.name())
+    }
+}
+
+impl Error for Halt {}
 
 impl From<AllocError> for Halt {
     ghost use Rattle.std.specs.Prelude.{◌≡◌};

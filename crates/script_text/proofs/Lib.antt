@@ -1,3 +1,4 @@
 mod Keys
 mod Founds
 mod Documents
+pub mod TextFaults

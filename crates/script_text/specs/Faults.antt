@@ -1,5 +1,5 @@
--- Statement: the numbers of faults, and which of two faults is reported.
-use Rattle.std.specs.Prelude.{◌≡◌, ℕ, nat_le, Result, Ok, Err, if◌then◌else◌}
+-- Statement: the numbers and the names of faults, how a fault is printed, and which of two faults is reported.
+use Rattle.std.specs.Prelude.{◌≡◌, ℕ, List, ◌++◌, codes, decimal, nat_le, Result, Ok, Err, if◌then◌else◌}
 use Rattle.script_text.specs.declared.fault.ScriptFault.{ScriptFault}
 use Rattle.script_text.specs.declared.fault.ScriptKind.{ScriptKind}
 use Rattle.script_text.specs.declared.fault.ScriptKind.TheVariants as kinds
@@ -17,6 +17,23 @@ number_of kinds.TooLong = 7
 number_of kinds.Read = 8
 number_of kinds.Write = 9
 number_of kinds.Memory = 10
+
+abbrev pub name_of : ScriptKind → List ℕ
+name_of kinds.NotToml = codes "NotToml"
+name_of kinds.MissingKey = codes "MissingKey"
+name_of kinds.WrongValue = codes "WrongValue"
+name_of kinds.UnknownKey = codes "UnknownKey"
+name_of kinds.BadConfig = codes "BadConfig"
+name_of kinds.TooManyDeliveries = codes "TooManyDeliveries"
+name_of kinds.TooLong = codes "TooLong"
+name_of kinds.Read = codes "Read"
+name_of kinds.Write = codes "Write"
+name_of kinds.Memory = codes "Memory"
+
+-- a fault as it is printed
+abbrev pub text_of : ScriptFault → List ℕ
+text_of fault =
+    codes "script fault " ++ decimal (number_of fault.kind) ++ codes " " ++ name_of fault.kind ++ codes " step " ++ decimal fault.step
 
 abbrev pub kind_of : TableFault → ScriptKind
 kind_of Memory = kinds.Memory

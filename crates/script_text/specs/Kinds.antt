@@ -1,4 +1,5 @@
 -- Statement: the kind of a message.
+use Rattle.std.specs.Prelude.{ℕ}
 use Rattle.pbft_codec.specs.declared.body.Body.{Body}
 use Rattle.pbft_codec.specs.declared.body.Body.TheVariants as bodies
 use Rattle.seal.specs.declared.vote.VoteKind.{VoteKind}
@@ -22,3 +23,16 @@ abbrev pub kind_of_vote : VoteKind → Kind
 kind_of_vote votes.PrePrepare = PrePrepare
 kind_of_vote votes.Prepare = Prepare
 kind_of_vote votes.Commit = Commit
+
+-- kinds are told apart by their numbers
+abbrev pub kind_number : Kind → ℕ
+kind_number Request = 1
+kind_number PrePrepare = 2
+kind_number Prepare = 3
+kind_number Commit = 4
+kind_number Reply = 5
+kind_number Checkpoint = 6
+kind_number ViewChange = 7
+kind_number NewView = 8
+kind_number Fetch = 9
+kind_number Snapshot = 10

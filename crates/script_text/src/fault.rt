@@ -1,46 +1,37 @@
 //! Why a script is refused, or ends early.
 
 use std::alloc::{AllocError, AllocFailed};
-use thiserror::Error;
+use std::error::Error;
+use std::fmt::{self, Display, Formatter};
 
 /// Why a script is refused, or ends early.
-#[derive(Clone, Copy, Debug, PartialEq, Eq, Error)]
+#[derive(Clone, Copy, Debug, PartialEq, Eq)]
 pub enum ScriptKind {
     /// The text is no TOML document.
-    #[error("NotToml")]
     NotToml = 1,
     /// A key that is needed is absent.
-    #[error("MissingKey")]
     MissingKey = 2,
     /// A value has the wrong type, or names what is not there.
-    #[error("WrongValue")]
     WrongValue = 3,
     /// A key has no meaning here.
-    #[error("UnknownKey")]
     UnknownKey = 4,
     /// The head is that of no configuration.
-    #[error("BadConfig")]
     BadConfig = 5,
     /// A step would deliver more than 1,000,000 messages.
-    #[error("TooManyDeliveries")]
     TooManyDeliveries = 6,
     /// The script has more than 1,048,576 bytes.
-    #[error("TooLong")]
     TooLong = 7,
     /// A read failed.
-    #[error("Read")]
     Read = 8,
     /// A write failed.
-    #[error("Write")]
     Write = 9,
     /// Memory ran out.
-    #[error("Memory")]
     Memory = 10,
 }
 
 impl ScriptKind {
     ghost use Rattle.std.specs.Prelude.{◌≡◌};
-    ghost use Rattle.script_text.specs.Faults.{number_of};
+    ghost use Rattle.script_text.specs.Faults.{name_of, number_of};
 
     /// The fault's number.
     pub fn number(&self) -> u8
@@ -48,11 +39,41 @@ impl ScriptKind {
     {
         *self as u8
     }
+
+    /// The fault's name.
+    pub fn name(&self) -> &'static str
+        ensures { result.now ≡ name_of self.now }
+    {
+        match self {
+            ScriptKind::NotToml => "NotToml",
+            ScriptKind::MissingKey => "MissingKey",
+            ScriptKind::WrongValue => "WrongValue",
+            ScriptKind::UnknownKey => "UnknownKey",
+            ScriptKind::BadConfig => "BadConfig",
+            ScriptKind::TooManyDeliveries => "TooManyDeliveries",
+            ScriptKind::TooLong => "TooLong",
+            ScriptKind::Read => "Read",
+            ScriptKind::Write => "Write",
+            ScriptKind::Memory => "Memory",
+        }
+    }
 }
 
+impl Display for ScriptKind {
+    ghost use Rattle.std.specs.Prelude.{Some};
+    ghost use Rattle.script_text.specs.Faults.{name_of};
+
+    ghost output = { λ kind. Some (name_of kind) };
+
+    fn fmt<W: fmt::Write>(&self, f: &mut Formatter<W>) -> fmt::Result {
+        f.write_str(self.name())
+    }
+}
+
+impl Error for ScriptKind {}
+
 /// A fault of a script, and the step that has it: 0 for the head.
-#[derive(Clone, Copy, Debug, PartialEq, Eq, Error)]
-#[error("script fault {} {} step {}", .kind.number(), .kind, .step)]
+#[derive(Clone, Copy, Debug, PartialEq, Eq)]
 pub struct ScriptFault {
     pub kind: ScriptKind,
     pub step: u32,
@@ -69,6 +90,22 @@ impl ScriptFault {
         ScriptFault { kind, step: 0 }
     }
 }
+
+impl Display for ScriptFault {
+    ghost use Rattle.std.specs.Prelude.{Some};
+    ghost use Rattle.script_text.specs.Faults.{text_of};
+
+    ghost output = { λ fault. Some (text_of fault) };
+
+    fn fmt<W: fmt::Write>(&self, f: &mut Formatter<W>) -> fmt::Result {
+        let number = self.kind.number();
+        let kind = self.kind;
+        let step = self.step;
+        write!(f, "script fault {number} {kind} step {step}")
+    }
+}
+
+impl Error for ScriptFault {}
 
 /// Why a table of a document is refused. Of several faults the first of this list is reported.
 #[derive(Clone, Copy, Debug, PartialEq, Eq)]

@@ -6,22 +6,22 @@ use seal::VoteKind;
 /// A kind of message, by its name in a script.
 #[derive(Clone, Copy, Debug, PartialEq, Eq)]
 pub enum Kind {
-    Request,
-    PrePrepare,
-    Prepare,
-    Commit,
-    Reply,
-    Checkpoint,
-    ViewChange,
-    NewView,
-    Fetch,
-    Snapshot,
+    Request = 1,
+    PrePrepare = 2,
+    Prepare = 3,
+    Commit = 4,
+    Reply = 5,
+    Checkpoint = 6,
+    ViewChange = 7,
+    NewView = 8,
+    Fetch = 9,
+    Snapshot = 10,
 }
 
 impl Kind {
     ghost use Rattle.std.specs.Prelude.{◌≡◌};
     ghost use Rattle.script_text.specs.Forms.{kind_named};
-    ghost use Rattle.script_text.specs.Kinds.{kind_of_body, kind_of_vote};
+    ghost use Rattle.script_text.specs.Kinds.{kind_number, kind_of_body, kind_of_vote};
 
     /// The kind of a body.
     pub fn of(body: &Body) -> Kind
@@ -50,6 +50,13 @@ impl Kind {
             VoteKind::Prepare => Kind::Prepare,
             VoteKind::Commit => Kind::Commit,
         }
+    }
+
+    /// The kind's number.
+    pub fn number(self) -> u8
+        ensures { result ≡ kind_number self }
+    {
+        self as u8
     }
 
     /// The kind of this name.

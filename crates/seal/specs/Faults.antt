@@ -1,7 +1,8 @@
--- Statement: the number of each fault, and which faults the bytes have.
-use Rattle.std.specs.Prelude.{ℕ}
+-- Statement: the number and the name of each fault, and which faults the bytes have.
+use Rattle.std.specs.Prelude.{ℕ, List, codes}
 use Rattle.pbft_codec.specs.declared.fault.CodecFault.{CodecFault}
 use Rattle.pbft_codec.specs.declared.fault.CodecFault.TheVariants as codec
+use Rattle.pbft_codec.specs.Faults as codec_faults
 use Rattle.seal.specs.declared.fault.SealFault.{SealFault}
 use Rattle.seal.specs.declared.fault.SealFault.TheVariants.{Codec, UnknownSigner, BadSignature, WrongRole, Memory}
 
@@ -11,6 +12,13 @@ number_of UnknownSigner = 2
 number_of BadSignature = 3
 number_of WrongRole = 4
 number_of Memory = 5
+
+abbrev pub name_of : SealFault → List ℕ
+name_of (Codec fault) = codec_faults.name_of fault
+name_of UnknownSigner = codes "UnknownSigner"
+name_of BadSignature = codes "BadSignature"
+name_of WrongRole = codes "WrongRole"
+name_of Memory = codes "Memory"
 
 -- The codec's `Memory` is no fault of the bytes.
 abbrev pub from_codec : CodecFault → SealFault

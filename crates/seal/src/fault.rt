@@ -4,32 +4,28 @@ ghost use Rattle.std.specs.Prelude.{◌≡◌};
 
 use pbft_codec::CodecFault;
 use std::alloc::{AllocError, AllocFailed};
-use thiserror::Error;
+use std::error::Error;
+use std::fmt::{self, Display, Formatter};
 
 /// Why bytes are no message that a configuration takes. Of several faults the codec's is reported, else
 /// that of the first part that has one; of those of one part `UnknownSigner` before `WrongRole`, and
 /// `WrongRole` before `BadSignature`.
-#[derive(Clone, Copy, Debug, PartialEq, Eq, Error)]
+#[derive(Clone, Copy, Debug, PartialEq, Eq)]
 pub enum SealFault {
     /// The bytes are no message. The fault is never the codec's `Memory`.
-    #[error("{0}")]
     Codec(CodecFault),
     /// No such replica or client is listed.
-    #[error("UnknownSigner")]
     UnknownSigner,
     /// The signature is not valid under the listed key.
-    #[error("BadSignature")]
     BadSignature,
     /// The signer doesn't send messages of this kind, or not in this view.
-    #[error("WrongRole")]
     WrongRole,
     /// Memory ran out.
-    #[error("Memory")]
     Memory,
 }
 
 impl SealFault {
-    ghost use Rattle.seal.specs.Faults.{number_of};
+    ghost use Rattle.seal.specs.Faults.{name_of, number_of};
 
     /// The fault's number.
     pub fn number(&self) -> u8
@@ -43,7 +39,33 @@ impl SealFault {
             SealFault::Memory => 5,
         }
     }
+
+    /// The fault's name; of a codec's fault, that one's.
+    pub fn name(&self) -> &'static str
+        ensures { result.now ≡ name_of self.now }
+    {
+        match self {
+            SealFault::Codec(fault) => fault.name(),
+            SealFault::UnknownSigner => "UnknownSigner",
+            SealFault::BadSignature => "BadSignature",
+            SealFault::WrongRole => "WrongRole",
+            SealFault::Memory => "Memory",
+        }
+    }
 }
+
+impl Display for SealFault {
+    ghost use Rattle.std.specs.Prelude.{Some};
+    ghost use Rattle.seal.specs.Faults.{name_of};
+
+    ghost output = { λ fault. Some (name_of fault) };
+
+    fn fmt<W: fmt::Write>(&self, f: &mut Formatter<W>) -> fmt::Result {
+        f.write_str(self.name())
+    }
+}
+
+impl Error for SealFault {}
 
 impl From<CodecFault> for SealFault {
     ghost use Rattle.std.specs.Prelude.{◌≡◌};

@@ -12,13 +12,13 @@ happens w t event (Err faults.NoSuchReplica) gives = gives
 happens w t event (Err faults.NoSuchOutput) gives = gives
 happens w t event (Err faults.Memory) gives = gives
 
-pub returns-in-Deliver : goal.returns-in-Deliver
-returns-in-Deliver c =
+pub returns-in-Deliver-clause-happens : goal.returns-in-Deliver-clause-happens
+returns-in-Deliver-clause-happens c =
     subst (λ (e : Event). Happens c.args.self.now e c.deliver.result c.deliver.new.self) (sym c.in-Deliver.is)
     (subst (λ (bytes : List ℕ). Happens c.args.self.now (events.Deliver c.in-Deliver.to bytes) c.deliver.result c.deliver.new.self) c.as_slice.ensures
-    (happens c.args.self.now c.deliver.new.self (events.Deliver c.in-Deliver.to c.as_slice.result.now) c.deliver.result c.deliver.ensures))
+    (happens c.args.self.now c.deliver.new.self (events.Deliver c.in-Deliver.to c.as_slice.result.now) c.deliver.result c.deliver.ensures.given))
 
-pub returns-in-Forward : goal.returns-in-Forward
-returns-in-Forward c =
+pub returns-in-Forward-clause-happens : goal.returns-in-Forward-clause-happens
+returns-in-Forward-clause-happens c =
     subst (λ (e : Event). Happens c.args.self.now e c.forward.result c.forward.new.self) (sym c.in-Forward.is)
-    (happens c.args.self.now c.forward.new.self (events.Forward c.in-Forward.to c.in-Forward.from c.in-Forward.output) c.forward.result c.forward.ensures)
+    (happens c.args.self.now c.forward.new.self (events.Forward c.in-Forward.to c.in-Forward.from c.in-Forward.output) c.forward.result c.forward.ensures.given)

@@ -1,0 +1,57 @@
+-- Statement: messages on their way, and which of them a step means.
+use Rattle.std.specs.Prelude.{ℕ, ◌==◌, Bool, true, false, ◌&&◌, List, [], ◌∷◌, map, find, Option, Some, None, if◌then◌else◌}
+use Rattle.std.specs.List.{list_any}
+use Rattle.pbft_codec.specs.declared.body.Body.{Body}
+use Rattle.pbft_codec.specs.declared.signed.Signed.{Signed}
+use Rattle.pbft_codec.specs.Encoding.{encoding}
+use Rattle.script_text.specs.declared.kind.Kind.{Kind}
+use Rattle.script_text.specs.declared.script.Filter.{Filter}
+use Rattle.script_text.specs.declared.script.Place.{Place}
+use Rattle.script_text.specs.declared.script.Place.TheVariants.{Replica, Client}
+use Rattle.script_text.specs.Kinds.{kind_number, kind_of_body}
+
+-- A message on its way: whom it is for, and what a script knows of it. Raw bytes have no sender and no kind.
+pub record LetterFacts : Type 0 where
+  pub to : Place
+  pub from : Option Place
+  pub kind : Option Kind
+  pub bytes : List ℕ
+
+-- a message that was signed at this place
+abbrev pub letter_of : Place → Signed Body → LetterFacts
+letter_of from m = record { to = from; from = Some from; kind = Some (kind_of_body m.body); bytes = encoding m }
+
+abbrev pub addressed : LetterFacts → Place → LetterFacts
+addressed l to = record l { to = to }
+
+-- a letter once for each of these places
+abbrev pub copies : LetterFacts → List Place → List LetterFacts
+copies l places = map (addressed l) places
+
+-- ---- which letters are meant
+
+abbrev pub same_place : Place → Place → Bool
+same_place (Replica a) (Replica b) = a.0 == b.0
+same_place (Replica a) (Client b) = false
+same_place (Client a) (Replica b) = false
+same_place (Client a) (Client b) = a.0 == b.0
+
+abbrev pub same_kind : Kind → Kind → Bool
+same_kind a b = kind_number a == kind_number b
+
+-- a list is left out, or has this value
+abbrev pub is_among : {A : Type 0} → (A → A → Bool) → Option (List A) → Option A → Bool
+is_among same None x = true
+is_among same (Some xs) None = false
+is_among same (Some xs) (Some x) = list_any (λ y. same y x) xs
+
+abbrev pub is_meant : Filter → LetterFacts → Bool
+is_meant f l = is_among same_place f.to (Some l.to) && (is_among same_place f.from l.from && is_among same_kind f.kinds l.kind)
+
+abbrev pub first_meant : Filter → List LetterFacts → Option LetterFacts
+first_meant f ls = find (is_meant f) ls
+
+-- the letters without the first that is meant
+abbrev pub without_first : Filter → List LetterFacts → List LetterFacts
+without_first f [] = []
+without_first f (l ∷ ls) = if is_meant f l then ls else l ∷ without_first f ls

@@ -1,0 +1,35 @@
+//! Text on its way to a writer.
+
+ghost use Rattle.std.specs.Prelude.{◌≡◌, IfErr, OnErr, OnOk};
+ghost use Rattle.std.specs.Io.KnownBytes.{Appends};
+ghost use Rattle.host_script.specs.declared.fault.RunFault.TheVariants.{Write as write_failed};
+ghost use Rattle.host_script.specs.Writing.{AppendsFront};
+
+use crate::fault::RunFault;
+use std::io::{ErrorKind, Write};
+
+/// Writes text whole. A write that was interrupted is tried again. Where one fails, or takes nothing, the
+/// writer holds the first bytes of the text.
+pub(crate) fn write_text<O: Write>(writer: &mut O, text: &str) -> Result<(), RunFault>
+    ensures whole { OnOk result (Appends (O.contents writer.old) (O.contents writer.new) text.now) }
+    ensures front { OnErr result (AppendsFront (O.contents writer.old) (O.contents writer.new) text.now) }
+    ensures fault { IfErr result (λ fault. fault ≡ write_failed) }
+{
+    let bytes = text.as_bytes();
+    let mut at = 0;
+    for _ in 0..u64::MAX {
+        if at == bytes.len() {
+            return Ok(());
+        }
+        match writer.write(&bytes[at..]) {
+            Ok(0) => return Err(RunFault::Write),
+            Ok(count) => at += count,
+            Err(error) => {
+                if error.kind() != ErrorKind::Interrupted {
+                    return Err(RunFault::Write);
+                }
+            }
+        }
+    }
+    Err(RunFault::Write)
+}

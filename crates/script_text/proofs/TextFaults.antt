@@ -1,0 +1,74 @@
+-- The faults that a text has are none of a run: no read or write fails in it, and nothing is delivered.
+use Rattle.std.proofs.Common.{◌≡◌, ℕ, List, [], Option, Some, None, Result, Ok, Err, subst, if◌then◌else◌, Bool, true, false}
+use Rattle.std.specs.Prelude.{nat_lt, length}
+use Rattle.toml.specs.Data.{Data, Items, Members, no_items, item}
+use Rattle.host_types.specs.Configuration.{replicas_for}
+use Rattle.script_text.specs.Faults.{kind_of}
+use Rattle.script_text.specs.Heads.{HeadFacts, head_in}
+use Rattle.script_text.specs.Scripts.{document, listed_steps, next_step, script_from, script_in, script_of, script_with, steps_from, steps_in, with_step}
+use Rattle.script_text.specs.Steps.{step}
+use Rattle.script_text.specs.declared.fault.ScriptFault.{ScriptFault}
+use Rattle.script_text.specs.declared.fault.ScriptKind.{ScriptKind}
+use Rattle.script_text.specs.declared.fault.ScriptKind.TheVariants as kinds
+use Rattle.script_text.specs.declared.fault.TableFault.{TableFault}
+use Rattle.script_text.specs.declared.fault.TableFault.TheVariants as faults
+use Rattle.script_text.specs.declared.script.Step.{Step}
+
+-- It is no fault of a run.
+abbrev pub IsOfText : ScriptKind → Type 0
+IsOfText kinds.NotToml = Unit {0}
+IsOfText kinds.MissingKey = Unit {0}
+IsOfText kinds.WrongValue = Unit {0}
+IsOfText kinds.UnknownKey = Unit {0}
+IsOfText kinds.BadConfig = Unit {0}
+IsOfText kinds.TooManyDeliveries = ⊥
+IsOfText kinds.TooLong = Unit {0}
+IsOfText kinds.Read = ⊥
+IsOfText kinds.Write = ⊥
+IsOfText kinds.Memory = Unit {0}
+
+abbrev AreOfText : {A : Type 0} → Result A ScriptFault → Type 0
+AreOfText (Ok x) = Unit {0}
+AreOfText (Err fault) = IsOfText fault.kind
+
+of_table : (f : TableFault) → IsOfText (kind_of f)
+of_table faults.Memory = tt
+of_table faults.MissingKey = tt
+of_table faults.WrongValue = tt
+of_table faults.UnknownKey = tt
+of_table faults.BadConfig = tt
+
+of_step : (steps : List Step) (number : ℕ) (r : Result Step TableFault) → AreOfText (with_step steps number r)
+of_step steps number (Ok s) = tt
+of_step steps number (Err fault) = of_table fault
+
+of_steps : (h : HeadFacts) (number : ℕ) (r : Result (List Step) ScriptFault) (ds : Items) → AreOfText r → AreOfText (steps_from h number r ds)
+of_steps h number (Err fault) ds are = are
+of_steps h number (Ok steps) no_items are = tt
+of_steps h number (Ok steps) (item d ds) are =
+    of_steps h (next_step number) (with_step steps (next_step number) (step (replicas_for h.f) h.faulty h.clients d)) ds (of_step steps (next_step number) (step (replicas_for h.f) h.faulty h.clients d))
+
+of_list : (h : HeadFacts) (o : Option Items) → AreOfText (steps_in h o)
+of_list h None = tt
+of_list h (Some ds) = of_steps h 0 (Ok []) ds tt
+
+of_parts : (h : HeadFacts) (r : Result (List Step) ScriptFault) → AreOfText r → AreOfText (script_from h r)
+of_parts h (Ok steps) are = tt
+of_parts h (Err fault) are = are
+
+of_head : (ms : Members) (r : Result HeadFacts TableFault) → AreOfText (script_with ms r)
+of_head ms (Ok h) = of_parts h (steps_in h (listed_steps ms)) (of_list h (listed_steps ms))
+of_head ms (Err fault) = of_table fault
+
+of_document : (o : Option Members) → AreOfText (script_in o)
+of_document None = tt
+of_document (Some ms) = of_head ms (head_in ms)
+
+of_script : (bytes : List ℕ) → AreOfText (script_of bytes)
+of_script bytes = by (nat_lt 1048576 (length bytes)) where
+  by : (b : Bool) → AreOfText (if b then Err (record { kind = kinds.TooLong; step = 0 }) else script_in (document bytes))
+  by true = tt
+  by false = of_document (document bytes)
+
+pub is_of_text : (bytes : List ℕ) (fault : ScriptFault) → script_of bytes ≡ Err fault → IsOfText fault.kind
+is_of_text bytes fault is = subst AreOfText is (of_script bytes)
