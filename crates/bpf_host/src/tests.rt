@@ -12,6 +12,7 @@ mod helpers;
 mod instructions;
 mod procedures;
 mod rows;
+mod steps;
 mod texts;
 mod worlds;
 
@@ -104,6 +105,26 @@ fn days_of_a_world(rt: HostRuntime) -> Result<(), Fail> {
 #[test]
 fn what_a_world_refuses(rt: HostRuntime) -> Result<(), Fail> {
     run_scripts(&rt, worlds::REFUSALS)
+}
+
+#[test]
+fn where_letters_stand(rt: HostRuntime) -> Result<(), Fail> {
+    run_scripts(&rt, steps::ORDER)
+}
+
+#[test]
+fn who_signs_and_who_stops(rt: HostRuntime) -> Result<(), Fail> {
+    run_scripts(&rt, steps::STANDINGS)
+}
+
+#[test]
+fn a_million_deliveries(rt: HostRuntime) -> Result<(), Fail> {
+    run_scripts(&rt, steps::LIMITS)
+}
+
+#[test]
+fn keys_of_a_secret(rt: HostRuntime) -> Result<(), Fail> {
+    run_scripts(&rt, steps::KEYS)
 }
 
 #[test]
