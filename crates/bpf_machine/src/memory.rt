@@ -1,41 +1,43 @@
-//! The bytes that a procedure can reach.
+//! The bytes that a procedure can reach, lent by its caller: so many as it needs.
 
 ghost use Rattle.std.specs.Prelude.{◌≡◌};
 ghost use Rattle.bpf_decode.specs.declared.insn.Size.TheVariants.{B, H, W};
-ghost use Rattle.bpf_machine.specs.Represents.{InBounds, index_of, extended};
+ghost use Rattle.bpf_machine.specs.Represents.{HasIndex, index_of, extended};
 
 use bpf_decode::Size;
-use bpf_model::layout::{ARGUMENTS_SIZE, ARGUMENTS_START, FRAME_START, STACK_SIZE};
+use bpf_model::layout::{ARGUMENTS_SIZE, ARGUMENTS_START, FRAME_START};
 
-/// The bytes that code can reach: the stack's, and behind them those of the arguments. A byte of the
-/// stack that isn't initialized has some value that is never read.
+/// The bytes that code can reach: those of the arguments, and behind them the stack's, at least the first
+/// frame's. A byte of the stack that isn't initialized has some value that is never read.
 #[derive(Drop)]
-pub struct Memory {
-    bytes: [u8; STACK_SIZE + ARGUMENTS_SIZE],
+pub struct Memory<'a> {
+    bytes: &'a mut [u8],
 }
 
-impl Memory {
-    ghost use Rattle.std.specs.Prelude.{◌≡◌, ◌⊎◌, ℕ, List, ◌<◌, ◌≤◌, Some, length, take, drop};
+impl<'a> Memory<'a> {
+    ghost use Rattle.std.specs.Prelude.{◌≡◌, ◌⊎◌, ℕ, List, ◌<◌, ◌≤◌, Some, length, take, drop, replicate};
     ghost use Rattle.tenant_maps.specs.Entries.{Entries};
     ghost use Rattle.bpf_model.specs.Machine.{Memory as Bytes, bytes_at, start, stored};
     ghost use Rattle.bpf_model.specs.Access.{bytes_of, loaded, stored_bytes};
     ghost use Rattle.bpf_machine.specs.Represents.{InBounds, RepresentsMemory, call_of, index_of};
 
-    /// As a call begins: the arguments, with zeros behind them.
-    pub fn at_start(args: &[u8]) -> Memory
-        requires { length args.now ≤ 256 }
-        ensures { (client : ℕ) (entries : Entries) →
-            let m = start (call_of args.now client entries) in RepresentsMemory result.bytes m.memory }
+    /// As a call begins: the arguments, with zeros behind them, over bytes that are all 0.
+    pub fn at_start(bytes: &'a mut [u8], args: &[u8]) -> Memory<'a>
+        requires short { length args.now ≤ 256 }
+        requires zeros { bytes.now ≡ replicate (length bytes.now) 0 }
+        requires room { 256 ≤ length bytes.now }
+        ensures shows { (client : ℕ) (entries : Entries) →
+            let m = start (call_of args.now client entries) in RepresentsMemory result.bytes.now m.memory }
+        ensures long { length result.bytes.now ≡ length bytes.entry.now }
     {
-        let mut bytes = [0; STACK_SIZE + ARGUMENTS_SIZE];
-        bytes[STACK_SIZE..STACK_SIZE + args.len()].copy_from_slice(args);
+        bytes[..args.len()].copy_from_slice(args);
         Memory { bytes }
     }
 
     /// The number that the bytes at an address are, zero-extended or sign-extended (RFC 9669, 5.1 and 5.2).
     pub fn load(&self, size: Size, signed: bool, address: u64) -> u64
-        requires { InBounds address (bytes_of size) }
-        ensures { (memory : Bytes) (bytes : List ℕ) → RepresentsMemory self.now.bytes memory →
+        requires { InBounds (length self.now.bytes.now) address (bytes_of size) }
+        ensures { (memory : Bytes) (bytes : List ℕ) → RepresentsMemory self.now.bytes.now memory →
             bytes_at memory address (bytes_of size) ≡ Some bytes → result ≡ loaded size signed bytes }
     {
         match size {
@@ -48,9 +50,10 @@ impl Memory {
 
     /// Stores the low bytes of a number (RFC 9669, 5.1).
     pub fn store(&mut self, size: Size, address: u64, value: u64)
-        requires { InBounds address (bytes_of size) }
-        ensures { (memory : Bytes) → RepresentsMemory self.old.bytes memory →
-            RepresentsMemory self.new.bytes (stored memory address (stored_bytes size value)) }
+        requires { InBounds (length self.old.bytes.now) address (bytes_of size) }
+        ensures shows { (memory : Bytes) → RepresentsMemory self.old.bytes.now memory →
+            RepresentsMemory self.new.bytes.now (stored memory address (stored_bytes size value)) }
+        ensures long { length self.new.bytes.now ≡ length self.old.bytes.now }
     {
         match size {
             Size::B => self.put_bytes(address, ((value & 0xff) as u8).to_le_bytes()),
@@ -63,8 +66,8 @@ impl Memory {
     /// So many bytes from an address on.
     pub fn bytes_at<const N: usize>(&self, address: u64) -> [u8; N]
         requires some { 0 < N }
-        requires inside { InBounds address N }
-        ensures { (memory : Bytes) (bytes : List ℕ) → RepresentsMemory self.now.bytes memory →
+        requires inside { InBounds (length self.now.bytes.now) address N }
+        ensures { (memory : Bytes) (bytes : List ℕ) → RepresentsMemory self.now.bytes.now memory →
             bytes_at memory address N ≡ Some bytes → result ≡ bytes }
     {
         let at = index_of(address);
@@ -75,8 +78,8 @@ impl Memory {
 
     /// So many bytes from an address on; none where that is 0.
     pub fn slice(&self, address: u64, size: u64) -> &[u8]
-        requires { (size ≡ 0) ⊎ InBounds address size }
-        ensures { result.now ≡ take size (drop (index_of address) self.now.bytes) }
+        requires { (size ≡ 0) ⊎ InBounds (length self.now.bytes.now) address size }
+        ensures { result.now ≡ take size (drop (index_of address) self.now.bytes.now) }
     {
         if size == 0 {
             return &[];
@@ -88,9 +91,10 @@ impl Memory {
     /// Writes bytes, at least one, from an address on.
     pub fn put_slice(&mut self, address: u64, bytes: &[u8])
         requires some { 0 < length bytes.now }
-        requires inside { InBounds address (length bytes.now) }
-        ensures { (memory : Bytes) → RepresentsMemory self.old.bytes memory →
-            RepresentsMemory self.new.bytes (stored memory address bytes.now) }
+        requires inside { InBounds (length self.old.bytes.now) address (length bytes.now) }
+        ensures shows { (memory : Bytes) → RepresentsMemory self.old.bytes.now memory →
+            RepresentsMemory self.new.bytes.now (stored memory address bytes.now) }
+        ensures long { length self.new.bytes.now ≡ length self.old.bytes.now }
     {
         let at = index_of(address);
         self.bytes[at..at + bytes.len()].copy_from_slice(bytes);
@@ -99,9 +103,10 @@ impl Memory {
     /// Writes bytes from an address on.
     pub fn put_bytes<const N: usize>(&mut self, address: u64, bytes: [u8; N])
         requires some { 0 < N }
-        requires inside { InBounds address N }
-        ensures { (memory : Bytes) → RepresentsMemory self.old.bytes memory →
-            RepresentsMemory self.new.bytes (stored memory address bytes.entry) }
+        requires inside { InBounds (length self.old.bytes.now) address N }
+        ensures shows { (memory : Bytes) → RepresentsMemory self.old.bytes.now memory →
+            RepresentsMemory self.new.bytes.now (stored memory address bytes.entry) }
+        ensures long { length self.new.bytes.now ≡ length self.old.bytes.now }
     {
         let at = index_of(address);
         self.bytes[at..at + N].copy_from_slice(&bytes);
@@ -110,13 +115,13 @@ impl Memory {
 
 /// The index of the byte at an address.
 fn index_of(address: u64) -> usize
-    requires { InBounds address 1 }
+    requires { HasIndex address }
     ensures { result ≡ index_of address }
 {
     if address < ARGUMENTS_START {
-        (address - FRAME_START) as usize
+        ARGUMENTS_SIZE + (address - FRAME_START) as usize
     } else {
-        STACK_SIZE + (address - ARGUMENTS_START) as usize
+        (address - ARGUMENTS_START) as usize
     }
 }
 

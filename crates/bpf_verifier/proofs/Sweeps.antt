@@ -1,7 +1,6 @@
 -- The sweep: what each edge brings to its target, and what that makes of the slots.
-use Rattle.std.proofs.Common.{◌≡◌, ◌≢◌, ◌⊎◌, ℕ, zero, suc, ◌+◌, ◌-◌, ◌<◌, ◌≤◌, Bool, true, false, cond, eqb, max, List, [], ◌∷◌, ◌++◌, length, get_or, set, replicate, Option, Some, None, Box, ℤ, refl, sym, ap, subst, ◌∙◌, arith, inl, inr}
+use Rattle.std.proofs.Common.{◌≡◌, ◌≢◌, ◌⊎◌, ℕ, ◌+◌, ◌-◌, ◌<◌, ◌≤◌, Bool, true, false, eqb, max, List, [], ◌∷◌, ◌++◌, length, get_or, set, Option, Some, None, Box, ℤ, refl, sym, ap, subst, ◌∙◌, arith, inl, inr}
 use Rattle.std.specs.Prelude.{fold, Result, Ok, Err, IfOk}
-use Rattle.std.specs.Option.{option_map}
 use Rattle.std.specs.declared.alloc.Global.{Global}
 use Rattle.std.proofs.lemmas.Bool.{cases_lt}
 use Rattle.std.proofs.lemmas.Bool.Decides.{eqb_tells}
@@ -20,7 +19,7 @@ use Rattle.bpf_model.specs.Verdict.{max_visits}
 use Rattle.bpf_verifier.specs.declared.abstract_state.AbstractState.{AbstractState}
 use Rattle.bpf_verifier.specs.declared.dataflow.Visit.{Visit}
 use Rattle.bpf_verifier.specs.FrameBytes.{has_byte, Marks}
-use Rattle.bpf_verifier.specs.Represents.{state_of, Represents, RepresentsOption, join_with}
+use Rattle.bpf_verifier.specs.Represents.{state_of, Represents, join_with}
 use Rattle.bpf_verifier.specs.Sweep.{Pending, visit_in, RepresentsVisit, Brings, pending_at, VisitJoined, Pushed, Flowed, HasAtLeast, OfSteps, AreFew}
 
 -- ---- one edge

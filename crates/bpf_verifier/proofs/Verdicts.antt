@@ -1,5 +1,5 @@
 -- The verdict that the verifier's passes find together.
-use Rattle.std.proofs.Common.{◌≡◌, ◌⊎◌, ℕ, List, Option, None, Result, Ok, Err, refl, sym, ap, subst, ◌∙◌, inl, inr}
+use Rattle.std.proofs.Common.{◌≡◌, ◌⊎◌, ℕ, Bool, List, Option, None, Result, Ok, Err, refl, sym, ap, subst, ◌∙◌, inl, inr}
 use Rattle.std.specs.Prelude.{IfErr, IsErr, MatchResult}
 use Rattle.bpf_decode.specs.declared.insn.Insn.{Insn}
 use Rattle.bpf_decode.specs.declared.refusal.DecodeFault.{DecodeFault}
@@ -17,7 +17,7 @@ use Rattle.bpf_model.specs.declared.fault.VerifyFault.TheVariants.{Decode, Memor
 use Rattle.bpf_model.proofs.Safety.{safe, bounded}
 use Rattle.bpf_verifier.specs.declared.flat.FlatInsn.{FlatInsn}
 use Rattle.bpf_verifier.specs.Flat.{IsTable}
-use Rattle.bpf_verifier.specs.Verified.{IsProcedure}
+use Rattle.bpf_verifier.specs.Verified.{IsProcedure, has_local_calls}
 use Rattle.bpf_verifier.specs.Sweep.{IsStructured}
 
 -- what the two passes find together
@@ -29,9 +29,9 @@ accepted_by code a b bound is-a is-b structure dataflow longest = record {
 }
 
 -- code that was accepted makes a procedure, with its table
-pub procedure_of : (bytes : List ℕ) (code : List Insn) (table : List FlatInsn) (bound : ℕ) → IsCode bytes code → IsTable code table → IsAccepted code bound → IsProcedure bytes code table bound
-procedure_of bytes code table bound is flat accepted =
-    record { is_code = is; is_table = flat; safe = safe bytes code bound is accepted; small = bounded bytes code bound is accepted }
+pub procedure_of : (bytes : List ℕ) (code : List Insn) (table : List FlatInsn) (bound : ℕ) (calls : Bool) → IsCode bytes code → IsTable code table → IsAccepted code bound → calls ≡ has_local_calls code → IsProcedure bytes code table bound calls
+procedure_of bytes code table bound calls is flat accepted told =
+    record { is_code = is; is_table = flat; safe = safe bytes code bound is accepted; small = bounded bytes code bound is accepted; calls_are = told }
 
 pub safe_of : (bytes : List ℕ) (code : List Insn) (bound : ℕ) → IsCode bytes code → IsAccepted code bound → (insns : List Insn) → IsCode bytes insns → IsSafe insns bound
 safe_of bytes code bound is accepted insns other =

@@ -1,6 +1,8 @@
 -- Statement: what a procedure is to its callers: its code as bytes, and the bound on its steps.
-use Rattle.std.specs.Prelude.{ℕ, ◌≤◌, List}
+use Rattle.std.specs.Prelude.{◌≡◌, ℕ, ◌≤◌, Bool, true, false, List}
+use Rattle.std.specs.List.{list_any}
 use Rattle.bpf_decode.specs.declared.insn.Insn.{Insn}
+use Rattle.bpf_decode.specs.declared.insn.Insn.TheVariants.{CallLocal}
 use Rattle.bpf_decode.specs.Faults.{IsCode}
 use Rattle.bpf_model.specs.Run.{IsSafe}
 use Rattle.bpf_verifier.specs.declared.flat.FlatInsn.{FlatInsn}
@@ -10,13 +12,23 @@ pub record Verified : Type 0 where
   pub bytes : List ℕ
   pub bound : ℕ
 
--- What holds of every procedure: its code cannot go wrong, and ends within the bound; and its table is that of its
--- instructions.
-pub record IsProcedure (bytes : List ℕ) (code : List Insn) (table : List FlatInsn) (bound : ℕ) : Type 0 where
+-- A call of a function of the code's own.
+abbrev pub is_local_call : Insn → Bool
+is_local_call (CallLocal offset) = true
+is_local_call insn = false
+
+-- One of these instructions is such a call.
+abbrev pub has_local_calls : List Insn → Bool
+has_local_calls insns = list_any is_local_call insns
+
+-- What holds of every procedure: its code cannot go wrong, and ends within the bound; its table is that of its
+-- instructions; and what it tells of their calls is true.
+pub record IsProcedure (bytes : List ℕ) (code : List Insn) (table : List FlatInsn) (bound : ℕ) (calls : Bool) : Type 0 where
   pub is_code : IsCode bytes code
   pub is_table : IsTable code table
   pub safe : IsSafe code bound
   pub small : bound ≤ 65536
+  pub calls_are : calls ≡ has_local_calls code
 
 -- The instructions that the code encodes: each has its entries in the table, in their order; and they cannot go wrong,
 -- and end within the bound.

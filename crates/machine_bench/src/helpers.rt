@@ -58,7 +58,9 @@ fn round_of_calls(rt: &HostRuntime, procedure: &Procedure, map: &mut TenantMap) 
     for run in 0..RUNS {
         let mut args = [0; 48];
         args[..8].copy_from_slice(&first_of(run).to_le_bytes());
-        finished(procedure, &args, map)?;
+        if finished(procedure, &args, map).is_none() {
+            return Err(anyhow!("memory ran out"));
+        }
     }
     Ok(start.elapsed(rt)?.as_nanos())
 }

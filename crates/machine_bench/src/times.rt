@@ -42,18 +42,28 @@ pub fn verified(rt: &HostRuntime, program: &Program) -> Result<Procedure> {
     }
 }
 
-/// What one run returns, and its steps. The output stays behind, so that it isn't copied once more.
-pub fn finished(procedure: &Procedure, args: &[u8; 48], map: &mut TenantMap) -> Result<(u64, u32)> {
-    let end = run(procedure, args, ClientId(16), map)?;
-    Ok((end.result, end.steps))
+/// What one run returns, and its steps; none where memory ran out. The output stays behind, so that it
+/// isn't copied once more, and so does what an error would carry.
+pub fn finished(procedure: &Procedure, args: &[u8; 48], map: &mut TenantMap) -> Option<(u64, u32)> {
+    match run(procedure, args, ClientId(16), map) {
+        Ok(end) => Some((end.result, end.steps)),
+        Err(_) => None,
+    }
+}
+
+/// The first run of a program, over an empty map.
+fn first_run(rt: &HostRuntime, procedure: &Procedure) -> Result<(u64, u32)> {
+    let mut map = TenantMap::new(rt.alloc());
+    match finished(procedure, &arguments(), &mut map) {
+        Some(end) => Ok(end),
+        None => Err(anyhow!("memory ran out")),
+    }
 }
 
 /// Prints the steps and the result of each program.
 pub fn print_results(rt: &HostRuntime) -> Result<()> {
     for program in &all(rt.alloc())? {
-        let procedure = verified(rt, program)?;
-        let mut map = TenantMap::new(rt.alloc());
-        let (result, steps) = finished(&procedure, &arguments(), &mut map)?;
+        let (result, steps) = first_run(rt, &verified(rt, program)?)?;
         println!(rt; "{}: {steps} steps, result {result}", program.name)?;
     }
     Ok(())
@@ -62,9 +72,7 @@ pub fn print_results(rt: &HostRuntime) -> Result<()> {
 /// Prints each program's name, steps and code in hex, a line each.
 pub fn print_programs(rt: &HostRuntime) -> Result<()> {
     for program in &all(rt.alloc())? {
-        let procedure = verified(rt, program)?;
-        let mut map = TenantMap::new(rt.alloc());
-        let (_, steps) = finished(&procedure, &arguments(), &mut map)?;
+        let (_, steps) = first_run(rt, &verified(rt, program)?)?;
         println!(rt;
             "{} {steps} {}",
             program.name,
@@ -78,16 +86,17 @@ pub fn print_programs(rt: &HostRuntime) -> Result<()> {
 pub fn print_times(rt: &HostRuntime) -> Result<()> {
     for program in &all(rt.alloc())? {
         let procedure = verified(rt, program)?;
+        let (mut result, steps) = first_run(rt, &procedure)?;
+        let runs = 1_000_000 / steps.saturating_add(20).max(1);
         let mut map = TenantMap::new(rt.alloc());
         let args = arguments();
-        let (_, steps) = finished(&procedure, &args, &mut map)?;
-        let runs = 1_000_000 / steps.saturating_add(20).max(1);
         let mut least = u128::MAX;
-        let mut result = 0;
         for _ in 0..ROUNDS {
             let start = Instant::now(rt)?;
             for _ in 0..runs {
-                result = finished(&procedure, &args, &mut map)?.0;
+                if let Some((value, _)) = finished(&procedure, &args, &mut map) {
+                    result = value;
+                }
             }
             least = least.min(start.elapsed(rt)?.as_nanos());
         }

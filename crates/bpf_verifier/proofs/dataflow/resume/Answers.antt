@@ -1,8 +1,7 @@
-use Rattle.std.proofs.Common.{◌≡◌, ◌∙◌, ℕ, sym, ap, subst, Option, Some, None, Box, refl}
+use Rattle.std.proofs.Common.{sym, ap, subst, Option, Box}
 use Rattle.std.specs.Box.{with_value}
 use Rattle.std.specs.Option.{option_map}
 use Rattle.std.specs.declared.alloc.Global.{Global}
-use Rattle.bpf_model.specs.AbstractState as model
 use Rattle.bpf_model.specs.AbstractState.{after_call}
 use Rattle.bpf_verifier.specs.declared.dataflow.Visit.{Visit}
 use Rattle.bpf_verifier.specs.Represents.{Represents}

@@ -1,5 +1,3 @@
-use Rattle.std.proofs.Common.{◌≡◌, ap, subst, sym, Box, Result, Ok, Err}
-use Rattle.std.specs.Prelude.{IfOk}
 use Rattle.bpf_model.specs.AbstractState as model
 use Rattle.bpf_model.specs.AbstractState.{entry_state}
 use Rattle.bpf_verifier.specs.declared.dataflow.Visit.{Visit}

@@ -1,4 +1,4 @@
-use Rattle.std.proofs.Common.{◌≡◌, ◌*◌, ◌+◌, rules, length, arith}
+use Rattle.std.proofs.Common.{◌≡◌, rules, length, arith}
 use Rattle.bpf_verifier.proofs.Bits.{cleared_none, cleared_more, cleared_frame}
 use Rattle.bpf_verifier.proofs.frame_bytes.FrameBytes.remove_frame.Goals as goal
 
