@@ -10,7 +10,7 @@ use Rattle.lms_tree.specs.Keys.{IsKeyOf}
 use Rattle.pbft_codec.specs.declared.signed.Role.TheVariants as roles
 use Rattle.pbft_model.specs.Core.{Core, start_of}
 use Rattle.pbft_model.specs.Histories.{IsCorrect, IsIn}
-use Rattle.pbft_model.specs.Journals.{Agrees, IsHonestFamily, Journals}
+use Rattle.pbft_model.specs.Journals.{Agrees, ComesTo, IsHonestFamily, Journals}
 use Rattle.pbft_model.specs.Rows.{IsLawfulFrom, IsListed, IsNext, Row}
 use Rattle.pbft_model.specs.Setup.{Setup}
 use Rattle.pbft_model.specs.Words.{SigningState}
@@ -191,18 +191,24 @@ listed_in c (id ∷ ids) (signer ∷ signers) j i listed signed (inl here) =
     (subst (IsListed (setup_of c) id) (sym signed.0) (listed_one c id signer (key_of c roles.Replica id) refl listed.0))
 listed_in c (id ∷ ids) (signer ∷ signers) j i listed signed (inr later) = listed_in c ids signers j i listed.1 signed.1 later
 
+-- The reported rows of each replica are lawful, and come to a core.
+pub report_lawful : (c : Configuration) (faulty : ℕ → Bool) (signers : List SigningState) (es : List Event) (t : WorldFacts) (j : Journals)
+    → Runs (first_world c faulty signers) es t → IsReported faulty (map outcome_of t.members) j → IsSignedBy (correct_ids c faulty) signers j
+    → (i : ℕ) → (last : Core) × ComesTo (setup_of c) j i (j.rows i) last
+report_lawful c faulty signers es t j runs told signed i =
+    let all = runs_kept c j.signer (first_world c faulty signers) es t (first_kept c (correct_ids c faulty) signers j signed) runs in
+    let kept = reported c j.signer t.members i all in
+    (kept.0, subst (λ (rs : List Row). IsLawfulFrom (setup_of c) i (start_of (setup_of c) (j.signer i)) rs kept.0) (sym (told.rows_are i)) kept.1)
+
 pub report_agrees : (c : Configuration) (faulty : ℕ → Bool) (signers : List SigningState) (es : List Event) (t : WorldFacts) (j : Journals)
     → IsConfiguration c → AreListed c (correct_ids c faulty) signers → Runs (first_world c faulty signers) es t
     → IsReported faulty (map outcome_of t.members) j → IsSignedBy (correct_ids c faulty) signers j → IsHonestReport (setup_of c) j → Agrees (setup_of c) j
-report_agrees c faulty signers es t j legal listed runs told signed honest =
-    let all = runs_kept c j.signer (first_world c faulty signers) es t (first_kept c (correct_ids c faulty) signers j signed) runs in
-    agrees_over (setup_of c) j (record {
-      configuration = legal;
-      few = honest.few;
-      listed = λ i is. listed_in c (correct_ids c faulty) signers j i listed signed
-          (among (λ (n : ℕ). not (faulty n)) i 0 (replicas_for c.f) (omega arith) (omega (arith, is.0)) (ap not (sym (ap (λ (f : ℕ → Bool). f i) told.faulty_is) ∙ is.1)));
-      lawful = λ i is. let kept = reported c j.signer t.members i all in
-          (kept.0, subst (λ (rs : List Row). IsLawfulFrom (setup_of c) i (start_of (setup_of c) (j.signer i)) rs kept.0) (sym (told.rows_are i)) kept.1);
-      real = honest.real;
-      apart = honest.apart;
-    })
+report_agrees c faulty signers es t j legal listed runs told signed honest = agrees_over (setup_of c) j (record {
+  configuration = legal;
+  few = honest.few;
+  listed = λ i is. listed_in c (correct_ids c faulty) signers j i listed signed
+      (among (λ (n : ℕ). not (faulty n)) i 0 (replicas_for c.f) (omega arith) (omega (arith, is.0)) (ap not (sym (ap (λ (f : ℕ → Bool). f i) told.faulty_is) ∙ is.1)));
+  lawful = λ i is. report_lawful c faulty signers es t j runs told signed i;
+  real = honest.real;
+  apart = honest.apart;
+})

@@ -6,4 +6,5 @@ mod HandingLaws
 mod OutputLaws
 mod HonestLaws
 mod FirstLaws
+mod ProcedureLaws
 mod RunLaws

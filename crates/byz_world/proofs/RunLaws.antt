@@ -19,7 +19,9 @@ use Rattle.byz_world.specs.declared.event.Event.TheVariants as events
 use Rattle.byz_world.specs.declared.fault.WorldFault.{WorldFault}
 use Rattle.byz_world.specs.declared.fault.WorldFault.TheVariants as faults
 use Rattle.byz_world.specs.Worlds.{AreListed, AtReplica, Comes, Delivers, Forwards, Gives, Hands, Happens, IsHonestReport, IsRefused, IsReported, IsSignedBy, MemberFacts, OutcomeFacts, Passes, Runs, WorldFacts, correct_ids, first_world, member_of, outcome_of, output_of}
-use Rattle.byz_world.proofs.HonestLaws.{at_kept, report_agrees}
+use Rattle.byz_world.specs.Procedures.{StaysSafe}
+use Rattle.byz_world.proofs.HonestLaws.{at_kept, report_agrees, report_lawful}
+use Rattle.byz_world.proofs.ProcedureLaws.{lawful_safe}
 
 runs_more : (w : WorldFacts) (es : List Event) (e : Event) (u v : WorldFacts) (row : Option RowFacts) → Runs w es u → Gives u e (Ok row) v → Runs w (es ++ e ∷ []) v
 runs_more w [] e u v row runs gives = (row, v, subst (λ (x : WorldFacts). Gives x e (Ok row) v) runs gives, refl)
@@ -77,3 +79,12 @@ pub run_agrees : (c : Configuration) (faulty : ℕ → Bool) (signers : List Sig
 run_agrees c faulty signers es i t (Ok outcomes) legal listed past runs is = λ j told signed honest.
     report_agrees c faulty signers (take i es) t j legal listed runs (subst (λ (os : List OutcomeFacts). IsReported faulty os j) is told) signed honest
 run_agrees c faulty signers es i t (Err fault) legal listed past runs is = tt
+
+-- ---- procedures
+
+pub run_safe : (c : Configuration) (faulty : ℕ → Bool) (signers : List SigningState) (es : List Event) (i : ℕ) (t : WorldFacts) (r : Result (List OutcomeFacts) WorldFault) → IsConfiguration c
+    → length es ≤ i → Runs (first_world c faulty signers) (take i es) t → IfOk r (λ outcomes. outcomes ≡ map outcome_of t.members)
+    → IfOk r (λ outcomes. (j : Journals) → IsReported faulty outcomes j → IsSignedBy (correct_ids c faulty) signers j → StaysSafe (setup_of c) j)
+run_safe c faulty signers es i t (Ok outcomes) legal past runs is = λ j told signed.
+    lawful_safe (setup_of c) j legal (report_lawful c faulty signers (take i es) t j runs (subst (λ (os : List OutcomeFacts). IsReported faulty os j) is told) signed)
+run_safe c faulty signers es i t (Err fault) legal past runs is = tt

@@ -9,6 +9,7 @@ ghost use Rattle.seal.specs.Opening.{opening};
 ghost use Rattle.view_change.specs.Setups.{setup_of};
 ghost use Rattle.replica_core.specs.declared.row.Input.TheVariants as inputs;
 ghost use Rattle.byz_world.specs.Handing.{UnlessMemory, index_in};
+ghost use Rattle.byz_world.specs.Procedures.{StaysSafe};
 ghost use Rattle.byz_world.specs.Worlds.{AreListed, Comes, Delivers, Gives, Happens, IsHonestReport, IsRefused, IsReported, IsSignedBy, Runs, WorldFacts, correct_ids, facts_of, first_members, first_world, member_of, outcome_of, output_of};
 ghost use Rattle.byz_world.specs.declared.event.Event.TheVariants as events;
 ghost use Rattle.byz_world.specs.declared.fault.WorldFault.TheVariants as faults;
@@ -286,6 +287,11 @@ pub fn run_world(
     ensures agrees { IfOk result (λ outcomes. (j : Journals) → IsReported (λ i. set.contains faulty.now i) outcomes j
         → IsSignedBy (correct_ids config.now.value (λ i. set.contains faulty.now i)) signers.items j
         → IsHonestReport (setup_of config.now.value) j → Agrees (setup_of config.now.value) j) }
+
+    // Whoever is faulty and whatever was forged, no procedure can go wrong that a correct replica has installed at any point.
+    ensures safe { IfOk result (λ outcomes. (j : Journals) → IsReported (λ i. set.contains faulty.now i) outcomes j
+        → IsSignedBy (correct_ids config.now.value (λ i. set.contains faulty.now i)) signers.items j
+        → StaysSafe (setup_of config.now.value) j) }
 {
     let mut world = World::new(alloc, config, faulty, signers)?;
     for event in events {
