@@ -11,3 +11,4 @@ mod Shown
 mod Timing
 mod Turns
 mod Written
+mod FaultLine

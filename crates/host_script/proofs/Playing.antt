@@ -13,7 +13,7 @@ use Rattle.host_script.specs.Stages.{Begins, Overruns, Prints, StageFacts}
 use Rattle.host_script.specs.Starts.{start_of}
 use Rattle.host_script.specs.declared.fault.RunFault.{RunFault}
 use Rattle.host_script.specs.declared.fault.RunFault.TheVariants.{TooManyDeliveries, Write, Memory}
-use Rattle.host_script.proofs.Written.{both}
+use Rattle.host_script.proofs.Written.{both, front_then}
 
 pub plays_more : (steps : List Step) (step : Step) (s u t : StageFacts) (text line : List ℕ) → Plays s steps text u → Prints u step line t → Plays s (steps ++ step ∷ []) (text ++ line) t
 plays_more [] step s u t text line p one =
@@ -50,7 +50,8 @@ fails TooManyDeliveries script i x number s t old mid new below read numbered is
     (is.0 ++ e.0, breaks_at script.steps i x (start_of script.head) s number Overruns is.0 e.0 below read numbered is.1 e.1, both old mid new is.0 e.0 is.2 e.2)
 fails Memory script i x number s t old mid new below read numbered is e =
     (is.0 ++ e.0, inr (breaks_at script.steps i x (start_of script.head) s number Begins is.0 e.0 below read numbered is.1 e.1), both old mid new is.0 e.0 is.2 e.2)
-fails Write script i x number s t old mid new below read numbered is e = tt
+fails Write script i x number s t old mid new below read numbered is e =
+    (is.0 ++ e.0, breaks_at script.steps i x (start_of script.head) s number Begins is.0 e.0 below read numbered is.1 e.1, front_then old mid new is.0 e.0 is.2 e.2)
 
 pub one_more_done : (script : Script) (i : ℕ) (x : Step) (s t : StageFacts) (old mid new : Option (List ℕ)) → i < length script.steps → x ≡ get_or script.steps i x
     → AreDone script i old mid s → Ends s x mid new (Ok tt) t → AreDone script (i + 1) old new t

@@ -1,5 +1,5 @@
 -- How a run of a script ends, and the line of its fault.
-use Rattle.std.proofs.Common.{◌≡◌, ◌⊎◌, ℕ, List, [], Option, Some, None, Result, Ok, Err, refl, sym, subst, inl, inr}
+use Rattle.std.proofs.Common.{◌≡◌, ◌⊎◌, ℕ, List, [], ◌++◌, Option, Some, None, Result, Ok, Err, refl, sym, subst, inl, inr}
 use Rattle.std.specs.Prelude.{IfSome}
 use Rattle.std.specs.Io.KnownBytes.{Appends}
 use Rattle.script_text.specs.Scripts.{script_of}
@@ -9,11 +9,12 @@ use Rattle.script_text.specs.declared.fault.ScriptKind.TheVariants as kinds
 use Rattle.script_text.specs.declared.script.Script.{Script}
 use Rattle.script_text.specs.declared.script.Step.{Step}
 use Rattle.host_script.specs.Running.{Fails, PlaysInput, PlaysWhatIsRead, Reports, RunsSteps, StopsAt}
-use Rattle.host_script.specs.Scripts.{BreaksOff, Breaks, Writes, WritesFault, WritesWhatIsRead, fault_line}
+use Rattle.host_script.specs.Scripts.{BreaksOff, Breaks, Writes, WritesBefore, WritesFault, WritesWhatIsRead, fault_line}
 use Rattle.host_script.specs.Stages.{Begins, StageFacts}
 use Rattle.host_script.specs.Starts.{start_of}
 use Rattle.script_text.proofs.TextFaults.{IsOfText, is_of_text}
-use Rattle.host_script.proofs.Written.{both, nothing}
+use Rattle.host_script.specs.Writing.{AppendsFront}
+use Rattle.host_script.proofs.Written.{both, front_then, nothing}
 
 -- ---- a text that is no script
 
@@ -52,7 +53,7 @@ lacked input script number text is (inr off) = inr (breaks input script number B
 stops : (k : ScriptKind) (input : List ℕ) (script : Script) (fault : ScriptFault) (old new : Option (List ℕ)) → script_of input ≡ Ok script → Fails k script fault.step old new → StopsAt k input fault old new
 stops kinds.TooManyDeliveries input script fault old new is f = (f.0, record { script = script; is = is; off = f.1 }, f.2)
 stops kinds.Memory input script fault old new is f = (f.0, lacked input script fault.step f.0 is f.1, f.2)
-stops kinds.Write input script fault old new is f = tt
+stops kinds.Write input script fault old new is f = (f.0, record { script = script; is = is; off = f.1 }, f.2)
 stops kinds.NotToml input script fault old new is f = absurd f
 stops kinds.MissingKey input script fault old new is f = absurd f
 stops kinds.WrongValue input script fault old new is f = absurd f
@@ -72,21 +73,57 @@ runs (Some xs) bytes script old new r same is steps = subst (λ (input : List �
 
 -- ---- the line of a fault
 
-with_line : (k : ScriptKind) (input : List ℕ) (fault : ScriptFault) (old mid new : Option (List ℕ)) → StopsAt k input fault old mid → Appends mid new (fault_line fault) → WritesFault k input fault old new
-with_line kinds.Write input fault old mid new s a = tt
-with_line kinds.NotToml input fault old mid new s a = (s.0, s.1, both old mid new s.0 (fault_line fault) s.2 a)
-with_line kinds.MissingKey input fault old mid new s a = (s.0, s.1, both old mid new s.0 (fault_line fault) s.2 a)
-with_line kinds.WrongValue input fault old mid new s a = (s.0, s.1, both old mid new s.0 (fault_line fault) s.2 a)
-with_line kinds.UnknownKey input fault old mid new s a = (s.0, s.1, both old mid new s.0 (fault_line fault) s.2 a)
-with_line kinds.BadConfig input fault old mid new s a = (s.0, s.1, both old mid new s.0 (fault_line fault) s.2 a)
-with_line kinds.TooLong input fault old mid new s a = (s.0, s.1, both old mid new s.0 (fault_line fault) s.2 a)
-with_line kinds.TooManyDeliveries input fault old mid new s a = (s.0, s.1, both old mid new s.0 (fault_line fault) s.2 a)
-with_line kinds.Read input fault old mid new s a = (s.0, s.1, both old mid new s.0 (fault_line fault) s.2 a)
-with_line kinds.Memory input fault old mid new s a = (s.0, s.1, both old mid new s.0 (fault_line fault) s.2 a)
+with_line : (k : ScriptKind) (input : List ℕ) (fault : ScriptFault) (old mid new : Option (List ℕ)) → (k ≡ kinds.Write → ⊥) → StopsAt k input fault old mid → Appends mid new (fault_line fault)
+    → WritesFault k input fault old new
+with_line kinds.Write input fault old mid new told s a = absurd (told refl)
+with_line kinds.NotToml input fault old mid new told s a = (s.0, s.1, both old mid new s.0 (fault_line fault) s.2 a)
+with_line kinds.MissingKey input fault old mid new told s a = (s.0, s.1, both old mid new s.0 (fault_line fault) s.2 a)
+with_line kinds.WrongValue input fault old mid new told s a = (s.0, s.1, both old mid new s.0 (fault_line fault) s.2 a)
+with_line kinds.UnknownKey input fault old mid new told s a = (s.0, s.1, both old mid new s.0 (fault_line fault) s.2 a)
+with_line kinds.BadConfig input fault old mid new told s a = (s.0, s.1, both old mid new s.0 (fault_line fault) s.2 a)
+with_line kinds.TooLong input fault old mid new told s a = (s.0, s.1, both old mid new s.0 (fault_line fault) s.2 a)
+with_line kinds.TooManyDeliveries input fault old mid new told s a = (s.0, s.1, both old mid new s.0 (fault_line fault) s.2 a)
+with_line kinds.Read input fault old mid new told s a = (s.0, s.1, both old mid new s.0 (fault_line fault) s.2 a)
+with_line kinds.Memory input fault old mid new told s a = (s.0, s.1, both old mid new s.0 (fault_line fault) s.2 a)
+
+-- what was written ahead of the line
+ahead : (k : ScriptKind) (input : List ℕ) (fault : ScriptFault) (old mid : Option (List ℕ)) → (k ≡ kinds.Write → ⊥) → StopsAt k input fault old mid
+    → (text : List ℕ) × WritesBefore k input fault text × Appends old mid text
+ahead kinds.Write input fault old mid told s = absurd (told refl)
+ahead kinds.NotToml input fault old mid told s = s
+ahead kinds.MissingKey input fault old mid told s = s
+ahead kinds.WrongValue input fault old mid told s = s
+ahead kinds.UnknownKey input fault old mid told s = s
+ahead kinds.BadConfig input fault old mid told s = s
+ahead kinds.TooLong input fault old mid told s = s
+ahead kinds.TooManyDeliveries input fault old mid told s = s
+ahead kinds.Read input fault old mid told s = s
+ahead kinds.Memory input fault old mid told s = s
+
+-- the write of the line failed
+line_cut : (input : List ℕ) (fault : ScriptFault) (old mid new : Option (List ℕ)) → (fault.kind ≡ kinds.Write → ⊥) → StopsAt fault.kind input fault old mid → AppendsFront mid new (fault_line fault)
+    → WritesFault kinds.Write input (record { kind = kinds.Write; step = fault.step }) old new
+line_cut input fault old mid new told s a =
+    let w = ahead fault.kind input fault old mid told s in (
+      w.0 ++ fault_line fault,
+      inr (record { fault = fault; is_told = told; step_is = refl; front = w.0; before = w.1; text_is = refl }),
+      front_then old mid new w.0 (fault_line fault) w.2 a,
+    )
+
+-- the write of what steps print failed
+steps_cut : (k : ScriptKind) (input : List ℕ) (fault : ScriptFault) (old new : Option (List ℕ)) → k ≡ kinds.Write → StopsAt k input fault old new → WritesFault k input fault old new
+steps_cut k input fault old new is s = subst (λ (x : ScriptKind). WritesFault x input fault old new) (sym is) (by (subst (λ (x : ScriptKind). StopsAt x input fault old new) is s)) where
+  by : StopsAt kinds.Write input fault old new → WritesFault kinds.Write input fault old new
+  by s = (s.0, inl s.1, s.2)
 
 told : (input : List ℕ) (fault reported : ScriptFault) (old mid new : Option (List ℕ)) → PlaysInput input old mid (Err fault) → Reports fault mid new reported → Writes input old new (Err reported)
-told input fault reported old mid new p (inl failed) = subst (λ (k : ScriptKind). WritesFault k input reported old new) (sym failed) tt
-told input fault reported old mid new p (inr is) = subst (λ (f : ScriptFault). WritesFault f.kind input f old new) (sym is.0) (with_line fault.kind input fault old mid new p is.1)
+told input fault reported old mid new p (inl (is, same, kept)) =
+    subst (λ (f : ScriptFault). WritesFault f.kind input f old new) (sym same)
+    (steps_cut fault.kind input fault old new is (subst (StopsAt fault.kind input fault old) (sym kept) p))
+told input fault reported old mid new p (inr (other, inl (same, line))) =
+    subst (λ (f : ScriptFault). WritesFault f.kind input f old new) (sym same) (with_line fault.kind input fault old mid new other p line)
+told input fault reported old mid new p (inr (other, inr (same, front))) =
+    subst (λ (f : ScriptFault). WritesFault f.kind input f old new) (sym same) (line_cut input fault old mid new other p front)
 
 pub reported : (known : Option (List ℕ)) (fault last : ScriptFault) (old mid new : Option (List ℕ)) → PlaysWhatIsRead known old mid (Err fault) → Reports fault mid new last → WritesWhatIsRead known old new (Err last)
 reported None fault last old mid new p r = tt

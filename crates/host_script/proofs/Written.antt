@@ -1,7 +1,8 @@
 -- What a writer holds, piece by piece.
-use Rattle.std.proofs.Common.{◌≡◌, ℕ, ◌+◌, ◌-◌, ◌≤◌, List, [], ◌++◌, length, take, drop, Option, Some, None, sym, ap, subst, ◌∙◌, arith}
+use Rattle.std.proofs.Common.{◌≡◌, ◌⊎◌, inl, inr, ℕ, ◌+◌, ◌-◌, ◌<◌, ◌≤◌, List, [], ◌++◌, length, take, drop, Option, Some, None, sym, ap, subst, ◌∙◌, arith}
 use Rattle.std.specs.Io.KnownBytes.{Appends, Keeps}
-use Rattle.std.proofs.lemmas.List.{append_assoc, append-nil, drop-take, length-drop, take-append-drop, take-take, take_rest}
+use Rattle.std.proofs.lemmas.List.{append_assoc, append-nil, drop-take, length-append, length-drop, take-append-drop, take-take, take_rest}
+use Rattle.std.proofs.lemmas.Bool.{cases_lt}
 use Rattle.host_script.specs.Writing.{AppendsFront}
 
 pub kept : (a b c : Option (List ℕ)) (t : List ℕ) → Appends a b t → Keeps b c → Appends a c t
@@ -23,11 +24,12 @@ nothing (Some xs) = sym (append-nil xs)
 pub retold : (a b : Option (List ℕ)) (s t : List ℕ) → Appends a b s → s ≡ t → Appends a b t
 retold a b s t w same = subst (Appends a b) same w
 
-pub front_at : (a b : Option (List ℕ)) (n : ℕ) (text shown : List ℕ) → shown ≡ text → Appends a b (take n shown) → AppendsFront a b text
-front_at a b n text shown same w = record {
+pub front_at : (a b : Option (List ℕ)) (n : ℕ) (text shown : List ℕ) → shown ≡ text → n < length shown → Appends a b (take n shown) → AppendsFront a b text
+front_at a b n text shown same below w = record {
   front = take n shown;
   rest = drop n shown;
   is = sym same ∙ sym (take-append-drop n shown);
+  is_left = let left = length-drop n shown in omega (arith, below, left);
   appends = w;
 }
 
@@ -37,7 +39,18 @@ front_then a b c s t w v = record {
   front = s ++ v.front;
   rest = v.rest;
   is = ap (λ (us : List ℕ). s ++ us) v.is ∙ sym (append_assoc s v.front v.rest);
+  is_left = v.is_left;
   appends = both a b c s v.front w v.appends;
+}
+
+-- the first bytes of a text are those of a longer one
+pub front_more : (a b : Option (List ℕ)) (s t : List ℕ) → AppendsFront a b s → AppendsFront a b (s ++ t)
+front_more a b s t v = record {
+  front = v.front;
+  rest = v.rest ++ t;
+  is = ap (λ (us : List ℕ). us ++ t) v.is ∙ append_assoc v.front v.rest t;
+  is_left = let long = length-append v.rest t in let left = v.is_left in omega (arith, long, left);
+  appends = v.appends;
 }
 
 -- the first n bytes, and so many more
@@ -56,3 +69,9 @@ more_written a b c n m bs w v =
 pub still_within : (n m : ℕ) (bs : List ℕ) → n ≤ length bs → m ≤ length (take (length bs - n) (drop n bs)) → n + m ≤ length bs
 still_within n m bs below some =
     let long = ap length (take_rest bs n) ∙ length-drop n bs in omega (arith, below, some, long)
+
+pub below_end : (n m : ℕ) → n ≤ m → (n ≡ m → ⊥) → n < m
+below_end n m within other = by (cases_lt n m) where
+  by : (n < m) ⊎ (m ≤ n) → n < m
+  by (inl less) = less
+  by (inr more) = absurd (other (omega (arith, within, more)))

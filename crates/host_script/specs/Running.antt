@@ -1,5 +1,5 @@
 -- Internal: a run of a script before the line of its fault is written.
-use Rattle.std.specs.Prelude.{◌≡◌, ℕ, ◌<◌, List, [], length, Option, Result, Ok, Err, IfSome, Vec, ◌⊎◌}
+use Rattle.std.specs.Prelude.{◌≡◌, ◌≢◌, ℕ, ◌<◌, List, [], length, Option, Result, Ok, Err, IfSome, Vec, ◌⊎◌}
 use Rattle.std.specs.Io.KnownBytes.{Appends}
 use Rattle.std.specs.declared.alloc.Global.{Global}
 use Rattle.script_text.specs.declared.fault.ScriptFault.{ScriptFault}
@@ -9,6 +9,7 @@ use Rattle.script_text.specs.declared.script.Script.{Script}
 use Rattle.host_script.specs.Scripts.{BreaksOff, IsRun, fault_line, Plays, WritesBefore}
 use Rattle.host_script.specs.Stages.{Begins, Overruns, StageFacts}
 use Rattle.host_script.specs.Starts.{start_of}
+use Rattle.host_script.specs.Writing.{AppendsFront}
 
 -- ---- what is read
 
@@ -28,11 +29,11 @@ ReadsAll known (Err kinds.Write) = ⊥
 
 -- ---- the steps
 
--- How the steps of a script end that don't all run; a failed write leaves some front of their lines.
+-- How the steps of a script end that don't all run; a failed write leaves the first bytes of their lines.
 abbrev pub Fails : ScriptKind → Script → ℕ → Option (List ℕ) → Option (List ℕ) → Type 0
 Fails kinds.TooManyDeliveries script number old new = (text : List ℕ) × BreaksOff (start_of script.head) script.steps number Overruns text × Appends old new text
 Fails kinds.Memory script number old new = (text : List ℕ) × ((text ≡ []) ⊎ BreaksOff (start_of script.head) script.steps number Begins text) × Appends old new text
-Fails kinds.Write script number old new = Unit {0}
+Fails kinds.Write script number old new = (text : List ℕ) × BreaksOff (start_of script.head) script.steps number Begins text × AppendsFront old new text
 Fails kinds.Read script number old new = ⊥
 Fails kinds.TooLong script number old new = ⊥
 Fails kinds.NotToml script number old new = ⊥
@@ -48,7 +49,7 @@ RunsSteps script old new (Err fault) = Fails fault.kind script fault.step old ne
 -- ---- the whole
 
 abbrev pub StopsAt : ScriptKind → List ℕ → ScriptFault → Option (List ℕ) → Option (List ℕ) → Type 0
-StopsAt kinds.Write input fault old new = Unit {0}
+StopsAt kinds.Write input fault old new = (text : List ℕ) × WritesBefore kinds.Write input fault text × AppendsFront old new text
 StopsAt kinds.NotToml input fault old new = (text : List ℕ) × WritesBefore kinds.NotToml input fault text × Appends old new text
 StopsAt kinds.MissingKey input fault old new = (text : List ℕ) × WritesBefore kinds.MissingKey input fault text × Appends old new text
 StopsAt kinds.WrongValue input fault old new = (text : List ℕ) × WritesBefore kinds.WrongValue input fault text × Appends old new text
@@ -66,6 +67,9 @@ PlaysInput input old new (Err fault) = StopsAt fault.kind input fault old new
 abbrev pub PlaysWhatIsRead : Option (List ℕ) → Option (List ℕ) → Option (List ℕ) → Result (Unit {0}) ScriptFault → Type 0
 PlaysWhatIsRead input old new result = IfSome input (λ bytes. PlaysInput bytes old new result)
 
--- The fault is reported with its line; or the write fails, and nothing is said.
+-- The fault is reported, with its line; or the write of this line fails, and that is the fault. A failed write has no line.
 abbrev pub Reports : ScriptFault → Option (List ℕ) → Option (List ℕ) → ScriptFault → Type 0
-Reports fault old new reported = (reported.kind ≡ kinds.Write) ⊎ ((reported ≡ fault) × Appends old new (fault_line fault))
+Reports fault old new reported =
+    ((fault.kind ≡ kinds.Write) × (reported ≡ fault) × (new ≡ old))
+    ⊎ ((fault.kind ≢ kinds.Write) × (((reported ≡ fault) × Appends old new (fault_line fault))
+    ⊎ ((reported ≡ record { kind = kinds.Write; step = fault.step }) × AppendsFront old new (fault_line fault))))

@@ -1,5 +1,5 @@
 -- Statement: what a script writes.
-use Rattle.std.specs.Prelude.{◌≡◌, ℕ, ◌+◌, min, List, [], ◌∷◌, ◌++◌, length, codes, Option, Result, Ok, Err, IfSome, ◌⊎◌}
+use Rattle.std.specs.Prelude.{◌≡◌, ◌≢◌, ℕ, ◌+◌, min, List, [], ◌∷◌, ◌++◌, length, codes, Option, Result, Ok, Err, IfSome, ◌⊎◌}
 use Rattle.std.specs.Io.KnownBytes.{Appends}
 use Rattle.script_text.specs.Faults.{text_of}
 use Rattle.script_text.specs.Scripts.{script_of}
@@ -10,6 +10,7 @@ use Rattle.script_text.specs.declared.script.Script.{Script}
 use Rattle.script_text.specs.declared.script.Step.{Step}
 use Rattle.host_script.specs.Stages.{Begins, Overruns, Prints, StageFacts}
 use Rattle.host_script.specs.Starts.{start_of}
+use Rattle.host_script.specs.Writing.{AppendsFront}
 
 -- Steps one after another: what they print, and what is held then.
 abbrev pub Plays : StageFacts → List Step → List ℕ → StageFacts → Type 0
@@ -66,9 +67,22 @@ pub record IsRun (input text : List ℕ) : Type 0 where
 abbrev pub fault_line : ScriptFault → List ℕ
 fault_line fault = text_of fault ++ codes "\n"
 
--- With its line; after a write that failed nothing is said.
+-- A fault's line behind what was written ahead of it. The line of a failed write is not written.
+pub record TellsFault (input : List ℕ) (step : ℕ) (text : List ℕ) : Type 0 where
+  pub fault : ScriptFault
+  pub is_told : fault.kind ≢ kinds.Write
+  pub step_is : fault.step ≡ step
+  pub front : List ℕ
+  pub before : WritesBefore fault.kind input fault front
+  pub text_is : text ≡ front ++ fault_line fault
+
+-- What was to be written where a write fails: what steps print up to the one that breaks off, or a fault with its line.
+abbrev pub IsUnwritten : List ℕ → ScriptFault → List ℕ → Type 0
+IsUnwritten input fault text = WritesBefore kinds.Write input fault text ⊎ TellsFault input fault.step text
+
+-- With its line; where a write failed, the first bytes of what was to be written.
 abbrev pub WritesFault : ScriptKind → List ℕ → ScriptFault → Option (List ℕ) → Option (List ℕ) → Type 0
-WritesFault kinds.Write input fault old new = Unit {0}
+WritesFault kinds.Write input fault old new = (text : List ℕ) × IsUnwritten input fault text × AppendsFront old new text
 WritesFault kinds.NotToml input fault old new = (text : List ℕ) × WritesBefore kinds.NotToml input fault text × Appends old new (text ++ fault_line fault)
 WritesFault kinds.MissingKey input fault old new = (text : List ℕ) × WritesBefore kinds.MissingKey input fault text × Appends old new (text ++ fault_line fault)
 WritesFault kinds.WrongValue input fault old new = (text : List ℕ) × WritesBefore kinds.WrongValue input fault text × Appends old new (text ++ fault_line fault)
@@ -79,7 +93,8 @@ WritesFault kinds.TooManyDeliveries input fault old new = (text : List ℕ) × W
 WritesFault kinds.Read input fault old new = (text : List ℕ) × WritesBefore kinds.Read input fault text × Appends old new (text ++ fault_line fault)
 WritesFault kinds.Memory input fault old new = (text : List ℕ) × WritesBefore kinds.Memory input fault text × Appends old new (text ++ fault_line fault)
 
--- What a run of this input wrote: what its script prints, or what a part of it prints and then the line of its fault.
+-- What a run of this input wrote: what its script prints; what a part of it prints and then the line of its fault; or the
+-- first bytes of such a text, where a write failed.
 abbrev pub Writes : List ℕ → Option (List ℕ) → Option (List ℕ) → Result (Unit {0}) ScriptFault → Type 0
 Writes input old new (Ok u) = (text : List ℕ) × IsRun input text × Appends old new text
 Writes input old new (Err fault) = WritesFault fault.kind input fault old new

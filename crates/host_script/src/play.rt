@@ -8,12 +8,14 @@ ghost use Rattle.host_script.specs.Scripts.{WritesWhatIsRead};
 
 use crate::input::read_input;
 use crate::stage::Stage;
+use crate::writing::write_fault;
 use script_text::{Script, ScriptFault, ScriptKind, read_script};
 use std::alloc::Global;
 use std::io::{Read, Write};
 
 /// Reads a script to the end of the reader, runs its steps, and writes what they print. The line of a
-/// fault is written too, but for that of a failed write: `script fault 2 MissingKey step 3`.
+/// fault is written too, but for that of a failed write: `script fault 2 MissingKey step 3`. After a
+/// failed write the writer has the first bytes of what was to be written.
 pub fn run_script<I: Read, O: Write>(
     alloc: Global,
     reader: &mut I,
@@ -67,7 +69,7 @@ fn report<O: Write>(fault: ScriptFault, writer: &mut O) -> ScriptFault
     if fault.kind == ScriptKind::Write {
         return fault;
     }
-    match writeln!(writer, "{fault}") {
+    match write_fault(writer, fault) {
         Ok(()) => fault,
         Err(_) => ScriptFault {
             kind: ScriptKind::Write,

@@ -3,13 +3,16 @@
 ghost use Rattle.std.specs.Prelude.{◌≡◌, IfErr, OnErr, OnOk};
 ghost use Rattle.std.specs.Io.KnownBytes.{Appends};
 ghost use Rattle.host_script.specs.declared.fault.RunFault.TheVariants.{Write as write_failed};
+ghost use Rattle.host_script.specs.Scripts.{fault_line};
 ghost use Rattle.host_script.specs.Writing.{AppendsFront};
 
 use crate::fault::RunFault;
+use itoa::Buffer;
+use script_text::ScriptFault;
 use std::io::{ErrorKind, Write};
 
 /// Writes text whole. A write that was interrupted is tried again. Where one fails, or takes nothing, the
-/// writer holds the first bytes of the text.
+/// writer has the first bytes of the text, and some are left.
 pub(crate) fn write_text<O: Write>(writer: &mut O, text: &str) -> Result<(), RunFault>
     ensures whole { OnOk result (Appends (O.contents writer.old) (O.contents writer.new) text.now) }
     ensures front { OnErr result (AppendsFront (O.contents writer.old) (O.contents writer.new) text.now) }
@@ -31,5 +34,24 @@ pub(crate) fn write_text<O: Write>(writer: &mut O, text: &str) -> Result<(), Run
             }
         }
     }
+    if at == bytes.len() {
+        return Ok(());
+    }
     Err(RunFault::Write)
+}
+
+/// Writes the line of a fault, without memory, as `write_text` writes text.
+pub(crate) fn write_fault<O: Write>(writer: &mut O, fault: ScriptFault) -> Result<(), RunFault>
+    ensures whole { OnOk result (Appends (O.contents writer.old) (O.contents writer.new) (fault_line fault)) }
+    ensures front { OnErr result (AppendsFront (O.contents writer.old) (O.contents writer.new) (fault_line fault)) }
+{
+    let mut number = Buffer::new();
+    let mut step = Buffer::new();
+    write_text(writer, "script fault ")?;
+    write_text(writer, number.format(fault.kind.number()))?;
+    write_text(writer, " ")?;
+    write_text(writer, fault.kind.name())?;
+    write_text(writer, " step ")?;
+    write_text(writer, step.format(fault.step))?;
+    write_text(writer, "\n")
 }

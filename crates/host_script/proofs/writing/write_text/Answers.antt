@@ -1,17 +1,13 @@
-use Rattle.std.proofs.Common.{◌+◌, ◌≤◌, ℕ, length, take, sym, subst}
+use Rattle.std.proofs.Common.{◌≤◌, ℕ, length, take, sym, subst}
 use Rattle.std.specs.Io.KnownBytes.{Appends}
-use Rattle.host_script.proofs.Written.{front_at, kept, more_written, still_within}
+use Rattle.host_script.proofs.Written.{below_end, front_at, kept, more_written, still_within}
 use Rattle.host_script.proofs.writing.write_text.Goals as goal
 use Rattle.host_script.proofs.writing.write_text.Goals.{in-Ok, in-Err+else-ne}
-
-pub returns-in-Ok-eq0-clause-front : goal.returns-in-Ok-eq0-clause-front
-returns-in-Ok-eq0-clause-front g c =
-    front_at _ _ (c.loop.at + c.in-Ok-eq0.field-0) c.args.text.now c.as_bytes-bytes.result.now c.as_bytes-bytes.ensures.value
-    (more_written _ _ _ c.loop.at c.in-Ok-eq0.field-0 c.as_bytes-bytes.result.now c.loop.invariant.1 c.in-Ok-eq0.ensures.bytes)
 
 pub returns-then-ne-clause-front : goal.returns-then-ne-clause-front
 returns-then-ne-clause-front g c =
     front_at _ _ c.loop.at c.args.text.now c.as_bytes-bytes.result.now c.as_bytes-bytes.ensures.value
+    (below_end c.loop.at (length c.as_bytes-bytes.result.now) c.loop.invariant.0 c.if-at-bytes.false)
     (kept _ _ _ (take c.loop.at c.as_bytes-bytes.result.now) c.loop.invariant.1 c.in-Err.ensures.bytes)
 
 pub loop-preserved : goal.loop-preserved
@@ -28,4 +24,5 @@ loop-preserved g c = elim c.match-write.branch [
 
 pub returns-clause-front : goal.returns-clause-front
 returns-clause-front g c =
-    front_at _ _ c.loop.at c.args.text.now c.as_bytes-bytes.result.now c.as_bytes-bytes.ensures.value c.loop.invariant.1
+    front_at _ _ c.loop.at c.args.text.now c.as_bytes-bytes.result.now c.as_bytes-bytes.ensures.value
+    (below_end c.loop.at (length c.as_bytes-bytes.result.now) c.loop.invariant.0 c.if-at-bytes-2.false) c.loop.invariant.1
