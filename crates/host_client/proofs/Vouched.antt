@@ -122,6 +122,46 @@ waits s a answers is none here =
     let then : is_vouched_answer s.config.f (s.answers ++ a ∷ []) a ≡ false = subst (λ (xs : List Answer). is_vouched s.config.f xs a.number.0 a.result ≡ false) is here in
     subst (λ (xs : List Answer). option_map (reply_to s) (find (is_vouched_answer s.config.f xs) xs) ≡ None) (sym is) (ap (option_map (reply_to s)) (not_found s.config.f s.answers a s.answers before then))
 
+-- ---- an answer that its replica has given before
+
+said_again : (answers : List Answer) (a : Answer) (number : ℕ) (result : List ℕ) (n : ℕ) → has_said answers number result a.replica ≡ true → has_said (answers ++ a ∷ []) number result n ≡ has_said answers number result n
+said_again answers a number result n before =
+    list_any-append (λ b. (b.replica == n) && says number result b) answers (a ∷ []) ∙ by (a.replica == n) refl where
+      or_false : (p : Bool) → (p || false) ≡ p
+      or_false true = refl
+      or_false false = refl
+
+      by : (e : Bool) → (a.replica == n) ≡ e → (has_said answers number result n || (((a.replica == n) && says number result a) || false)) ≡ has_said answers number result n
+      by true same = let here : has_said answers number result n ≡ true = subst (λ (i : ℕ). has_said answers number result i ≡ true) (eqb-true a.replica n same) before in rw here refl
+      by false other = rw other (or_false (has_said answers number result n))
+
+backers_again : (answers : List Answer) (a : Answer) (number : ℕ) (result : List ℕ) (n : ℕ) → has_said answers number result a.replica ≡ true → backers (answers ++ a ∷ []) number result n ≡ backers answers number result n
+unfolding backers
+backers_again answers a number result zero before = refl
+backers_again answers a number result (suc n) before =
+    let said = said_again answers a number result n before in
+    let rest = backers_again answers a number result n before in
+    rw (said, rest) refl
+
+-- where nothing is vouched for, what one of these says is not
+unvouched : (f : ℕ) (answers zs : List Answer) (number : ℕ) (result : List ℕ) (n : ℕ) → find (is_vouched_answer f answers) zs ≡ None → has_said zs number result n ≡ true → is_vouched f answers number result ≡ false
+unvouched f answers [] number result n none said = absurd (false≢true said)
+unvouched f answers (z ∷ zs) number result n none said =
+    let parts = rest_none (is_vouched_answer f answers z) z (find (is_vouched_answer f answers) zs) none in
+    by ((z.replica == n) && says number result z) refl parts.0 (unvouched f answers zs number result n parts.1) where
+      by : (e : Bool) → ((z.replica == n) && says number result z) ≡ e → is_vouched_answer f answers z ≡ false → (has_said zs number result n ≡ true → is_vouched f answers number result ≡ false) → is_vouched f answers number result ≡ false
+      by true is here rest =
+          let same = and_parts (z.number.0 == number) (bytes_eq z.result result) (and_parts (z.replica == n) (says number result z) is).1 in
+          ap (λ (m : ℕ). is_vouched f answers m result) (sym (eqb-true z.number.0 number same.0)) ∙ ap (λ (r : List ℕ). is_vouched f answers z.number.0 r) (sym ((bytes_eq-Decides z.result result).0 same.1)) ∙ here
+      by false is here rest = rest (ap (λ (e : Bool). e || has_said zs number result n) (sym is) ∙ said)
+
+pub repeats : (s : SessionState) (a : Answer) (answers : List Answer) → answers ≡ s.answers ++ a ∷ [] → accepted_by s ≡ None → has_said s.answers a.number.0 a.result a.replica ≡ true → accepted_by (record s { answers = answers }) ≡ None
+repeats s a answers is none before =
+    let nothing = nothing_found s (find (is_vouched_answer s.config.f s.answers) s.answers) none in
+    let was = unvouched s.config.f s.answers s.answers a.number.0 a.result a.replica nothing before in
+    let now = ap (λ (n : ℕ). nat_lt s.config.f n) (backers_again s.answers a a.number.0 a.result (replicas_for s.config.f) before) in
+    waits s a answers is none (subst (λ (xs : List Answer). is_vouched s.config.f xs a.number.0 a.result ≡ false) (sym is) (now ∙ was))
+
 -- where a reply is awaited, none is accepted
 pub awaits-none : (s : SessionState) (b : ReplyBody) → awaits s b ≡ true → accepted_by s ≡ None
 awaits-none s b e = is_none-None (accepted_by s) (and_parts (is_none (accepted_by s)) ((b.client.0 == s.client.0) && (b.time == s.time)) (and_parts (nat_lt 0 s.time) (is_none (accepted_by s) && ((b.client.0 == s.client.0) && (b.time == s.time))) e).1).0 where

@@ -28,7 +28,7 @@ impl Answer {
 }
 
 /// Whether the replica has answered as in a reply.
-fn has_said(answers: &[Answer], reply: &ReplyBody, replica: u32) -> bool
+pub(crate) fn has_said(answers: &[Answer], reply: &ReplyBody, replica: u32) -> bool
     ensures { result ≡ has_said answers.now reply.now.number.0 reply.now.result replica }
 {
     answers

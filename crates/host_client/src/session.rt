@@ -6,7 +6,7 @@ ghost use Rattle.lms_tree.specs.Keys.{after_signing, leaf_count};
 ghost use Rattle.host_client.specs.declared.fault.SessionFault.TheVariants.{Exhausted, Memory};
 ghost use Rattle.host_client.specs.Sessions.{MaySign, accepted_by, answer_in, asked, awaits, next_request, offered};
 
-use crate::answer::{Answer, is_vouched};
+use crate::answer::{Answer, has_said, is_vouched};
 use crate::fault::SessionFault;
 use host_types::{Bytes, ClientId, Config, Reply};
 use lms_tree::Signer;
@@ -156,7 +156,12 @@ impl Session {
             number: reply.number,
             result,
         };
+        // What a replica says again backs nothing new.
+        let is_repeated = has_said(&self.answers, reply, replica);
         self.answers.push(answer)?;
+        if is_repeated {
+            return Ok(());
+        }
         if is_vouched(self.config.f(), &self.answers, reply) {
             self.accepted = Some(Reply {
                 client: self.client,
