@@ -33,7 +33,7 @@ Examples:
   echo '7110000000000000 9500000000000000' | bpf_host verify --explain
   printf 'mov64 r0, 7\\nexit\\n' | bpf_host asm
   echo 'b700000007000000 9500000000000000' | bpf_host disasm
-  bpf_host world < examples/worlds/normal_day.toml
+  bpf_host world < script.toml
 
 Status: 0 done, 1 refused, 2 a fault of the command line, 3 out of memory, 4 a read or write failed";
 
