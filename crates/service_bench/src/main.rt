@@ -1,7 +1,6 @@
 //! Takes the digest of a small state. With the argument `time` it prints what the digest of a full
-//! state costs against one hash of its bytes, what reading a largest state costs against one, and what a
-//! put to a full map costs against one to a map with room, from one run, and ends with an error where a
-//! limit is passed.
+//! state costs against one hash of its bytes, and what a put to a full map costs against one to a map
+//! with room, from one run, and ends with an error where a limit is passed.
 #![tactic(auto)]
 
 use anyhow::Result;

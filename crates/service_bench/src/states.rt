@@ -18,23 +18,16 @@ const PUT: &[u8] = &[
 
 /// A configuration of four replicas with one client.
 fn config(alloc: Global) -> Result<Arc<Config>> {
-    with_clients(alloc, 1)
-}
-
-/// A configuration of four replicas with so many clients, from 100 on, in turn of the tenants 1 to 8.
-fn with_clients(alloc: Global, count: u32) -> Result<Arc<Config>> {
     let mut keys = Vec::new(alloc);
     for index in 0..4u8 {
         keys.push([index; 56])?;
     }
     let mut clients = Vec::new(alloc);
-    for index in 0..count {
-        clients.push(ClientEntry {
-            id: ClientId(CLIENT.0.saturating_add(index)),
-            tenant: TenantId(index % 8 + 1),
-            key: [7; 56],
-        })?;
-    }
+    clients.push(ClientEntry {
+        id: CLIENT,
+        tenant: TenantId(1),
+        key: [7; 56],
+    })?;
     match Config::new(1, 8, keys, clients) {
         Ok(config) => Ok(Arc::new(alloc, config)?),
         Err(_) => Err(anyhow!("the configuration is refused")),
@@ -84,54 +77,4 @@ pub(crate) fn map(alloc: Global, count: u32) -> Result<TenantMap> {
         map.put(key(number), [0x5a; 32])?;
     }
     Ok(map)
-}
-
-/// Bytes, and a number in four bytes and in eight at their end.
-fn put_u32(bytes: &mut Vec<u8>, number: u32) -> Result<()> {
-    bytes.extend_from_slice(&number.to_be_bytes())?;
-    Ok(())
-}
-
-fn put_u64(bytes: &mut Vec<u8>, number: u64) -> Result<()> {
-    bytes.extend_from_slice(&number.to_be_bytes())?;
-    Ok(())
-}
-
-/// A tenant with 64 procedures of 1,024 slots and 4,096 entries.
-fn put_tenant(bytes: &mut Vec<u8>, tenant: u32) -> Result<()> {
-    put_u32(bytes, tenant)?;
-    put_u32(bytes, 64)?;
-    for _ in 0..64 {
-        put_u32(bytes, 8192)?;
-        for _ in 0..1023 {
-            bytes.extend_from_slice(&[0xb7, 0, 0, 0, 7, 0, 0, 0])?;
-        }
-        bytes.extend_from_slice(&[0x95, 0, 0, 0, 0, 0, 0, 0])?;
-    }
-    put_u32(bytes, 4096)?;
-    for number in 0..4096 {
-        bytes.extend_from_slice(&key(number))?;
-        bytes.extend_from_slice(&[0x5a; 32])?;
-    }
-    Ok(())
-}
-
-/// The configuration and the bytes of a largest state: 64 clients with replies of 265 bytes, and 8
-/// full tenants.
-pub(crate) fn largest(alloc: Global) -> Result<(Arc<Config>, Vec<u8>)> {
-    let mut bytes = [1].to_vec(alloc)?;
-    put_u64(&mut bytes, 1000)?;
-    put_u32(&mut bytes, 64)?;
-    for index in 0..64 {
-        put_u32(&mut bytes, CLIENT.0 + index)?;
-        put_u64(&mut bytes, 5)?;
-        put_u64(&mut bytes, 6)?;
-        put_u32(&mut bytes, 265)?;
-        bytes.extend_from_slice(&[3; 265])?;
-    }
-    put_u32(&mut bytes, 8)?;
-    for tenant in 1..9 {
-        put_tenant(&mut bytes, tenant)?;
-    }
-    Ok((with_clients(alloc, 64)?, bytes))
 }

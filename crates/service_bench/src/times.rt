@@ -2,7 +2,6 @@
 
 use crate::states;
 use anyhow::{Result, anyhow};
-use service_core::State;
 use sha2::{Digest, Sha256};
 use std::time::Instant;
 use tenant_maps::{MapPort, TenantMap};
@@ -11,12 +10,6 @@ const ROUNDS: u32 = 40;
 
 /// What a state's digest may cost, in thousandths of one hash of its bytes.
 const DIGEST: u128 = 1100;
-
-/// What reading a state may cost, in thousandths of one hash of its bytes.
-const READING: u128 = 3000;
-
-/// The rounds of reading a largest state.
-const READINGS: u32 = 10;
 
 /// What a put to a full map may cost, in thousandths of one to a map with room.
 const FULL_PUT: u128 = 1300;
@@ -67,36 +60,6 @@ fn print_digest(rt: &HostRuntime) -> Result<bool> {
     )
 }
 
-/// Reading a largest state against one hash of its bytes.
-fn print_reading(rt: &HostRuntime) -> Result<bool> {
-    let (config, bytes) = states::largest(rt.alloc())?;
-    let mut taken = u128::MAX;
-    let mut hashed = u128::MAX;
-    for _ in 0..READINGS {
-        let config = config.clone()?;
-        let start = Instant::now(rt)?;
-        let read = State::from_bytes(rt.alloc(), config, &bytes);
-        taken = taken.min(start.elapsed(rt)?.as_nanos());
-        let Ok(state) = read else {
-            return Err(anyhow!("the state is not read"));
-        };
-        let start = Instant::now(rt)?;
-        let hash = <Sha256 as Digest>::digest(bytes.as_slice());
-        hashed = hashed.min(start.elapsed(rt)?.as_nanos());
-        if state.digest().0 != hash {
-            return Err(anyhow!("the state read is another"));
-        }
-    }
-    println!(rt; "a largest state has {} bytes", bytes.len())?;
-    print_ratio(
-        rt,
-        "reading a largest state",
-        taken,
-        ("one hash of its bytes", hashed),
-        READING,
-    )
-}
-
 /// The time of putting all keys below 4,000 again.
 fn nanoseconds_of_puts(rt: &HostRuntime, map: &mut TenantMap) -> Result<u128> {
     let mut least = u128::MAX;
@@ -128,9 +91,8 @@ fn print_puts(rt: &HostRuntime) -> Result<bool> {
 /// Prints all ratios; an error where one passes its limit.
 pub(crate) fn print_times(rt: &HostRuntime) -> Result<()> {
     let digest = print_digest(rt)?;
-    let reading = print_reading(rt)?;
     let puts = print_puts(rt)?;
-    if digest && reading && puts {
+    if digest && puts {
         Ok(())
     } else {
         Err(anyhow!("a limit is passed"))
