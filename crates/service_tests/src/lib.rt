@@ -7,6 +7,8 @@ mod assembling;
 #[cfg(test)]
 mod decoding;
 #[cfg(test)]
+mod generated;
+#[cfg(test)]
 mod running;
 #[cfg(test)]
 mod service;

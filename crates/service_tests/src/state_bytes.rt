@@ -15,7 +15,7 @@ use std::test::Fail;
 const CLIENTS: [(u32, u32); 4] = [(300, 2), (100, 1), (200, 1), (150, 2)];
 
 /// Wants bytes read as a state that encodes as them, or as none. Tells whether it was one.
-fn is_exact<R: Abort + AllocGlobal>(
+pub(crate) fn is_exact<R: Abort + AllocGlobal>(
     rt: &R,
     config: &Arc<Config>,
     bytes: &[u8],
@@ -31,7 +31,7 @@ fn is_exact<R: Abort + AllocGlobal>(
 }
 
 /// Wants a state read back from its bytes, with its bytes, digest and number.
-fn expect_again<R: Abort + AllocGlobal>(
+pub(crate) fn expect_again<R: Abort + AllocGlobal>(
     rt: &R,
     config: &Arc<Config>,
     state: &State,
@@ -228,7 +228,12 @@ const EDITS: &[Edit] = &[
 ];
 
 /// The bytes with another one at a place.
-fn with_byte(alloc: Global, bytes: &[u8], place: usize, byte: u8) -> Result<Vec<u8>, AllocError> {
+pub(crate) fn with_byte(
+    alloc: Global,
+    bytes: &[u8],
+    place: usize,
+    byte: u8,
+) -> Result<Vec<u8>, AllocError> {
     let mut changed = bytes.to_vec(alloc)?;
     if let Some(old) = changed.get_mut(place) {
         *old = byte;
@@ -307,7 +312,7 @@ fn faults_have_numbers(rt: HostRuntime) {
 }
 
 /// The number that follows in a generator.
-fn next(drawn: u32) -> u32 {
+pub(crate) fn next(drawn: u32) -> u32 {
     drawn.wrapping_mul(1_664_525).wrapping_add(1_013_904_223)
 }
 
