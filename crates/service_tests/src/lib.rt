@@ -9,6 +9,8 @@ mod decoding;
 #[cfg(test)]
 mod generated;
 #[cfg(test)]
+mod largest;
+#[cfg(test)]
 mod running;
 #[cfg(test)]
 mod service;

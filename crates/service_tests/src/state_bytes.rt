@@ -150,7 +150,7 @@ fn another_configuration_has_other_states(rt: HostRuntime) -> Result<(), Fail> {
 
 /// What a change of `FULL_STATE` is called, whether the changed bytes spell a state, a place and the byte
 /// put there, and a range (from, up to) with the piece that then replaces it so many times.
-type Edit = (
+pub(crate) type Edit = (
     &'static str,
     bool,
     (usize, u8),
@@ -160,10 +160,10 @@ type Edit = (
 );
 
 /// A change that changes nothing: the version's byte.
-const SAME: (usize, u8) = (0, 1);
+pub(crate) const SAME: (usize, u8) = (0, 1);
 
 /// A procedure with its length: `SEVEN`.
-const PROCEDURE: &[u8] = &[
+pub(crate) const PROCEDURE: &[u8] = &[
     0, 0, 0, 16, 0xb7, 0, 0, 0, 7, 0, 0, 0, 0x95, 0, 0, 0, 0, 0, 0, 0,
 ];
 
@@ -260,7 +260,7 @@ fn spliced(
 }
 
 /// The bytes of a state that an edit changes.
-fn edited(alloc: Global, bytes: &[u8], edit: &Edit) -> Result<Vec<u8>, Fail> {
+pub(crate) fn edited(alloc: Global, bytes: &[u8], edit: &Edit) -> Result<Vec<u8>, Fail> {
     let (_, _, (place, byte), range, piece, times) = *edit;
     let changed = with_byte(alloc, bytes, place, byte)?;
     spliced(alloc, &changed, range, piece, times)

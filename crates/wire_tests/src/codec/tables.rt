@@ -67,7 +67,7 @@ pub static MESSAGES: [&[&str]; 11] = [
 ];
 
 /// What is wrong, the bytes, and their fault.
-pub static FAULTY: [(&str, &[&str], CodecFault); 21] = [
+pub static FAULTY: [(&str, &[&str], CodecFault); 22] = [
     (
         "one byte short",
         &[
@@ -194,6 +194,14 @@ pub static FAULTY: [(&str, &[&str], CodecFault); 21] = [
         &[
             "010000000100000051080000000100000002010000000100000015070000000100000000000000000000000000000000",
             "00000000010000000000000015070000000100000000000000000000000000000000000000000000000000000000",
+        ],
+        CodecFault::NotAscending,
+    ),
+    (
+        "two ViewChanges of one signer in a NewView",
+        &[
+            "010000000100000051080000000100000002010000000100000015070000000100000000000000000000000000000000",
+            "00000000010000000100000015070000000100000000000000000000000000000000000000000000000000000000",
         ],
         CodecFault::NotAscending,
     ),
