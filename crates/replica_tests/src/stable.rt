@@ -191,6 +191,13 @@ static BEFORE: [Offer; 4] = [
     (2, b"", Some(CheckpointFault::DigestDiffers)),
 ];
 
+// Each with one byte of the snapshot changed.
+static CHANGED: [Offer; 3] = [
+    (2, b"`bc", Some(CheckpointFault::DigestDiffers)),
+    (2, b"aBc", Some(CheckpointFault::DigestDiffers)),
+    (2, b"abb", Some(CheckpointFault::DigestDiffers)),
+];
+
 static AT_THE_MARK: [Offer; 2] = [
     (2, b"abc", Some(CheckpointFault::Old)),
     (1, b"abc", Some(CheckpointFault::Old)),
@@ -204,15 +211,28 @@ fn bytes_of(alloc: Global, text: &[u8]) -> Result<Bytes, AllocError> {
     Ok(Bytes::from_vec(bytes))
 }
 
-// Whether each offer has its fault and the snapshot at 2 stays as it is.
+// What can be seen of a table whose number 2 is the only one that has anything.
+type Seen = (SeqNo, Option<u8>, Option<SeqNo>, Option<usize>);
+
+fn seen(kept: &Checkpoints) -> Seen {
+    let length = kept.snapshot_of(SeqNo(2)).map(|bytes| bytes.len());
+    (
+        kept.low(),
+        stable(kept, 2),
+        kept.stable_above(SeqNo(0)),
+        length,
+    )
+}
+
+// Whether each offer has its fault and all stays as it is.
 fn refuses(alloc: Global, kept: &mut Checkpoints, offers: &[Offer]) -> Result<bool, Fail> {
-    let was = kept.snapshot_of(SeqNo(2)).map(|bytes| bytes.len());
+    let was = seen(kept);
     let mut right = true;
     for (number, text, fault) in offers {
         let answer = kept.offer(SeqNo(*number), bytes_of(alloc, text)?).err();
-        right = right && answer == *fault;
+        right = right && answer == *fault && seen(kept) == was;
     }
-    Ok(right && kept.snapshot_of(SeqNo(2)).map(|bytes| bytes.len()) == was)
+    Ok(right)
 }
 
 #[test]
@@ -230,9 +250,10 @@ fn snapshots_are_offered(rt: HostRuntime) -> Result<(), Fail> {
     let abc: &[u8] = b"abc";
     kept.offer(SeqNo(2), bytes_of(alloc, abc)?)?;
     assert_eq!(rt; kept.snapshot_of(SeqNo(2)), Some(abc));
+    let changed = refuses(alloc, &mut kept, &CHANGED)?;
     kept.discard_to(SeqNo(2));
     let after = refuses(alloc, &mut kept, &AT_THE_MARK)?;
-    assert_eq!(rt; (before, after), (true, true));
+    assert_eq!(rt; (before, changed, after), (true, true, true));
     assert_eq!(rt; kept.snapshot_of(SeqNo(2)), Some(abc));
     Ok(())
 }
