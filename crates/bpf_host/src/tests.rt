@@ -576,6 +576,46 @@ fn streams_that_fail(rt: HostRuntime) {
     }
 }
 
+/// A head of a script, with the keys that are needed.
+fn script_head(alloc: Global) -> Result<String, Fail> {
+    Ok(format!(in alloc; "f = 1\nk = 8\nsecret = \"{SECRET}\"\n")?)
+}
+
+#[test]
+fn lengths_of_a_script(rt: HostRuntime) -> Result<(), Fail> {
+    let cases = [
+        (1_048_576, 0, ""),
+        (1_048_577, 1, "script fault 7 TooLong step 0\n"),
+    ];
+    for (length, status, output) in cases {
+        let mut script = script_head(rt.alloc())?;
+        let rest = usize::saturating_sub(length, script.len());
+        script.push_str("\n".repeat(rt.alloc(), rest)?.as_str())?;
+        run_text(&rt, "world", script.as_bytes(), status, output)?;
+    }
+    Ok(())
+}
+
+#[test]
+fn streams_of_a_script_that_fail(rt: HostRuntime) -> Result<(), Fail> {
+    let words = ["bpf_host", "world"];
+    let mut written = Vec::new(rt.alloc());
+    let got = run_command(&rt, &words, &mut Breaks { reads: 0 }, &mut written);
+    assert_eq!(rt; got, 4);
+    assert_eq!(rt; str::from_utf8(&written)?, "script fault 8 Read step 0\n");
+    let mut script = script_head(rt.alloc())?;
+    script.push_str("step = [{ do = \"show\" }, { do = \"show\" }]\n")?;
+    for script in [script.as_str(), "f = 1"] {
+        let got = run_command(&rt, &words, &mut script.as_bytes(), &mut Closed);
+        assert_eq!(rt; got, 4, "on {script}");
+    }
+    for writes in 0..3 {
+        let got = run_command(&rt, &words, &mut script.as_bytes(), &mut Fills { writes });
+        assert_eq!(rt; got, if writes < 2 { 4 } else { 0 }, "{writes}");
+    }
+    Ok(())
+}
+
 #[test]
 fn code_is_written_as_it_was_read(rt: HostRuntime) -> Result<(), Fail> {
     let bytes = hex::decode(

@@ -1,0 +1,300 @@
+//! Times in one run: the least of a few rounds of each.
+
+use crate::floor::{
+    Vote, commit, nanoseconds_of_keys, nanoseconds_of_opening, nanoseconds_of_signing,
+    nanoseconds_of_verifying,
+};
+use crate::replies::nanoseconds_of_offers;
+use crate::scripts::{
+    DELIVERY, HEAD, VAIN_DELIVERY, followed, nanoseconds_of, output_of, queued, requests, steps,
+};
+use anyhow::{Result, anyhow};
+
+const ROUNDS: u32 = 9;
+
+/// The calls behind an installation.
+const CALLS: usize = 10;
+
+/// A script's keys: of four replicas and a client.
+const KEYS: u8 = 5;
+
+/// What eleven requests and a checkpoint sign. Of a request: itself, a PrePrepare, three Prepares, four
+/// Commits and four Replies. Of a checkpoint: four messages.
+const SIGNED: u32 = 11 * 13 + 4;
+
+/// What they have opened. Of a request: itself four times, the PrePrepare three times, the Prepares nine,
+/// the Commits twelve times, and four Replies. Of a checkpoint: each message three times.
+const OPENED: usize = 11 * 32 + 12;
+
+/// What the requests' script may cost, in thousandths of its keys and signatures.
+const WHOLE: u128 = 1250;
+
+/// The deliveries of a vote.
+const DELIVERIES: u32 = 1000;
+
+/// What a delivery to who opens it may cost, in thousandths of an opening.
+const OPENING: u128 = 1500;
+
+/// The same of bytes that are refused: they are opened once more to tell why.
+const REFUSING: u128 = 2500;
+
+/// The same of deliveries to a faulty replica.
+const PASSING: u128 = 50;
+
+/// The faulty replica.
+const FAULTY: u8 = 3;
+
+/// What twice as much may cost, in thousandths.
+const TWICE: u128 = 2500;
+
+/// A time against another, and what it may be of it, in thousandths.
+#[derive(Clone, Copy)]
+struct Ratio<'a> {
+    work: &'a str,
+    taken: u128,
+    other: &'a str,
+    floor: u128,
+    limit: u128,
+}
+
+impl<'a> Ratio<'a> {
+    /// Prints it, and returns whether it is within its limit.
+    fn print(&self, rt: &HostRuntime) -> Result<bool> {
+        let ratio = self.taken.saturating_mul(1000) / self.floor.max(1);
+        println!(rt;
+            "{}: {} us, {} {} us, ratio {}.{:03}, limit {}.{:03}",
+            self.work,
+            self.taken / 1000,
+            self.other,
+            self.floor / 1000,
+            ratio / 1000,
+            ratio % 1000,
+            self.limit / 1000,
+            self.limit % 1000
+        )?;
+        Ok(ratio <= self.limit)
+    }
+}
+
+/// The least time of a script in a few rounds, in nanoseconds.
+fn least(rt: &HostRuntime, script: &str, lines: usize) -> Result<u128> {
+    let mut least = u128::MAX;
+    for _ in 0..ROUNDS {
+        least = least.min(nanoseconds_of(rt, script, lines)?);
+    }
+    Ok(least)
+}
+
+/// The least times of a script without its last steps and with them, which print so many lines: what these
+/// steps take, in nanoseconds.
+fn least_of_steps(rt: &HostRuntime, script: &str, steps: &str, lines: usize) -> Result<u128> {
+    let whole = followed(rt.alloc(), script, steps)?;
+    let mut least = u128::MAX;
+    let mut least_whole = u128::MAX;
+    for _ in 0..ROUNDS {
+        least = least.min(nanoseconds_of(rt, script, 0)?);
+        least_whole = least_whole.min(nanoseconds_of(rt, &whole, lines)?);
+    }
+    Ok(least_whole.saturating_sub(least))
+}
+
+/// The least time of as many signatures as the requests have, made and verified, in nanoseconds, and that of
+/// keys.
+fn least_of_floor(rt: &HostRuntime) -> Result<(u128, u128)> {
+    let mut signatures = u128::MAX;
+    let mut keys = u128::MAX;
+    for _ in 0..ROUNDS {
+        let (made, mut signer) = nanoseconds_of_keys(rt, KEYS)?;
+        let (signing, signed) = nanoseconds_of_signing(rt, &mut signer, SIGNED)?;
+        let verifying = nanoseconds_of_verifying(rt, &signer.public_key(), &signed, OPENED)?;
+        keys = keys.min(made);
+        signatures = signatures.min(signing.saturating_add(verifying));
+    }
+    Ok((signatures, keys))
+}
+
+/// Eleven requests that are executed.
+fn print_requests(rt: &HostRuntime) -> Result<bool> {
+    let script = requests(rt.alloc(), CALLS)?;
+    let taken = least(rt, &script, CALLS.saturating_add(1))?;
+    let (signatures, keys) = least_of_floor(rt)?;
+    Ratio {
+        work: "a script of 11 requests",
+        taken,
+        other: "its keys and signatures alone",
+        floor: keys.saturating_add(signatures),
+        limit: WHOLE,
+    }
+    .print(rt)
+}
+
+/// Deliveries of bytes, as hex, to who opens them: how many lines they print, and what they may cost.
+#[derive(Clone, Copy)]
+struct Delivery<'a> {
+    work: &'a str,
+    to: u8,
+    bytes: &'a str,
+    lines: usize,
+    limit: u128,
+}
+
+impl<'a> Delivery<'a> {
+    /// Prints what a thousand of them take against as many openings of a vote alone.
+    fn print(&self, rt: &HostRuntime, opening: u128) -> Result<bool> {
+        let script = queued(rt.alloc(), self.to, self.bytes, DELIVERIES as usize, 0)?;
+        let taken = least_of_steps(rt, &script, DELIVERY, self.lines)?;
+        Ratio {
+            work: self.work,
+            taken,
+            other: "as many openings alone",
+            floor: opening,
+            limit: self.limit,
+        }
+        .print(rt)
+    }
+}
+
+/// The least time of as many openings of a vote alone, in nanoseconds.
+fn least_of_openings(rt: &HostRuntime, vote: &Vote) -> Result<u128> {
+    let mut least = u128::MAX;
+    for _ in 0..ROUNDS {
+        least = least.min(nanoseconds_of_opening(rt, vote, DELIVERIES)?);
+    }
+    Ok(least)
+}
+
+/// A thousand deliveries to those who open them, and 800,000 to a faulty replica.
+fn print_deliveries(rt: &HostRuntime) -> Result<bool> {
+    let mut vote = commit(rt.alloc())?;
+    let opening = least_of_openings(rt, &vote)?;
+    let good = hex::encode(rt.alloc(), vote.bytes.as_slice())?;
+    let Some(last) = vote.bytes.last_mut() else {
+        return Err(anyhow!("a vote of no bytes"));
+    };
+    *last ^= 1;
+    let bad = hex::encode(rt.alloc(), vote.bytes.as_slice())?;
+    let cases = [
+        Delivery {
+            work: "1,000 deliveries to a replica",
+            to: 1,
+            bytes: &good,
+            lines: 0,
+            limit: OPENING,
+        },
+        Delivery {
+            work: "1,000 deliveries to a client",
+            to: 100,
+            bytes: &good,
+            lines: 0,
+            limit: OPENING,
+        },
+        Delivery {
+            work: "1,000 deliveries of a wrong signature",
+            to: 1,
+            bytes: &bad,
+            lines: DELIVERIES as usize,
+            limit: REFUSING,
+        },
+    ];
+    let mut are_within = print_faulty(rt, opening)?;
+    for case in &cases {
+        are_within = case.print(rt, opening)? && are_within;
+    }
+    Ok(are_within)
+}
+
+/// Deliveries to a faulty replica, which opens nothing.
+fn print_faulty(rt: &HostRuntime, opening: u128) -> Result<bool> {
+    let script = queued(rt.alloc(), FAULTY, "01", 3125, 8)?;
+    Ratio {
+        work: "800,000 deliveries to a faulty replica",
+        taken: least_of_steps(rt, &script, DELIVERY, 0)?,
+        other: "as many openings alone",
+        floor: opening.saturating_mul(800),
+        limit: PASSING,
+    }
+    .print(rt)
+}
+
+/// Prints what twice as much takes against what this takes.
+fn print_twice(rt: &HostRuntime, work: &str, twice: u128, once: u128) -> Result<bool> {
+    Ratio {
+        work,
+        taken: twice,
+        other: "half as many",
+        floor: once,
+        limit: TWICE,
+    }
+    .print(rt)
+}
+
+/// The least time of messages on their way, 400,000 doubled so many times: they are queued, passed over and
+/// delivered to a faulty replica.
+fn least_of_queue(rt: &HostRuntime, doublings: usize) -> Result<u128> {
+    let alloc = rt.alloc();
+    let queued = queued(alloc, FAULTY, "01", 3125, doublings.saturating_add(7))?;
+    let whole = followed(alloc, &followed(alloc, &queued, VAIN_DELIVERY)?, DELIVERY)?;
+    let head = least(rt, HEAD, 0)?;
+    Ok(least(rt, &whole, 0)?.saturating_sub(head))
+}
+
+/// The least time of so many steps that do nothing.
+fn least_of_vain_steps(rt: &HostRuntime, count: usize) -> Result<u128> {
+    let head = least(rt, HEAD, 0)?;
+    Ok(least(rt, &steps(rt.alloc(), count)?, 0)?.saturating_sub(head))
+}
+
+/// The least time of so many offers of one reply.
+fn least_of_offers(rt: &HostRuntime, count: u32) -> Result<u128> {
+    let mut least = u128::MAX;
+    for _ in 0..ROUNDS {
+        least = least.min(nanoseconds_of_offers(rt, count)?);
+    }
+    Ok(least)
+}
+
+/// Prints what grows: messages on their way, steps, and replies that a replica repeats.
+fn print_growth(rt: &HostRuntime) -> Result<bool> {
+    let queue = print_twice(
+        rt,
+        "800,000 messages queued, passed over and delivered",
+        least_of_queue(rt, 1)?,
+        least_of_queue(rt, 0)?,
+    )?;
+    let steps = print_twice(
+        rt,
+        "32,000 steps that do nothing",
+        least_of_vain_steps(rt, 32_000)?,
+        least_of_vain_steps(rt, 16_000)?,
+    )?;
+    let offers = print_twice(
+        rt,
+        "a reply that comes 800,000 times",
+        least_of_offers(rt, 800_000)?,
+        least_of_offers(rt, 400_000)?,
+    )?;
+    Ok(queue && steps && offers)
+}
+
+/// Prints all ratios; an error where one passes its limit.
+pub(crate) fn print_times(rt: &HostRuntime) -> Result<()> {
+    let requests = print_requests(rt)?;
+    let deliveries = print_deliveries(rt)?;
+    let growth = print_growth(rt)?;
+    if requests && deliveries && growth {
+        Ok(())
+    } else {
+        Err(anyhow!("a limit is passed"))
+    }
+}
+
+/// Prints how many requests of a script were accepted.
+pub(crate) fn print_small(rt: &HostRuntime) -> Result<()> {
+    let output = output_of(rt.alloc(), &requests(rt.alloc(), CALLS)?)?;
+    let accepted = str::from_utf8(&output)?
+        .lines()
+        .filter(|line| line.starts_with("client 100 time "))
+        .count();
+    println!(rt; "{accepted} requests are accepted")?;
+    Ok(())
+}
