@@ -6,7 +6,7 @@ use std::alloc::{AllocError, Global};
 use std::time::CpuClock;
 
 /// Four replicas, of which replica 3 is faulty, and a client. Each key has 32 leaves, and the secret is zeros.
-pub(crate) const HEAD: &str = "\
+const HEAD: &str = "\
 f = 1
 k = 8
 secret = \"0000000000000000000000000000000000000000000000000000000000000000\"
