@@ -159,14 +159,14 @@ drop_blank z =
     let p = part_is (λ (b : ℕ). b == 44) z in
     ap (λ (ps : List (List ℕ)). map trim (onto_first 32 ps)) p.1.1 ∙ sym (ap (λ (ps : List (List ℕ)). map trim ps) p.1.1)
 
-pub pieces_spelled : (x : List ℕ) (xs : List (List ℕ)) → AreOperands (x ∷ xs) → pieces (x ++ behind_first xs) ≡ x ∷ xs
-pieces_spelled x [] h =
+pub pieces_of_text : (x : List ℕ) (xs : List (List ℕ)) → AreOperands (x ∷ xs) → pieces (x ++ behind_first xs) ≡ x ∷ xs
+pieces_of_text x [] h =
     ap pieces (append-nil x)
     ∙ ap (λ (ps : List (List ℕ)). map trim ps) (split_whole (λ (b : ℕ). b == 44) x (nowhere plain (λ b. b == 44) plain_comma x h.1))
     ∙ ap (λ (y : List ℕ). y ∷ []) (trim_plain x h.1)
-pieces_spelled x (y ∷ ys) h =
+pieces_of_text x (y ∷ ys) h =
     ap (λ (ps : List (List ℕ)). map trim ps) (split_at 44 plain refl plain_comma x (32 ∷ (y ++ behind_first ys)) h.1)
-    ∙ ap (λ (ps : List (List ℕ)). trim x ∷ ps) (drop_blank (y ++ behind_first ys) ∙ pieces_spelled y ys h.2)
+    ∙ ap (λ (ps : List (List ℕ)). trim x ∷ ps) (drop_blank (y ++ behind_first ys) ∙ pieces_of_text y ys h.2)
     ∙ ap (λ (z : List ℕ). z ∷ y ∷ ys) (trim_plain x h.1)
 
 operands_line : (x : List ℕ) (xs : List (List ℕ)) → AreOperands (x ∷ xs) → list_all line_byte (x ++ behind_first xs) ≡ true
@@ -190,7 +190,7 @@ behind_read ([] ∷ xs) h = absurd (let z : 0 < 0 = h.0 in omega arith)
 behind_read ((c ∷ cs) ∷ xs) h =
     ap operand_texts (nonempty_first (c ∷ cs) xs h)
     ∙ ap (λ (b : Bool). cond b [] (pieces ((c ∷ cs) ++ behind_first xs))) (some_length ((c ∷ cs) ++ behind_first xs) (omega arith))
-    ∙ pieces_spelled (c ∷ cs) xs h
+    ∙ pieces_of_text (c ∷ cs) xs h
 
 pub behind_line : (ops : List (List ℕ)) → AreOperands ops → list_all line_byte (behind_word_text ops) ≡ true
 behind_line [] h = refl

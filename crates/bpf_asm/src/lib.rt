@@ -8,11 +8,11 @@ mod law;
 mod line;
 mod number;
 mod operand;
+mod printing;
 mod rounds;
-mod spelling;
 mod text;
 
 pub use fault::{AsmFault, AsmKind};
 pub use law::printed_code_assembles_to_itself;
+pub use printing::print;
 pub use rounds::assemble;
-pub use spelling::print;

@@ -19,7 +19,7 @@ use Rattle.seal.specs.Opening.{CheckedMessage, opening}
 use Rattle.seal.specs.declared.fault.SealFault.{SealFault}
 use Rattle.seal.specs.Signers.{key_of}
 use Rattle.view_change.specs.Setups.{setup_of}
-use Rattle.replica_core.specs.Shown.{RowFacts, row_of}
+use Rattle.replica_core.specs.Facts.{RowFacts, row_of}
 use Rattle.replica_core.specs.Steps.{Goes, ReplicaFacts, Stops, StopsFrom}
 use Rattle.replica_core.specs.declared.halt.Halt.{Halt}
 use Rattle.replica_core.specs.declared.row.Input.{Input}

@@ -7,7 +7,7 @@ use Rattle.std.proofs.Math.Seq.{drop-cons}
 use Rattle.host_types.specs.Configuration.{Configuration, IsConfiguration}
 use Rattle.pbft_model.specs.Journals.{Agrees, Journals}
 use Rattle.pbft_model.specs.Words.{SigningState}
-use Rattle.replica_core.specs.Shown.{RowFacts}
+use Rattle.replica_core.specs.Facts.{RowFacts}
 use Rattle.replica_core.specs.declared.row.Input.{Input}
 use Rattle.replica_core.specs.declared.row.Input.TheVariants as inputs
 use Rattle.replica_core.specs.declared.row.Output.{Output}

@@ -3,7 +3,7 @@ use Rattle.std.specs.Prelude.{◌≡◌, ◌⊎◌, ℕ, ◌+◌, ◌-◌, ◌==
 use Rattle.std.specs.List.{AllByRecursion, list_all}
 use Rattle.std.specs.Option.{option_or}
 use Rattle.host_types.specs.declared.Digest.{Digest}
-use Rattle.replica_core.specs.Shown.{RowFacts}
+use Rattle.replica_core.specs.Facts.{RowFacts}
 use Rattle.replica_core.specs.declared.row.Done.{Done}
 use Rattle.replica_core.specs.declared.row.Done.TheVariants.{Executed, Installed}
 use Rattle.byz_world.specs.declared.audit_fault.AuditFault.{AuditFault}

@@ -1,7 +1,7 @@
 -- Internal: an input at one correct replica, and what holds of every world.
 use Rattle.std.specs.Prelude.{◌≡◌, ℕ, ◌==◌, ◌+◌, ◌≤◌, List, [], ◌∷◌, ◌++◌, position, Option, Some, None, Result, Ok, Err}
 use Rattle.host_types.specs.Configuration.{Configuration, IsConfiguration}
-use Rattle.replica_core.specs.Shown.{RowFacts}
+use Rattle.replica_core.specs.Facts.{RowFacts}
 use Rattle.replica_core.specs.Steps.{Goes, ReplicaFacts, Stops}
 use Rattle.replica_core.specs.declared.halt.Halt.{Halt}
 use Rattle.replica_core.specs.declared.row.Input.{Input}

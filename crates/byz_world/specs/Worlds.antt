@@ -12,7 +12,7 @@ use Rattle.pbft_codec.specs.Encoding.{encoding}
 use Rattle.seal.specs.Opening.{CheckedMessage, opening}
 use Rattle.seal.specs.Signers.{key_of}
 use Rattle.seal.specs.declared.fault.SealFault.{SealFault}
-use Rattle.replica_core.specs.Shown.{RowFacts, row_of}
+use Rattle.replica_core.specs.Facts.{RowFacts, row_of}
 use Rattle.replica_core.specs.Steps.{Goes, ReplicaFacts, Stops, first_with}
 use Rattle.replica_core.specs.declared.halt.Halt.{Halt}
 use Rattle.replica_core.specs.declared.row.Input.{Input}

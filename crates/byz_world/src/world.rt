@@ -53,7 +53,7 @@ impl Model for World {
 
 impl World {
     /// A world before its first event. The caller owes one signer for each replica that is not faulty,
-    /// ids ascending, each with the key that is listed for it. It is refused only for want of memory.
+    /// ids ascending, each with the key that is listed for it. It is refused only where memory ran out.
     pub fn new(
         alloc: Global,
         config: &Arc<Config>,
@@ -110,7 +110,7 @@ impl World {
         }
     }
 
-    /// What the correct replicas did. It is refused only for want of memory.
+    /// What the correct replicas did. It is refused only where memory ran out.
     pub fn report(self) -> Result<Report, WorldFault>
         ensures report { IfOk result (λ outcomes. outcomes ≡ map outcome_of self.members) }
         ensures memory { IfErr result (λ fault. fault ≡ faults.Memory) }

@@ -7,7 +7,7 @@ mod Lists
 mod Parties
 mod Playing
 mod Reporting
-mod Shown
+mod Printed
 mod Timing
 mod Turns
 mod Written

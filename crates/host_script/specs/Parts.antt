@@ -21,7 +21,7 @@ use Rattle.script_text.specs.declared.script.Place.TheVariants.{Client}
 use Rattle.sha2.specs.Sha256.{sha256}
 use Rattle.host_script.specs.Letters.{LetterFacts, copies, first_meant, letter_of}
 use Rattle.host_script.specs.declared.forging.Forger.{Forger}
-use Rattle.replica_core.specs.Shown.{RowFacts}
+use Rattle.replica_core.specs.Facts.{RowFacts}
 use Rattle.byz_world.specs.Worlds.{Gives, WorldFacts, member_of}
 use Rattle.byz_world.specs.declared.event.Event.{Event}
 use Rattle.host_script.specs.Stages.{Delivers, Prints, StageFacts, halt_in, lacked_memory, letters_in, queued, receivers, after_asking, after_forging, after_offer, at_first, forged_vote, is_forger, is_of, signing_forger, signing_session, text_at}

@@ -21,7 +21,7 @@ use Rattle.seal.specs.declared.vote.VoteKind.TheVariants as votes
 use Rattle.sha2.specs.Sha256.{sha256}
 use Rattle.service_core.specs.TenantStates.{Service}
 use Rattle.pbft_model.specs.Core.{Core}
-use Rattle.replica_core.specs.Shown.{RowFacts}
+use Rattle.replica_core.specs.Facts.{RowFacts}
 use Rattle.replica_core.specs.declared.halt.Halt.{Halt}
 use Rattle.replica_core.specs.declared.halt.Halt.TheVariants as halts
 use Rattle.replica_core.specs.declared.row.Dest.{Dest}
@@ -212,7 +212,7 @@ lacked_memory (Some halts.Worn) = false
 lacked_memory (Some halts.JournalFull) = false
 lacked_memory (Some halts.AlreadyHalted) = false
 
--- The event happens, and what it gives is queued. A replica that halts for want of memory ends the script instead.
+-- The event happens, and what it gives is queued. A replica that halts for lack of memory ends the script instead.
 pub record Occurs (s : StageFacts) (id : ReplicaId) (event : Event) (t : StageFacts) : Type 0 where
   pub row : Option RowFacts
   pub world : WorldFacts
@@ -280,14 +280,14 @@ Deliveries f (suc n) s text t = (before line : List ℕ) × (u : StageFacts) × 
 abbrev pub max_deliveries : ℕ
 max_deliveries = 1_000_000
 
--- ---- what is shown
+-- ---- what `show` prints
 
 abbrev pub status_of : ReplicaId → Option MemberFacts → List ℕ
 status_of id None = []
 status_of id (Some m) = status_line id m.replica.status
 
-abbrev pub shown_status : WorldFacts → ReplicaId → List ℕ
-shown_status w id = status_of id (member_of w id.0)
+abbrev pub status_printed : WorldFacts → ReplicaId → List ℕ
+status_printed w id = status_of id (member_of w id.0)
 
 -- the service of a correct replica that has not halted
 abbrev pub service_in : Option MemberFacts → Option Service
@@ -298,15 +298,15 @@ abbrev pub digest_of : ReplicaId → Option Service → List ℕ
 digest_of id None = []
 digest_of id (Some service) = digest_line id service
 
-abbrev pub shown_digest : WorldFacts → ReplicaId → List ℕ
-shown_digest w id = digest_of id (service_in (member_of w id.0))
+abbrev pub digest_printed : WorldFacts → ReplicaId → List ℕ
+digest_printed w id = digest_of id (service_in (member_of w id.0))
 
 abbrev pub state_of : ReplicaId → Option Service → List ℕ
 state_of id None = []
 state_of id (Some service) = state_line id service
 
-abbrev pub shown_state : WorldFacts → ReplicaId → List ℕ
-shown_state w id = state_of id (service_in (member_of w id.0))
+abbrev pub state_printed : WorldFacts → ReplicaId → List ℕ
+state_printed w id = state_of id (service_in (member_of w id.0))
 
 -- ---- steps
 
@@ -329,9 +329,9 @@ Prints s (steps.Repeat f) text t = (text, t) ≡ quiet (repeated s f)
 Prints s (steps.Timeout at) text t = (text ≡ []) × AllTimeOut s at t
 Prints s (steps.Forge f) text t = (text, t) ≡ forged s f
 Prints s (steps.Raw to bytes) text t = (text, t) ≡ quiet (queued s (copies (raw_letter bytes) to))
-Prints s steps.Show text t = (text ≡ flat_map (shown_status s.world) (ids_of s.world.config)) × (t ≡ s)
-Prints s steps.Digest text t = (text ≡ flat_map (shown_digest s.world) (ids_of s.world.config)) × (t ≡ s)
-Prints s (steps.State id) text t = (text ≡ shown_state s.world id) × (t ≡ s)
+Prints s steps.Show text t = (text ≡ flat_map (status_printed s.world) (ids_of s.world.config)) × (t ≡ s)
+Prints s steps.Digest text t = (text ≡ flat_map (digest_printed s.world) (ids_of s.world.config)) × (t ≡ s)
+Prints s (steps.State id) text t = (text ≡ state_printed s.world id) × (t ≡ s)
 
 -- More messages are meant than a step delivers.
 abbrev pub Overruns : StageFacts → Step → List ℕ → Type 0

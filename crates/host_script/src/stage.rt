@@ -13,7 +13,7 @@ ghost use Rattle.host_script.specs.Letters.{copies, first_meant, letter_of};
 ghost use Rattle.host_script.specs.Parts.{DeliversNext, Performs, Happened, HasMore, ahead, with_message};
 ghost use Rattle.pbft_codec.specs.declared.body.Body.TheVariants as bodies;
 ghost use Rattle.pbft_codec.specs.declared.body.request.RequestBody.{RequestBody};
-ghost use Rattle.host_script.specs.Stages.{AllTimeOut, HandsTo, TimesOut, AtReplica, at_client, digest_named, forged, ids_of, is_request, is_running, letters_in, letters_of, lacked_memory, halt_in, refusal_of, all_replicas, raw_letter, queued, requested, shown_digest, shown_state, shown_status};
+ghost use Rattle.host_script.specs.Stages.{AllTimeOut, HandsTo, TimesOut, AtReplica, at_client, digest_named, forged, ids_of, is_request, is_running, letters_in, letters_of, lacked_memory, halt_in, refusal_of, all_replicas, raw_letter, queued, requested, digest_printed, state_printed, status_printed};
 ghost use Rattle.seal.specs.Opening.{opening};
 
 use crate::fault::RunFault;
@@ -335,7 +335,7 @@ impl Stage {
         self.world.state(id).is_some()
     }
 
-    /// Whether a replica has stopped for want of memory.
+    /// Whether a replica has stopped for lack of memory.
     fn is_out_of_memory(&self, id: ReplicaId) -> bool
         ensures { result ≡ lacked_memory (halt_in (member_of self.now.world id.0)) }
     {
@@ -378,11 +378,11 @@ impl Stage {
         }
     }
 
-    // ---- what is shown
+    // ---- what `show` prints
 
     /// Where each correct replica stands.
     fn statuses(&self) -> Result<String, AllocError>
-        ensures { IfOk result (λ text. string_bytes text ≡ flat_map (shown_status self.now.world) (ids_of self.now.world.config)) }
+        ensures { IfOk result (λ text. string_bytes text ≡ flat_map (status_printed self.now.world) (ids_of self.now.world.config)) }
     {
         let mut text = String::new(self.alloc);
         for id in 0..self.config.replica_count() {
@@ -392,7 +392,7 @@ impl Stage {
     }
 
     fn status_text(&self, id: ReplicaId) -> Result<String, AllocError>
-        ensures { IfOk result (λ text. string_bytes text ≡ shown_status self.now.world id) }
+        ensures { IfOk result (λ text. string_bytes text ≡ status_printed self.now.world id) }
     {
         match self.world.status(id) {
             Some(status) => line_of_status(self.alloc, id, &status),
@@ -402,7 +402,7 @@ impl Stage {
 
     /// The number and the digest of each correct replica's state.
     fn digests(&self) -> Result<String, AllocError>
-        ensures { IfOk result (λ text. string_bytes text ≡ flat_map (shown_digest self.now.world) (ids_of self.now.world.config)) }
+        ensures { IfOk result (λ text. string_bytes text ≡ flat_map (digest_printed self.now.world) (ids_of self.now.world.config)) }
     {
         let mut text = String::new(self.alloc);
         for id in 0..self.config.replica_count() {
@@ -412,7 +412,7 @@ impl Stage {
     }
 
     fn digest_text(&self, id: ReplicaId) -> Result<String, AllocError>
-        ensures { IfOk result (λ text. string_bytes text ≡ shown_digest self.now.world id) }
+        ensures { IfOk result (λ text. string_bytes text ≡ digest_printed self.now.world id) }
     {
         match self.world.state(id) {
             Some(state) => line_of_digest(self.alloc, id, state),
@@ -422,7 +422,7 @@ impl Stage {
 
     /// The bytes of a correct replica's state.
     fn state_text(&self, id: ReplicaId) -> Result<String, AllocError>
-        ensures { IfOk result (λ text. string_bytes text ≡ shown_state self.now.world id) }
+        ensures { IfOk result (λ text. string_bytes text ≡ state_printed self.now.world id) }
     {
         match self.world.state(id) {
             Some(state) => line_of_state(self.alloc, id, state),

@@ -18,7 +18,7 @@ use Rattle.seal.specs.declared.vote.VoteKind.TheVariants as kinds
 use Rattle.quorum_log.specs.declared.slot.Slot.{Slot}
 use Rattle.quorum_log.specs.Asking.{Shows}
 use Rattle.quorum_log.specs.Ballots.{digest_in, is_for, least_votes, vote_at, voted_for}
-use Rattle.quorum_log.specs.Log.{Log, backing, certificate_in, certificate_shown, if_certified, is_certified_in, shown}
+use Rattle.quorum_log.specs.Log.{Log, backing, certificate_in, checked_certificate, if_certified, is_certified_in, as_checked}
 use Rattle.quorum_log.specs.Reading.{as_pre_prepare, as_prepare, read_by}
 use Rattle.quorum_log.specs.Slots.{IsVoteAt, certificate_for, certificate_here, certificate_with, digest_of_some, is_certified_for}
 use Rattle.quorum_log.proofs.Asking.{Asked, asked, fields, prepared_by, proposal_is, setup, unlisted}
@@ -98,13 +98,13 @@ backing_is c hash l view number s digest k h =
 
 -- ---- the certificate
 
-shown_if : (c : Configuration) (hash : List ℕ → List ℕ) (l : Log) (b : Bool) (m : Signed PrePrepare) → option_map (λ m. shown c (certificate_in (setup c hash) l m)) (if b then Some m else None) ≡ cond b (Some (shown c (certificate_in (setup c hash) l m))) None
-shown_if c hash l true m = refl
-shown_if c hash l false m = refl
+checked_if : (c : Configuration) (hash : List ℕ → List ℕ) (l : Log) (b : Bool) (m : Signed PrePrepare) → option_map (λ m. as_checked c (certificate_in (setup c hash) l m)) (if b then Some m else None) ≡ cond b (Some (as_checked c (certificate_in (setup c hash) l m))) None
+checked_if c hash l true m = refl
+checked_if c hash l false m = refl
 
-same_shown : (c : Configuration) (hash : List ℕ → List ℕ) (l : Log) (view number : ℕ) (s : Slot) (m : CheckedMessage) → IsConfiguration c → Shows c l view number s → IsVoteAt c kinds.PrePrepare view number m → (a : Asked c hash l view number s m)
-    → shown c (certificate_in (setup c hash) l (with_body m.message a.body)) ≡ certificate_with c s m a.body.digest
-same_shown c hash l view number s m k h is a =
+same_checked : (c : Configuration) (hash : List ℕ → List ℕ) (l : Log) (view number : ℕ) (s : Slot) (m : CheckedMessage) → IsConfiguration c → Shows c l view number s → IsVoteAt c kinds.PrePrepare view number m → (a : Asked c hash l view number s m)
+    → as_checked c (certificate_in (setup c hash) l (with_body m.message a.body)) ≡ certificate_with c s m a.body.digest
+same_checked c hash l view number s m k h is a =
     let prepares = ap (λ f. map (as_message bodies.Prepare) (backing (setup c hash) l f)) a.fields_are ∙ backing_is c hash l view number s a.body.digest.0 k h in
     λ i. record {
       pre_prepare = record { config = sym is.config i; message = record { role = m.message.role; id = m.message.id; body = sym a.is i; sig = m.message.sig } };
@@ -112,17 +112,17 @@ same_shown c hash l view number s m k h is a =
     }
 
 certificate_of : (c : Configuration) (hash : List ℕ → List ℕ) (l : Log) (view number : ℕ) (s : Slot) → IsConfiguration c → Shows c l view number s → (o : Option CheckedMessage) → s.pre_prepare ≡ o
-    → option_map (λ m. shown c (certificate_in (setup c hash) l m)) (if_certified (setup c hash) l (read_by as_pre_prepare o)) ≡ cond (is_certified_for c view s (digest_of_some o)) (certificate_for c s o (digest_of_some o)) None
+    → option_map (λ m. as_checked c (certificate_in (setup c hash) l m)) (if_certified (setup c hash) l (read_by as_pre_prepare o)) ≡ cond (is_certified_for c view s (digest_of_some o)) (certificate_for c s o (digest_of_some o)) None
 certificate_of c hash l view number s k h None e = refl
 certificate_of c hash l view number s k h (Some m) e =
     let is = h.is.pre_prepare m e in
     let a = asked c hash l view number s m k h e is in
-    ap (λ b. option_map (λ m. shown c (certificate_in (setup c hash) l m)) (if_certified (setup c hash) l (as_pre_prepare m.message b))) a.is
-    ∙ shown_if c hash l (is_certified_in (setup c hash) l (of_pre_prepare a.body)) (with_body m.message a.body)
-    ∙ ap (λ b. cond b (Some (shown c (certificate_in (setup c hash) l (with_body m.message a.body)))) None) a.certified_is
-    ∙ ap (λ x. cond (is_certified_for c view s (Some a.body.digest)) (Some x) None) (same_shown c hash l view number s m k h is a)
+    ap (λ b. option_map (λ m. as_checked c (certificate_in (setup c hash) l m)) (if_certified (setup c hash) l (as_pre_prepare m.message b))) a.is
+    ∙ checked_if c hash l (is_certified_in (setup c hash) l (of_pre_prepare a.body)) (with_body m.message a.body)
+    ∙ ap (λ b. cond b (Some (as_checked c (certificate_in (setup c hash) l (with_body m.message a.body)))) None) a.certified_is
+    ∙ ap (λ x. cond (is_certified_for c view s (Some a.body.digest)) (Some x) None) (same_checked c hash l view number s m k h is a)
     ∙ sym (ap (λ b. cond (is_certified_for c view s (digest_in b)) (certificate_for c s (Some m) (digest_in b)) None) a.is)
 
-pub certificate_is : (c : Configuration) (hash : List ℕ → List ℕ) (l : Log) (view number : ℕ) (s : Slot) → IsConfiguration c → Shows c l view number s → certificate_here c view s ≡ certificate_shown (setup c hash) l view number
+pub certificate_is : (c : Configuration) (hash : List ℕ → List ℕ) (l : Log) (view number : ℕ) (s : Slot) → IsConfiguration c → Shows c l view number s → certificate_here c view s ≡ checked_certificate (setup c hash) l view number
 certificate_is c hash l view number s k h =
-    sym (ap (λ o. option_map (λ m. shown c (certificate_in (setup c hash) l m)) (if_certified (setup c hash) l o)) (proposal_is c hash l view number s k h) ∙ certificate_of c hash l view number s k h s.pre_prepare refl)
+    sym (ap (λ o. option_map (λ m. as_checked c (certificate_in (setup c hash) l m)) (if_certified (setup c hash) l o)) (proposal_is c hash l view number s k h) ∙ certificate_of c hash l view number s k h s.pre_prepare refl)

@@ -91,7 +91,7 @@ accepted l m (bodies.NewView b) = l
 accepted l m (bodies.Fetch b) = l
 accepted l m (bodies.Snapshot b) = l
 
--- A vote is refused for this fault; where it has none, only for want of memory.
+-- A vote is refused for this fault; where it has none, only for lack of memory.
 abbrev pub IsRefusedFor : Option LogFault → LogFault → Type 0
 IsRefusedFor fault OutsideMarks = fault ≡ Some OutsideMarks
 IsRefusedFor fault OtherDigest = fault ≡ Some OtherDigest
@@ -210,11 +210,11 @@ abbrev pub certificate_in : Setup → Log → Signed PrePrepare → Certificate
 certificate_in c l m = record { pre_prepare = m; prepares = backing c l (of_pre_prepare m.body) }
 
 -- as checked messages
-abbrev pub shown : Configuration → Certificate → CheckedCertificate
-shown config x = record {
+abbrev pub as_checked : Configuration → Certificate → CheckedCertificate
+as_checked config x = record {
   pre_prepare = record { config = config; message = as_message bodies.PrePrepare x.pre_prepare };
   prepares = record { config = config; messages = map (as_message bodies.Prepare) x.prepares };
 }
 
-abbrev pub certificate_shown : Setup → Log → ℕ → ℕ → Option CheckedCertificate
-certificate_shown c l view number = option_map (λ m. shown c.config (certificate_in c l m)) (certified_at c l view number)
+abbrev pub checked_certificate : Setup → Log → ℕ → ℕ → Option CheckedCertificate
+checked_certificate c l view number = option_map (λ m. as_checked c.config (certificate_in c l m)) (certified_at c l view number)

@@ -11,7 +11,7 @@ ghost use Rattle.pbft_model.specs.Validity.{greatest_of};
 ghost use Rattle.quorum_log.specs.Asking.{Shows};
 ghost use Rattle.quorum_log.specs.Slots.{empty_slot};
 ghost use Rattle.quorum_log.specs.declared.fault.LogFault.TheVariants.{Memory};
-ghost use Rattle.quorum_log.specs.Log.{AreInside, AreProposals, IsBetweenMarks, KeptLog, IsRefusedFor, accepted, certificate_shown, certified_at, discarded, entered, is_committed_at, is_under_floor, left, pre_prepares_in, proposal_in, start, vote_fault};
+ghost use Rattle.quorum_log.specs.Log.{AreInside, AreProposals, IsBetweenMarks, KeptLog, IsRefusedFor, accepted, checked_certificate, certified_at, discarded, entered, is_committed_at, is_under_floor, left, pre_prepares_in, proposal_in, start, vote_fault};
 
 use crate::certificate::CheckedCertificate;
 use crate::fault::LogFault;
@@ -186,13 +186,13 @@ impl QuorumLog {
     }
 
     /// The certificate of a number in a view, or none where it is not certified there: the PrePrepare, and
-    /// the matching Prepares of the 2f backups of least ids. It is refused for want of memory alone.
+    /// the matching Prepares of the 2f backups of least ids. It is refused for lack of memory alone.
     pub fn certificate(
         &self,
         view: View,
         number: SeqNo,
     ) -> Result<Option<CheckedCertificate>, LogFault>
-        ensures certificate { IfOk result (λ o. (hash : List ℕ → List ℕ) → o ≡ certificate_shown (record { config = self.now.config; hash = hash }) self.now.log view.0 number.0) }
+        ensures certificate { IfOk result (λ o. (hash : List ℕ → List ℕ) → o ≡ checked_certificate (record { config = self.now.config; hash = hash }) self.now.log view.0 number.0) }
         ensures fault { IfErr result (λ fault. fault ≡ Memory) }
     {
         match self.slot(view, number) {
@@ -222,7 +222,7 @@ impl QuorumLog {
     /// Enters a view with this floor, by the PrePrepares of its NewView for the numbers above the floor one
     /// after another (Castro and Liskov 1999, section 4.4): votes of lower views, and of this one at or
     /// below the floor, are dropped, and its PrePrepares up to the last of these numbers are these, where
-    /// they lie between the marks. It is refused for want of memory alone, and then the log is as it was.
+    /// they lie between the marks. It is refused for lack of memory alone, and then the log is as it was.
     pub fn enter(
         &mut self,
         view: View,

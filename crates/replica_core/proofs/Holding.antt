@@ -23,8 +23,8 @@ use Rattle.replica_core.proofs.Lists.{all_implied, filter_alike, filter_mapped, 
 abbrev pub request_of : Held → Signed RequestBody
 request_of h = as_request h.message
 
-abbrev pub shown_under : Configuration → Signed RequestBody → CheckedMessage
-shown_under c m = under c (as_message bodies.Request m)
+abbrev pub checked_under : Configuration → Signed RequestBody → CheckedMessage
+checked_under c m = under c (as_message bodies.Request m)
 
 -- two tests that agree on what is held
 pub first_found : (c : Configuration) (hs : List Held) (p : Signed RequestBody → Bool) (q : Held → Bool) → AreHeld c hs → ((h : Held) → IsHeld c h → p (request_of h) ≡ q h)
@@ -35,19 +35,19 @@ first_found c hs p q all alike =
 pub held_found : (c : Configuration) (hs : List Held) (digest : List ℕ) → AreHeld c hs → held_with (setup_of c) (requests_in hs) digest ≡ option_map request_of (find (λ h. bytes_eq h.digest.0 digest) hs)
 held_found c hs digest all = first_found c hs (is_named (setup_of c) digest) (λ h. bytes_eq h.digest.0 digest) all (λ h is. ap (λ d. bytes_eq d digest) (sym is.digest))
 
-is_message : (c : Configuration) (h : Held) → IsHeld c h → h.message ≡ shown_under c (request_of h)
+is_message : (c : Configuration) (h : Held) → IsHeld c h → h.message ≡ checked_under c (request_of h)
 is_message c h is = λ i. record { config = is.config i; message = record { role = h.message.message.role; id = h.message.message.id; body = is.is i; sig = h.message.message.sig } }
 
 pub find_some : (c : Configuration) (hs : List Held) (digest : List ℕ) (h : Held) → AreHeld c hs → Some h ≡ find (λ h. bytes_eq h.digest.0 digest) hs
-    → Some h.message ≡ option_map (shown_under c) (held_with (setup_of c) (requests_in hs) digest)
+    → Some h.message ≡ option_map (checked_under c) (held_with (setup_of c) (requests_in hs) digest)
 find_some c hs digest h all e =
     ap (λ (m : CheckedMessage). Some m) (is_message c h (find_in (IsHeld c) (λ h. bytes_eq h.digest.0 digest) hs h all e))
-    ∙ ap (λ o. option_map (shown_under c) (option_map request_of o)) e ∙ ap (option_map (shown_under c)) (sym (held_found c hs digest all))
+    ∙ ap (λ o. option_map (checked_under c) (option_map request_of o)) e ∙ ap (option_map (checked_under c)) (sym (held_found c hs digest all))
 
 pub find_none : (c : Configuration) (hs : List Held) (digest : List ℕ) → AreHeld c hs → None ≡ find (λ h. bytes_eq h.digest.0 digest) hs
-    → None ≡ option_map (shown_under c) (held_with (setup_of c) (requests_in hs) digest)
+    → None ≡ option_map (checked_under c) (held_with (setup_of c) (requests_in hs) digest)
 find_none c hs digest all e =
-    ap (λ o. option_map (shown_under c) (option_map request_of o)) e ∙ ap (option_map (shown_under c)) (sym (held_found c hs digest all))
+    ap (λ o. option_map (checked_under c) (option_map request_of o)) e ∙ ap (option_map (checked_under c)) (sym (held_found c hs digest all))
 
 -- ---- a request is added
 
@@ -64,16 +64,16 @@ held_new c m b digest at is e = record {
   digest = digest_is c m b digest.0 is e ∙ ap (digest_of (setup_of c)) (sym (request_is m b is));
 }
 
-seen : (c : Configuration) (o : Option (Signed RequestBody)) → is_some (option_map (shown_under c) o) ≡ is_some o
+seen : (c : Configuration) (o : Option (Signed RequestBody)) → is_some (option_map (checked_under c) o) ≡ is_some o
 seen c None = refl
 seen c (Some m) = refl
 
-pub add_new : (c : Configuration) (held : List (Signed RequestBody)) (m : Signed RequestBody) (digest : List ℕ) → digest ≡ digest_of (setup_of c) m → is_some (option_map (shown_under c) (held_with (setup_of c) held digest)) ≡ false
+pub add_new : (c : Configuration) (held : List (Signed RequestBody)) (m : Signed RequestBody) (digest : List ℕ) → digest ≡ digest_of (setup_of c) m → is_some (option_map (checked_under c) (held_with (setup_of c) held digest)) ≡ false
     → held ++ m ∷ [] ≡ add_request (setup_of c) m held
 add_new c held m digest e none =
     sym (ap (λ b. cond b held (held ++ m ∷ [])) (ap (λ d. is_some (held_with (setup_of c) held d)) (sym e) ∙ sym (seen c (held_with (setup_of c) held digest)) ∙ none))
 
-pub add_again : (c : Configuration) (held : List (Signed RequestBody)) (m : Signed RequestBody) (digest : List ℕ) → digest ≡ digest_of (setup_of c) m → is_some (option_map (shown_under c) (held_with (setup_of c) held digest)) ≡ true
+pub add_again : (c : Configuration) (held : List (Signed RequestBody)) (m : Signed RequestBody) (digest : List ℕ) → digest ≡ digest_of (setup_of c) m → is_some (option_map (checked_under c) (held_with (setup_of c) held digest)) ≡ true
     → held ≡ add_request (setup_of c) m held
 add_again c held m digest e some =
     sym (ap (λ b. cond b held (held ++ m ∷ [])) (ap (λ d. is_some (held_with (setup_of c) held d)) (sym e) ∙ sym (seen c (held_with (setup_of c) held digest)) ∙ some))

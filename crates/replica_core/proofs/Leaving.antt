@@ -12,7 +12,7 @@ use Rattle.pbft_model.specs.Core.{Core, certificate_of, if_passes, is_certified,
 use Rattle.pbft_model.specs.Tables.{first_in, keep, number_key, with_entry}
 use Rattle.pbft_model.specs.Acts.{left_for}
 use Rattle.quorum_log.specs.declared.certificate.CheckedCertificate.{CheckedCertificate}
-use Rattle.quorum_log.specs.Log.{KeptLog, certificate_shown, left, shown}
+use Rattle.quorum_log.specs.Log.{KeptLog, checked_certificate, left, as_checked}
 use Rattle.replica_core.specs.Replicas.{AreOne, KeptReplica, Parts, core_in, kept_in}
 use Rattle.replica_core.specs.Stores.{KeptCertificates, KeptChanges, KeptSent, only_states_asked}
 use Rattle.view_change.specs.Setups.{setup_of}
@@ -30,8 +30,8 @@ none_mapped f None e = refl
 none_mapped f (Some x) e = absurd cc
 
 -- the certificate of a number that is prepared
-abbrev Shown : (c : Configuration) → Core → Option Pre → Option CheckedCertificate
-Shown c s o = option_map (λ m. shown c (certificate_of (setup_of c) s m)) (if_passes (λ m. is_certified (setup_of c) s (of_pre_prepare m.body)) o)
+abbrev CheckedAt : (c : Configuration) → Core → Option Pre → Option CheckedCertificate
+CheckedAt c s o = option_map (λ m. as_checked c (certificate_of (setup_of c) s m)) (if_passes (λ m. is_certified (setup_of c) s (of_pre_prepare m.body)) o)
 
 abbrev PreparedIn : Configuration → Core → Option Pre → Option Pre
 PreparedIn c s o = if_passes (λ m. is_prepared (setup_of c) s (of_pre_prepare m.body)) o
@@ -39,21 +39,21 @@ PreparedIn c s o = if_passes (λ m. is_prepared (setup_of c) s (of_pre_prepare m
 pub record IsItsCertificate (c : Configuration) (s : Core) (prepared : Option Pre) (x : CheckedCertificate) : Type 0 where
   pub message : Pre
   pub is : prepared ≡ Some message
-  pub shows : x ≡ shown c (certificate_of (setup_of c) s message)
+  pub shows : x ≡ as_checked c (certificate_of (setup_of c) s message)
 
-its_certificate : (c : Configuration) (s : Core) (o : Option Pre) (d : Option Digest) (x : CheckedCertificate) → d ≡ digest_in (PreparedIn c s o) → is_some d ≡ true → Some x ≡ Shown c s o → IsItsCertificate c s (PreparedIn c s o) x
+its_certificate : (c : Configuration) (s : Core) (o : Option Pre) (d : Option Digest) (x : CheckedCertificate) → d ≡ digest_in (PreparedIn c s o) → is_some d ≡ true → Some x ≡ CheckedAt c s o → IsItsCertificate c s (PreparedIn c s o) x
 its_certificate c s None d x same some found = absurd cc
 its_certificate c s (Some m) d x same some found = parts (is_certified (setup_of c) s (of_pre_prepare m.body)) (is_known (setup_of c) s m.body.digest.0) (sym (ap is_some same) ∙ some) found where
-  parts : (a b : Bool) → is_some (digest_in (if a && b then Some m else None)) ≡ true → Some x ≡ option_map (λ m. shown c (certificate_of (setup_of c) s m)) (if a then Some m else None)
+  parts : (a b : Bool) → is_some (digest_in (if a && b then Some m else None)) ≡ true → Some x ≡ option_map (λ m. as_checked c (certificate_of (setup_of c) s m)) (if a then Some m else None)
       → IsItsCertificate c s (if a && b then Some m else None) x
-  parts true true e f = record { message = m; is = refl; shows = same_Some x (shown c (certificate_of (setup_of c) s m)) f }
+  parts true true e f = record { message = m; is = refl; shows = same_Some x (as_checked c (certificate_of (setup_of c) s m)) f }
   parts true false e f = absurd cc
   parts false b e f = absurd cc
 
-no_certificate : (c : Configuration) (s : Core) (o : Option Pre) (d : Option Digest) → d ≡ digest_in (PreparedIn c s o) → is_some d ≡ true → None ≡ Shown c s o → ⊥
+no_certificate : (c : Configuration) (s : Core) (o : Option Pre) (d : Option Digest) → d ≡ digest_in (PreparedIn c s o) → is_some d ≡ true → None ≡ CheckedAt c s o → ⊥
 no_certificate c s None d same some found = absurd cc
 no_certificate c s (Some m) d same some found = parts (is_certified (setup_of c) s (of_pre_prepare m.body)) (is_known (setup_of c) s m.body.digest.0) (sym (ap is_some same) ∙ some) found where
-  parts : (a b : Bool) → is_some (digest_in (if a && b then Some m else None)) ≡ true → None ≡ option_map (λ m. shown c (certificate_of (setup_of c) s m)) (if a then Some m else None) → ⊥
+  parts : (a b : Bool) → is_some (digest_in (if a && b then Some m else None)) ≡ true → None ≡ option_map (λ m. as_checked c (certificate_of (setup_of c) s m)) (if a then Some m else None) → ⊥
   parts true true e f = absurd cc
   parts true false e f = absurd cc
   parts false b e f = absurd cc
@@ -122,10 +122,10 @@ module _ (c : Configuration) (me : ℕ) (p : Parts) (one : AreOne c me p) where
   abbrev proposal : ℕ → Option Pre
   proposal number = pre_prepare_at (setup_of c) (core_in p) p.log.log.view number
 
-  shown_is : (k : KeptReplica) (view number : ℕ) (o : Option CheckedCertificate) → kept_in c me p ≡ k → view ≡ k.core.view → o ≡ certificate_shown (setup_of p.log.config) p.log.log view number → o ≡ Shown c (core_in p) (proposal number)
-  shown_is k view number o e own is =
-      is ∙ ap (λ (x : ℕ). certificate_shown (setup_of p.log.config) p.log.log x number) (own ∙ ap (λ (x : KeptReplica). x.core.view) (sym e))
-      ∙ ap (λ (x : Configuration). certificate_shown (setup_of x) p.log.log p.log.log.view number) one.log
+  checked_is : (k : KeptReplica) (view number : ℕ) (o : Option CheckedCertificate) → kept_in c me p ≡ k → view ≡ k.core.view → o ≡ checked_certificate (setup_of p.log.config) p.log.log view number → o ≡ CheckedAt c (core_in p) (proposal number)
+  checked_is k view number o e own is =
+      is ∙ ap (λ (x : ℕ). checked_certificate (setup_of p.log.config) p.log.log x number) (own ∙ ap (λ (x : KeptReplica). x.core.view) (sym e))
+      ∙ ap (λ (x : Configuration). checked_certificate (setup_of x) p.log.log p.log.log.view number) one.log
 
   digest_is : (k : KeptReplica) (number : ℕ) (d : Option Digest) → kept_in c me p ≡ k → d ≡ digest_in (Prepared k number) → d ≡ digest_in (PreparedIn c (core_in p) (proposal number))
   digest_is k number d e is = is ∙ ap (λ (x : KeptReplica). digest_in (Prepared x number)) (sym e)
@@ -134,15 +134,15 @@ module _ (c : Configuration) (me : ℕ) (p : Parts) (one : AreOne c me p) where
   Its number x = IsItsCertificate c (core_in p) (PreparedIn c (core_in p) (proposal number)) x
 
   pub its : (k : KeptReplica) (view number : ℕ) (d : Option Digest) (x : CheckedCertificate) → kept_in c me p ≡ k → d ≡ digest_in (Prepared k number) → is_some d ≡ true → view ≡ k.core.view
-      → Some x ≡ certificate_shown (setup_of p.log.config) p.log.log view number → Its number x
+      → Some x ≡ checked_certificate (setup_of p.log.config) p.log.log view number → Its number x
   its k view number d x e prepared some own is =
-      its_certificate c (core_in p) (proposal number) d x (digest_is k number d e prepared) some (shown_is k view number (Some x) e own is)
+      its_certificate c (core_in p) (proposal number) d x (digest_is k number d e prepared) some (checked_is k view number (Some x) e own is)
 
-  pub there_is : (number : ℕ) (x : CheckedCertificate) → Its number x → (y : Certificate) × (x ≡ shown p.kept.config y)
-  there_is number x i = (certificate_of (setup_of c) (core_in p) i.message, i.shows ∙ ap (λ (z : Configuration). shown z (certificate_of (setup_of c) (core_in p) i.message)) (sym one.kept))
+  pub there_is : (number : ℕ) (x : CheckedCertificate) → Its number x → (y : Certificate) × (x ≡ as_checked p.kept.config y)
+  there_is number x i = (certificate_of (setup_of c) (core_in p) i.message, i.shows ∙ ap (λ (z : Configuration). as_checked z (certificate_of (setup_of c) (core_in p) i.message)) (sym one.kept))
 
   abbrev Kept : ℕ → CheckedCertificate → KeptCertificates → Type 0
-  Kept number x new = (y : Certificate) → x ≡ shown p.kept.config y → new ≡ record p.kept { kept = with_entry p.kept.kept (number_key number) y }
+  Kept number x new = (y : Certificate) → x ≡ as_checked p.kept.config y → new ≡ record p.kept { kept = with_entry p.kept.kept (number_key number) y }
 
   pub still_one : (number : ℕ) (x : CheckedCertificate) (new : KeptCertificates) → Its number x → Kept number x new → AreOne c me (record p { kept = new })
   still_one number x new i kept =
@@ -158,9 +158,9 @@ module _ (c : Configuration) (me : ℕ) (p : Parts) (one : AreOne c me p) where
       ∙ ap (λ (z : KeptReplica). KeepsAt z number) e
 
   pub keeps_nothing : (k : KeptReplica) (view number : ℕ) (d : Option Digest) {A : Type 0} → kept_in c me p ≡ k → d ≡ digest_in (Prepared k number) → is_some d ≡ true → view ≡ k.core.view
-      → None ≡ certificate_shown (setup_of p.log.config) p.log.log view number → A
+      → None ≡ checked_certificate (setup_of p.log.config) p.log.log view number → A
   keeps_nothing k view number d e prepared some own is =
-      absurd (no_certificate c (core_in p) (proposal number) d (digest_is k number d e prepared) some (shown_is k view number None e own is))
+      absurd (no_certificate c (core_in p) (proposal number) d (digest_is k number d e prepared) some (checked_is k view number None e own is))
 
   abbrev Left : ℕ → KeptReplica → KeptReplica
   Left view k = record k {

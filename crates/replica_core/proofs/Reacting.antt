@@ -18,7 +18,7 @@ use Rattle.view_change.specs.Setups.{setup_of}
 use Rattle.replica_core.specs.Answering.{Gives, HasBegun, IsAtRest, IsKept, IsRowOf, IsSound, IsWhole}
 use Rattle.replica_core.specs.Replicas.{KeptReplica}
 use Rattle.replica_core.specs.Settling.{HaltsAfter, IsAfter, IsReached, Settles}
-use Rattle.replica_core.specs.Shown.{RowFacts, input_of, row_of}
+use Rattle.replica_core.specs.Facts.{RowFacts, input_of, row_of}
 use Rattle.replica_core.specs.Steps.{Goes, IsAllowed, IsHalt, IsLawful, IsRun, ReplicaFacts, Stops, status_of}
 use Rattle.replica_core.specs.declared.halt.Halt.{Halt}
 use Rattle.replica_core.specs.declared.halt.Halt.TheVariants as halts
@@ -69,27 +69,27 @@ module _ (k s t : KeptReplica) (input : Input) (row : RowFacts) (a : Act) where
 
   gives_after : (acts : List Act) → IsAtRest k → IsSound (begun_by k a) → Begins (setup_of k.config) (input_of input) a → IsAfter (begun_by k a) acts s → due (setup_of k.config) k.me s.core ≡ None → IsRowOf s input row
       → t ≡ record s { outputs = []; done = []; leaves = 0 } → Gives k input row t
-  gives_after acts rest at begins done settled shown is =
+  gives_after acts rest at begins done settled as_checked is =
       let core : t.core ≡ s.core = ap (λ (x : KeptReplica). x.core) is in
       let config : t.config ≡ k.config = ap (λ (x : KeptReplica). x.config) is ∙ done.config in
       let me : t.me ≡ k.me = ap (λ (x : KeptReplica). x.me) is ∙ done.me in
       let many = done.leaves in
       let none = rest.leaves in
-      let taken = shown.leaves in
+      let taken = as_checked.leaves in
       record {
         config = config;
         me = me;
-        input_is = shown.input_is;
+        input_is = as_checked.input_is;
         next = record {
           first = a;
           acts = acts;
-          begins = subst (λ (x : Input). Begins (setup_of k.config) (input_of x) a) (sym shown.input_is) begins;
+          begins = subst (λ (x : Input). Begins (setup_of k.config) (input_of x) a) (sym as_checked.input_is) begins;
           reacts = record {
             follows = subst (Follows (setup_of k.config) k.me (begun_by k a).core acts) (sym core) done.follows;
             rests = ap (due (setup_of k.config) k.me) core ∙ settled;
           };
-          outputs = shown.outputs ∙ done.outputs ∙ ap (λ xs. xs ++ all_outputs acts) rest.outputs;
-          done = shown.done ∙ done.done ∙ ap (λ xs. xs ++ all_done (setup_of k.config) acts) rest.done;
+          outputs = as_checked.outputs ∙ done.outputs ∙ ap (λ xs. xs ++ all_outputs acts) rest.outputs;
+          done = as_checked.done ∙ done.done ∙ ap (λ xs. xs ++ all_done (setup_of k.config) acts) rest.done;
           leaves = omega (arith, many, none, taken);
         };
         reached = reached_there t.config t.me t.core config me core (goes_on (setup_of k.config) k.me acts (begun_by k a).core s.core at done.follows);
@@ -98,9 +98,9 @@ module _ (k s t : KeptReplica) (input : Input) (row : RowFacts) (a : Act) where
 
 pub gives : (k b s t : KeptReplica) (input : Input) (row : RowFacts) → IsAtRest k → IsSound k → HasBegun k (input_of input) b → Settles b s → IsRowOf s input row
     → t ≡ record s { outputs = []; done = []; leaves = 0 } → Gives k input row t
-gives k b s t input row rest at (a, begins, is) settles shown gave =
+gives k b s t input row rest at (a, begins, is) settles as_checked gave =
     let now : Settles (begun_by k a) s = subst (λ (x : KeptReplica). Settles x s) is settles in
-    gives_after k s t input row a now.0 rest (begun_soundly k (begun_by k a) (input_of input) at (a, begins, refl)) begins now.1 now.2 shown gave
+    gives_after k s t input row a now.0 rest (begun_soundly k (begun_by k a) (input_of input) at (a, begins, refl)) begins now.1 now.2 as_checked gave
 
 -- ---- a halt
 
@@ -118,8 +118,8 @@ short_of_memory c me s input halt is = subst (IsHalt c me s input) (sym is) tt
 
 -- ---- between inputs
 
-abbrev pub shown_as : Configuration → ℕ → Option KeptReplica → Status → ReplicaFacts
-shown_as c me o status = record { config = c; me = me; core = option_map (λ k. k.core) o; status = status }
+abbrev pub seen_as : Configuration → ℕ → Option KeptReplica → Status → ReplicaFacts
+seen_as c me o status = record { config = c; me = me; core = option_map (λ k. k.core) o; status = status }
 
 module _ (c : Configuration) (me : ℕ) (o : Option KeptReplica) (status : Status) (whole : IsWhole c me o status) where
   pub kept_there : (k : KeptReplica) → o ≡ Some k → IsKept c me k status
@@ -131,15 +131,15 @@ module _ (c : Configuration) (me : ℕ) (o : Option KeptReplica) (status : Statu
       subst (λ (x : Configuration). IsReached (setup_of x) k.me k.core) (sym kept.config) (subst (λ (x : ℕ). IsReached (setup_of c) x k.core) (sym kept.me) kept.reached)
 
   -- the message's configuration is the core's
-  pub config_there : (k : KeptReplica) (r : ReplicaFacts) (config : Configuration) → shown_as c me o status ≡ r → o ≡ Some k → config ≡ r.config → config ≡ k.config
+  pub config_there : (k : KeptReplica) (r : ReplicaFacts) (config : Configuration) → seen_as c me o status ≡ r → o ≡ Some k → config ≡ r.config → config ≡ k.config
   config_there k r config view is same = same ∙ sym (ap (λ (x : ReplicaFacts). x.config) view) ∙ sym (kept_there k is).config
 
-  module _ (k : KeptReplica) (r : ReplicaFacts) (input : Input) (view : shown_as c me o status ≡ r) (is : o ≡ Some k) where
+  module _ (k : KeptReplica) (r : ReplicaFacts) (input : Input) (view : seen_as c me o status ≡ r) (is : o ≡ Some k) where
     abbrev There : ReplicaFacts
     There = record { config = c; me = me; core = Some k.core; status = status }
 
     there : There ≡ r
-    there = sym (ap (λ (x : Option KeptReplica). shown_as c me x status) is) ∙ view
+    there = sym (ap (λ (x : Option KeptReplica). seen_as c me x status) is) ∙ view
 
     pub whole_after : (t : KeptReplica) (row : RowFacts) (now : Status) → Gives k input row t → now ≡ status_of t.core → IsWhole c me (Some t) now
     whole_after t row now gave stands =
@@ -154,10 +154,10 @@ module _ (c : Configuration) (me : ℕ) (o : Option KeptReplica) (status : Statu
           status = stands;
         }
 
-    pub went : (t : KeptReplica) (row : RowFacts) (now : Status) → Gives k input row t → now ≡ status_of t.core → Goes r input row (shown_as c me (Some t) now)
+    pub went : (t : KeptReplica) (row : RowFacts) (now : Status) → Gives k input row t → now ≡ status_of t.core → Goes r input row (seen_as c me (Some t) now)
     went t row now gave stands =
         let kept = kept_there k is in
-        subst (λ (x : ReplicaFacts). Goes x input row (shown_as c me (Some t) now)) there (record {
+        subst (λ (x : ReplicaFacts). Goes x input row (seen_as c me (Some t) now)) there (record {
           before = k.core;
           was = refl;
           input_is = gave.input_is;
@@ -166,17 +166,17 @@ module _ (c : Configuration) (me : ℕ) (o : Option KeptReplica) (status : Statu
           new = ap (λ (x : Status). let y : ReplicaFacts = record { config = c; me = me; core = Some t.core; status = x } in y) stands;
         })
 
-    pub stopped : (halt : Halt) → IsHalt (setup_of k.config) k.me k.core (input_of input) halt → Stops r input halt (shown_as c me None (record status { halted = Some halt }))
+    pub stopped : (halt : Halt) → IsHalt (setup_of k.config) k.me k.core (input_of input) halt → Stops r input halt (seen_as c me None (record status { halted = Some halt }))
     stopped halt halted =
         let kept = kept_there k is in
-        subst (λ (x : ReplicaFacts). Stops x input halt (shown_as c me None (record status { halted = Some halt }))) there (
+        subst (λ (x : ReplicaFacts). Stops x input halt (seen_as c me None (record status { halted = Some halt }))) there (
           subst (λ (x : ℕ). IsHalt (setup_of c) x k.core (input_of input) halt) kept.me (subst (λ (x : Configuration). IsHalt (setup_of x) k.me k.core (input_of input) halt) kept.config halted),
           refl,
         )
 
-  pub already : (r : ReplicaFacts) (input : Input) → shown_as c me o status ≡ r → o ≡ None → Stops r input halts.AlreadyHalted (shown_as c me None status)
+  pub already : (r : ReplicaFacts) (input : Input) → seen_as c me o status ≡ r → o ≡ None → Stops r input halts.AlreadyHalted (seen_as c me None status)
   already r input view is =
-      subst (λ (x : ReplicaFacts). Stops x input halts.AlreadyHalted (shown_as c me None status)) (sym (ap (λ (x : Option KeptReplica). shown_as c me x status) is) ∙ view) (refl, refl)
+      subst (λ (x : ReplicaFacts). Stops x input halts.AlreadyHalted (seen_as c me None status)) (sym (ap (λ (x : Option KeptReplica). seen_as c me x status) is) ∙ view) (refl, refl)
 
 -- before the first message
 pub starts_whole : (c config : Configuration) (me : ℕ) (signer : SigningState) (k : KeptReplica) (status : Status) → c ≡ config

@@ -10,7 +10,7 @@ use Rattle.pbft_model.specs.Words.{Certificate, Checkpoint, Signed}
 use Rattle.pbft_model.specs.Tables.{entries_in}
 use Rattle.checkpoints.specs.Kept.{by_sha256, proof_at, proof_for, proof_list, stable_digest}
 use Rattle.quorum_log.specs.declared.certificate.CheckedCertificate.{CheckedCertificate}
-use Rattle.quorum_log.specs.Log.{shown}
+use Rattle.quorum_log.specs.Log.{as_checked}
 use Rattle.seal.specs.Lists.{CheckedMessages}
 use Rattle.seal.specs.Parts.{as_message}
 use Rattle.view_change.specs.Made.{IsCertificateOf, IsMadeOf, OneForOne}
@@ -18,16 +18,16 @@ use Rattle.view_change.specs.Sealable.{AreUnder}
 use Rattle.replica_core.specs.Replicas.{AreOne, KeptReplica, Parts, kept_in}
 use Rattle.replica_core.specs.Told.{told_by}
 
-each_shown : (c : Configuration) (xs : List Certificate) → OneForOne IsCertificateOf (map (shown c) xs) xs
-each_shown c [] = tt
-each_shown c (x ∷ xs) = (record { pre_prepare = refl; prepares = refl }, each_shown c xs)
+each_checked : (c : Configuration) (xs : List Certificate) → OneForOne IsCertificateOf (map (as_checked c) xs) xs
+each_checked c [] = tt
+each_checked c (x ∷ xs) = (record { pre_prepare = refl; prepares = refl }, each_checked c xs)
 
-each_under : (c d : Configuration) (xs : List Certificate) → c ≡ d → AreUnder d (map (shown c) xs)
+each_under : (c d : Configuration) (xs : List Certificate) → c ≡ d → AreUnder d (map (as_checked c) xs)
 each_under c d [] e = tt
 each_under c d (x ∷ xs) e = ((e, e), each_under c d xs e)
 
 module _ (c : Configuration) (me : ℕ) (p : Parts) (one : AreOne c me p) (k : KeptReplica) (e : kept_in c me p ≡ k) (low : SeqNo) (proof : CheckedMessages) (certificates : List CheckedCertificate)
-    (low_is : low.0 ≡ k.core.low) (proof_is : proof ≡ proof_list p.table low.0) (are : certificates ≡ map (shown p.kept.config) (entries_in p.kept.kept)) where
+    (low_is : low.0 ≡ k.core.low) (proof_is : proof ≡ proof_list p.table low.0) (are : certificates ≡ map (as_checked p.kept.config) (entries_in p.kept.kept)) where
   at_mark : low.0 ≡ p.table.low
   at_mark = low_is ∙ sym (ap (λ (t : KeptReplica). t.core.low) e) ∙ sym one.low
 
@@ -43,7 +43,7 @@ module _ (c : Configuration) (me : ℕ) (p : Parts) (one : AreOne c me p) (k : K
         ∙ ap (λ (t : KeptReplica). map (as_message bodies.Checkpoint) t.core.proof) e;
     carries =
         subst (λ (xs : List CheckedCertificate). OneForOne IsCertificateOf xs (entries_in k.core.kept)) (sym are)
-        (subst (λ (t : KeptReplica). OneForOne IsCertificateOf (map (shown p.kept.config) (entries_in p.kept.kept)) (entries_in t.core.kept)) e (each_shown p.kept.config (entries_in p.kept.kept)));
+        (subst (λ (t : KeptReplica). OneForOne IsCertificateOf (map (as_checked p.kept.config) (entries_in p.kept.kept)) (entries_in t.core.kept)) e (each_checked p.kept.config (entries_in p.kept.kept)));
   }
 
   pub under_one : AreUnder proof.config certificates

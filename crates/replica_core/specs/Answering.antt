@@ -10,7 +10,7 @@ use Rattle.replica_core.specs.declared.replica.Status.{Status}
 use Rattle.replica_core.specs.declared.row.Input.{Input}
 use Rattle.replica_core.specs.Replicas.{KeptReplica}
 use Rattle.replica_core.specs.Settling.{IsReached}
-use Rattle.replica_core.specs.Shown.{RowFacts, done_of, input_of, output_of, row_of}
+use Rattle.replica_core.specs.Facts.{RowFacts, done_of, input_of, output_of, row_of}
 use Rattle.replica_core.specs.Steps.{IsHalt, status_of}
 
 -- Nothing was done for an input so far.

@@ -9,7 +9,7 @@ use Rattle.pbft_model.specs.Acts.{with_body}
 use Rattle.pbft_model.specs.Tables.{Table, number_key}
 use Rattle.pbft_model.specs.Words.{Certificate, PrePrepare, Prepare, Signed}
 use Rattle.quorum_log.specs.declared.certificate.CheckedCertificate.{CheckedCertificate}
-use Rattle.quorum_log.specs.Log.{shown}
+use Rattle.quorum_log.specs.Log.{as_checked}
 use Rattle.replica_core.specs.Entries.{table_of}
 
 -- A PrePrepare's body. A certificate has no message of another kind there.
@@ -35,5 +35,5 @@ abbrev pub certificates_in : tree.BTreeMap ℕ CheckedCertificate → Table Cert
 certificates_in m = table_of number_key certificate_in m.entries
 
 -- Each is a certificate under the configuration.
-abbrev pub AreShown : Configuration → List (ℕ × CheckedCertificate) → Type 0
-AreShown c es = AllByRecursion (λ e. e.1 ≡ shown c (certificate_in e.1)) es
+abbrev pub AreCheckedCertificates : Configuration → List (ℕ × CheckedCertificate) → Type 0
+AreCheckedCertificates c es = AllByRecursion (λ e. e.1 ≡ as_checked c (certificate_in e.1)) es

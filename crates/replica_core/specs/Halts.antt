@@ -25,7 +25,7 @@ abbrev pub of_signing : SignFault → Halt
 of_signing faults.Exhausted = Exhausted
 of_signing faults.Memory = Memory
 
--- only want of memory stops a replica: a vote that is refused is passed over
+-- only running out of memory stops a replica: a vote that is refused is passed over
 abbrev pub unless_memory : Result (Unit {0}) LogFault → Result (Unit {0}) Halt
 unless_memory (Ok x) = Ok x
 unless_memory (Err refusals.Memory) = Err Memory

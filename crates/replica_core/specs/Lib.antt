@@ -5,7 +5,7 @@ pub mod Sent
 pub mod Certificates
 pub mod Changes
 pub mod Requests
-pub mod Shown
+pub mod Facts
 pub mod Replicas
 pub mod Doing
 pub mod Meanings

@@ -20,7 +20,7 @@ use Rattle.seal.specs.Signers.{key_of}
 use Rattle.quorum_log.specs.Log.{KeptLog}
 use Rattle.checkpoints.specs.Kept.{KeptCheckpoints}
 use Rattle.replica_core.specs.declared.step.Step.{Step}
-use Rattle.replica_core.specs.Shown.{done_of, output_of}
+use Rattle.replica_core.specs.Facts.{done_of, output_of}
 use Rattle.replica_core.specs.Stores.{KeptCertificates, KeptChanges, KeptRequests, KeptSent}
 
 -- What a contract sees of a replica that has not stopped.

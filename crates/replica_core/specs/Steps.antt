@@ -14,7 +14,7 @@ use Rattle.replica_core.specs.declared.halt.Halt.{Halt}
 use Rattle.replica_core.specs.declared.halt.Halt.TheVariants as halts
 use Rattle.replica_core.specs.declared.replica.Status.{Status}
 use Rattle.replica_core.specs.declared.row.Input.{Input}
-use Rattle.replica_core.specs.Shown.{RowFacts, input_of, row_of}
+use Rattle.replica_core.specs.Facts.{RowFacts, input_of, row_of}
 
 -- What a contract sees of a replica.
 pub record ReplicaFacts : Type 0 where

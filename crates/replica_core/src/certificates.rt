@@ -4,8 +4,8 @@ ghost use Rattle.std.specs.Prelude.{◌≡◌, [], map, IfOk, OnOk, OnErr};
 ghost use Rattle.host_types.specs.Configuration.{Configuration};
 ghost use Rattle.pbft_model.specs.Tables.{entries_in, is_above, keep, number_key, with_entry};
 ghost use Rattle.pbft_model.specs.Words.{Certificate};
-ghost use Rattle.quorum_log.specs.Log.{shown};
-ghost use Rattle.replica_core.specs.Certificates.{AreShown, certificate_in, certificates_in};
+ghost use Rattle.quorum_log.specs.Log.{as_checked};
+ghost use Rattle.replica_core.specs.Certificates.{AreCheckedCertificates, certificate_in, certificates_in};
 
 use host_types::{Config, SeqNo};
 use quorum_log::CheckedCertificate;
@@ -24,14 +24,14 @@ pub(crate) struct Certificates {
 }
 
 impl Model for Certificates {
-    ghost use Rattle.replica_core.specs.Certificates.{AreShown, certificates_in};
+    ghost use Rattle.replica_core.specs.Certificates.{AreCheckedCertificates, certificates_in};
     ghost use Rattle.replica_core.specs.Stores.{KeptCertificates};
 
     ghost Value = { KeptCertificates };
 
     ghost view = { λ t. record { config = t.config.value; kept = certificates_in t.kept } };
 
-    ghost invariant = { λ t. AreShown t.config.value t.kept.entries };
+    ghost invariant = { λ t. AreCheckedCertificates t.config.value t.kept.entries };
 }
 
 impl Certificates {
@@ -49,8 +49,8 @@ impl Certificates {
     /// Keeps a number's certificate in place of the one that it has. The caller owes a certificate under
     /// the same configuration. Where memory runs out, nothing changes.
     pub fn keep(&mut self, number: SeqNo, certificate: CheckedCertificate) -> Result<(), AllocError>
-        requires { (x : Certificate) × (certificate ≡ shown self.old.config x) }
-        ensures kept { (x : Certificate) → certificate ≡ shown self.old.config x → OnOk result (self.new ≡ record self.old { kept = with_entry self.old.kept (number_key number.0) x }) }
+        requires { (x : Certificate) × (certificate ≡ as_checked self.old.config x) }
+        ensures kept { (x : Certificate) → certificate ≡ as_checked self.old.config x → OnOk result (self.new ≡ record self.old { kept = with_entry self.old.kept (number_key number.0) x }) }
         ensures unchanged { OnErr result (self.new ≡ self.old) }
     {
         put(&mut self.kept, number, certificate)
@@ -65,7 +65,7 @@ impl Certificates {
 
     /// The certificates, numbers ascending. Handles alone are copied.
     pub fn list(&self) -> Result<Vec<CheckedCertificate>, AllocError>
-        ensures { IfOk result (λ l. l.items ≡ map (shown self.now.config) (entries_in self.now.kept)) }
+        ensures { IfOk result (λ l. l.items ≡ map (as_checked self.now.config) (entries_in self.now.kept)) }
     {
         let mut list = Vec::new(self.alloc);
         for certificate in self.kept.values() {
@@ -81,7 +81,7 @@ fn put(
     certificate: CheckedCertificate,
 ) -> Result<(), AllocError>
     ensures kept { OnOk result (certificates_in kept.new ≡ with_entry (certificates_in kept.old) (number_key number.0) (certificate_in certificate)) }
-    ensures shown { OnOk result ((c : Configuration) → certificate ≡ shown c (certificate_in certificate) → AreShown c kept.old.entries → AreShown c kept.new.entries) }
+    ensures checked { OnOk result ((c : Configuration) → certificate ≡ as_checked c (certificate_in certificate) → AreCheckedCertificates c kept.old.entries → AreCheckedCertificates c kept.new.entries) }
     ensures unchanged { OnErr result (kept.new.entries ≡ kept.old.entries) }
 {
     kept.insert(number.0, certificate)?;
@@ -90,7 +90,7 @@ fn put(
 
 fn drop_to(kept: &mut BTreeMap<u64, CheckedCertificate>, number: SeqNo)
     ensures kept { certificates_in kept.new ≡ keep (is_above number.0) (certificates_in kept.old) }
-    ensures shown { (c : Configuration) → AreShown c kept.old.entries → AreShown c kept.new.entries }
+    ensures checked { (c : Configuration) → AreCheckedCertificates c kept.old.entries → AreCheckedCertificates c kept.new.entries }
 {
     kept.retain(|at, _| *at > number.0);
 }

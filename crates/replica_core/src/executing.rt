@@ -5,7 +5,7 @@ ghost use Rattle.std.specs.Option.{option_copied};
 ghost use Rattle.host_types.specs.Configuration.{entry_of};
 ghost use Rattle.pbft_model.specs.Sequential.{IsStep, Service, encoded};
 ghost use Rattle.pbft_model.specs.Tables.{number_key, with_entry};
-ghost use Rattle.replica_core.specs.Shown.{done_of};
+ghost use Rattle.replica_core.specs.Facts.{done_of};
 ghost use Rattle.replica_core.specs.declared.halt.Halt.TheVariants.{Memory};
 
 use crate::halt::Halt;

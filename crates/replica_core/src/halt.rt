@@ -134,7 +134,7 @@ impl From<SignFault> for Halt {
     }
 }
 
-/// A vote that is refused is not recorded; only want of memory stops the replica.
+/// A vote that is refused is not recorded; only running out of memory stops the replica.
 pub(crate) fn unless_memory(refusal: Result<(), LogFault>) -> Result<(), Halt>
     ensures { result ≡ unless_memory refusal }
 {

@@ -144,7 +144,7 @@ fn if_at(state: State, number: SeqNo) -> Option<State>
     }
 }
 
-/// Notes a Checkpoint. One that is refused is not recorded; only want of memory stops the replica.
+/// Notes a Checkpoint. One that is refused is not recorded; only running out of memory stops the replica.
 fn note(table: &mut Checkpoints, message: &Checked) -> Result<(), Halt>
     requires config { message.now.config ≡ table.old.config }
     requires kind { IsSome (checkpoint_of message.now.message) }

@@ -10,7 +10,7 @@ ghost use Rattle.pbft_model.specs.Core.{start_of};
 ghost use Rattle.seal.specs.Signers.{key_of};
 ghost use Rattle.view_change.specs.Setups.{setup_of};
 ghost use Rattle.replica_core.specs.declared.row.Input.TheVariants as inputs;
-ghost use Rattle.replica_core.specs.Shown.{RowFacts};
+ghost use Rattle.replica_core.specs.Facts.{RowFacts};
 ghost use Rattle.replica_core.specs.Steps.{IsAllowed, IsLawful, IsRun, ReplicaFacts, Steps, first_with, leaves_left_of, status_of};
 
 use crate::halt::Halt;

@@ -67,7 +67,7 @@ pub struct Row {
 }
 
 impl Model for Row {
-    ghost use Rattle.replica_core.specs.Shown.{RowFacts};
+    ghost use Rattle.replica_core.specs.Facts.{RowFacts};
 
     ghost Value = { RowFacts };
 

@@ -8,7 +8,7 @@ ghost use Rattle.seal.specs.Signers.{may_sign};
 ghost use Rattle.view_change.specs.Sealable.{IsSealable};
 ghost use Rattle.replica_core.specs.declared.halt.Halt.TheVariants.{Memory};
 ghost use Rattle.replica_core.specs.Doing.{IsShortOf};
-ghost use Rattle.replica_core.specs.Shown.{destination_of};
+ghost use Rattle.replica_core.specs.Facts.{destination_of};
 
 use crate::halt::Halt;
 use crate::kept::Core;

@@ -18,22 +18,22 @@ use Rattle.service_core.specs.Bounded.{IsSizedMap}
 use Rattle.service_core.specs.Readings.{Begins, Reads, IsAbove, AreSizedEntries}
 use Rattle.service_core.proofs.PrefixFree.{IsPrefixFree, free_four}
 use Rattle.service_core.proofs.Injective.{entry_lengths, free_entry}
-use Rattle.service_core.proofs.Spelled.{HasRead, SoMany, stuck}
+use Rattle.service_core.proofs.Encoded.{HasRead, SoMany, stuck}
 
 -- an entry: a key and a value, of 16 and 32 bytes
 abbrev pub Entry : Type 0
 Entry = List ℕ × List ℕ
 
-abbrev pub spelled : Entry → List ℕ
-spelled entry = entry.0 ++ entry.1
+abbrev pub entry_encoding : Entry → List ℕ
+entry_encoding entry = entry.0 ++ entry.1
 
 abbrev pub IsSized : Entry → Type 0
 IsSized entry = (length entry.0 ≡ 16) × (length entry.1 ≡ 32)
 
-abbrev pub spelled_entries : Entries → List ℕ
-spelled_entries entries = flat_map spelled (finite.entries entries)
+abbrev pub entries_bytes : Entries → List ℕ
+entries_bytes entries = flat_map entry_encoding (finite.entries entries)
 
-pub free_sized : IsPrefixFree spelled IsSized
+pub free_sized : IsPrefixFree entry_encoding IsSized
 free_sized x y r t p q h = free_entry x y r t p q h
 
 nothing : {A : Type 0} (es : List A) → length es ≡ 0 → es ≡ []
@@ -109,30 +109,30 @@ before (x ∷ xs) zs y h = All-cons (λ other. order other y.0 ≡ Less) x.0 (ma
 -- ---- maps
 
 -- what begins with a map begins with its entries
-pub as_entries : (count : ℕ) (bytes : List ℕ) → Begins spelled_entries (AreSizedEntries count) bytes → Begins (flat_map spelled) (SoMany IsSized count) bytes
+pub as_entries : (count : ℕ) (bytes : List ℕ) → Begins entries_bytes (AreSizedEntries count) bytes → Begins (flat_map entry_encoding) (SoMany IsSized count) bytes
 as_entries count bytes (m, more, fits, e) = (finite.entries m, more, (fits.count_is, entry_lengths (finite.entries m) fits.keys fits.values), e)
 
 -- so the next key is above those that were read
-pub next_above : (bytes : List ℕ) (entries : Entries) (counter count : ℕ) (rest after : List ℕ) (key value : List ℕ) → HasRead spelled IsSized bytes (finite.entries entries) counter rest → counter < count
-    → length key ≡ 16 → length value ≡ 32 → rest ≡ (key ++ value) ++ after → Begins spelled_entries (AreSizedEntries count) bytes → IsAbove entries key
+pub next_above : (bytes : List ℕ) (entries : Entries) (counter count : ℕ) (rest after : List ℕ) (key value : List ℕ) → HasRead entry_encoding IsSized bytes (finite.entries entries) counter rest → counter < count
+    → length key ≡ 16 → length value ≡ 32 → rest ≡ (key ++ value) ++ after → Begins entries_bytes (AreSizedEntries count) bytes → IsAbove entries key
 next_above bytes entries counter count rest after key value h lt k v e (m, more, fits, is) =
     let all = entry_lengths (finite.entries m) fits.keys fits.values in
-    let next = stuck spelled IsSized free_sized (finite.entries entries) (finite.entries m) rest more (omega (arith, h.count, lt, fits.count_is)) h.fits all (sym h.text ∙ is) in
+    let next = stuck entry_encoding IsSized free_sized (finite.entries entries) (finite.entries m) rest more (omega (arith, h.count, lt, fits.count_is)) h.fits all (sym h.text ∙ is) in
     let one = free_sized (key, value) next.0 after _ (k, v) next.2 (sym e ∙ next.4) in
     let rises : T (is_sorted order (finite.entries entries ++ next.0 ∷ next.1)) = subst (λ (es : List Entry). T (is_sorted order es)) next.3 (finite.entries_sorted m) in
     subst (λ (x : Entry). AllBelow x.0 (finite.entries entries)) (sym one.0) (before (finite.entries entries) next.1 next.0 rises)
 
 -- the entries of a map after its count
 pub counted_entries : {R : Type 0} (view : R → Entries × List ℕ) (count : ℕ) (bytes rest : List ℕ) (result : Result R StateFault) → count ≤ 4096 → bytes ≡ four_bytes count ++ rest
-    → Reads view spelled_entries (AreSizedEntries count) rest result → Reads view encoded_entries IsSizedMap bytes result
+    → Reads view entries_bytes (AreSizedEntries count) rest result → Reads view encoded_entries IsSizedMap bytes result
 counted_entries view count bytes rest (Ok r) few e h =
     let m = (view r).0 in
     let len : finite.len m ≡ count = finite.len-entries m ∙ h.0.count_is in (
       record { keys = h.0.keys; values = h.0.values; count = omega (arith, len, few) },
-      e ∙ ap (λ (t : List ℕ). four_bytes count ++ t) h.1 ∙ sym (append_assoc (four_bytes count) (spelled_entries m) (view r).1) ∙ ap (λ (k : ℕ). (four_bytes k ++ spelled_entries m) ++ (view r).1) (sym len),
+      e ∙ ap (λ (t : List ℕ). four_bytes count ++ t) h.1 ∙ sym (append_assoc (four_bytes count) (entries_bytes m) (view r).1) ∙ ap (λ (k : ℕ). (four_bytes k ++ entries_bytes m) ++ (view r).1) (sym len),
     )
 counted_entries view count bytes rest (Err BadState) few e h = λ begins.
     let m = begins.0 in
-    let one = free_four count (finite.len m) rest (spelled_entries m ++ begins.1) (omega (arith, few)) (omega (arith, begins.2.count)) (sym e ∙ begins.3 ∙ append_assoc (four_bytes (finite.len m)) (spelled_entries m) begins.1) in
+    let one = free_four count (finite.len m) rest (entries_bytes m ++ begins.1) (omega (arith, few)) (omega (arith, begins.2.count)) (sym e ∙ begins.3 ∙ append_assoc (four_bytes (finite.len m)) (entries_bytes m) begins.1) in
     h (m, begins.1, record { keys = begins.2.keys; values = begins.2.values; count_is = sym (finite.len-entries m) ∙ sym one.0 }, one.1)
 counted_entries view count bytes rest (Err Memory) few e h = tt

@@ -16,7 +16,7 @@ pub mod Lengths
 pub mod Bytes
 pub mod Existing
 pub mod Reading
-pub mod Spelled
+pub mod Encoded
 pub mod Replies
 pub mod Turns
 pub mod KeysInOrder

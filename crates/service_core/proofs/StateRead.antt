@@ -1,4 +1,4 @@
--- The state that was read is the one that its bytes spell, and there is none where reading failed.
+-- The state that was read is the one that its bytes encode, and there is none where reading failed.
 use Rattle.std.proofs.Common.{◌≡◌, ℕ, ◌^◌, ◌<◌, Bool, true, false, cond, ◌||◌, eqb, List, [], ◌∷◌, ◌++◌, length, get_or, find, map, Option, Some, None, refl, sym, ap, subst, ◌∙◌, true≢false, inl, inr, append_assoc, arith}
 use Rattle.std.specs.Prelude.{IfSome, IsSome, is_some, fold, flat_map, option_and_then}
 use Rattle.std.specs.List.{filter_map, cons_option}
@@ -15,7 +15,7 @@ use Rattle.service_core.specs.TenantStates.{Replies, TenantState, Service, empty
 use Rattle.service_core.specs.Encoding.{encoded_tenant, encoded_replies, encoded_reply, last_replies_of}
 use Rattle.service_core.specs.Sound.{IsSoundTenant}
 use Rattle.service_core.specs.Bounded.{IsBoundedReply, IsBoundedTenant}
-use Rattle.service_core.specs.Spelling.{Spells}
+use Rattle.service_core.specs.Decoding.{Encodes}
 use Rattle.service_core.specs.Readings.{Begins, AreLastReplies, ArePartsOf, HaveReplies, is_of, replies_to_tenant}
 use Rattle.service_core.proofs.Clients.{Each, has, client_ids_ascend, or_left, or_right, or_cases}
 use Rattle.service_core.proofs.LastReplies.{to, get-replies_of}
@@ -125,9 +125,9 @@ module _ (config : Configuration) (n : ℕ) (replies : List Reply) (parts : List
     own = λ q some. kept_sound config.clients (get_or parts k d).tenant q replies (subst (λ (m : Replies). IsSome (finite.get m q)) (keeps k d lt) some);
   }
 
-  pub spells : (bytes r1 r2 r3 : List ℕ) → bytes ≡ (1 ∷ [] ++ eight_bytes n) ++ r1 → r1 ≡ encoded_replies replies ++ r2 → r2 ≡ (four_bytes (length parts) ++ flat_map encoded_tenant parts) ++ r3 → r3 ≡ []
-      → Spells config bytes (record { config = config; number = n; tenants = parts })
-  spells bytes r1 r2 r3 e1 e2 e3 e4 = record {
+  pub is_encoded : (bytes r1 r2 r3 : List ℕ) → bytes ≡ (1 ∷ [] ++ eight_bytes n) ++ r1 → r1 ≡ encoded_replies replies ++ r2 → r2 ≡ (four_bytes (length parts) ++ flat_map encoded_tenant parts) ++ r3 → r3 ≡ []
+      → Encodes config bytes (record { config = config; number = n; tenants = parts })
+  is_encoded bytes r1 r2 r3 e1 e2 e3 e4 = record {
     config_is = refl;
     encodes = regrouped (1 ∷ []) (eight_bytes n) (encoded_replies (last_replies_of state)) (four_bytes (length parts)) (flat_map encoded_tenant parts)
         ∙ ap (λ (rs : List Reply). (1 ∷ [] ++ eight_bytes n) ++ (encoded_replies rs ++ rest_of parts)) same_last
@@ -139,14 +139,14 @@ module _ (config : Configuration) (n : ℕ) (replies : List Reply) (parts : List
 -- ---- no state
 
 -- what a state's bytes begin with
-pub behind_head : (config : Configuration) (bytes : List ℕ) (s : Service) → Spells config bytes s → bytes ≡ (1 ∷ [] ++ eight_bytes s.number) ++ (encoded_replies (last_replies_of s) ++ (four_bytes (length s.tenants) ++ flat_map encoded_tenant s.tenants))
+pub behind_head : (config : Configuration) (bytes : List ℕ) (s : Service) → Encodes config bytes s → bytes ≡ (1 ∷ [] ++ eight_bytes s.number) ++ (encoded_replies (last_replies_of s) ++ (four_bytes (length s.tenants) ++ flat_map encoded_tenant s.tenants))
 behind_head config bytes s is = sym is.encodes ∙ regrouped (1 ∷ []) (eight_bytes s.number) (encoded_replies (last_replies_of s)) (four_bytes (length s.tenants)) (flat_map encoded_tenant s.tenants)
 
-pub begins_head : (config : Configuration) (bytes : List ℕ) (s : Service) → Spells config bytes s → Begins (λ n. 1 ∷ [] ++ eight_bytes n) (λ n. n < 2 ^ 48) bytes
+pub begins_head : (config : Configuration) (bytes : List ℕ) (s : Service) → Encodes config bytes s → Begins (λ n. 1 ∷ [] ++ eight_bytes n) (λ n. n < 2 ^ 48) bytes
 begins_head config bytes s is = (s.number, encoded_replies (last_replies_of s) ++ (four_bytes (length s.tenants) ++ flat_map encoded_tenant s.tenants), is.bounded.number_in_range, behind_head config bytes s is)
 
 -- the number, and what is behind it
-told_number : (config : Configuration) (bytes : List ℕ) (s : Service) → Spells config bytes s → (n : ℕ) (r1 : List ℕ) → n < 2 ^ 48 → bytes ≡ (1 ∷ [] ++ eight_bytes n) ++ r1
+told_number : (config : Configuration) (bytes : List ℕ) (s : Service) → Encodes config bytes s → (n : ℕ) (r1 : List ℕ) → n < 2 ^ 48 → bytes ≡ (1 ∷ [] ++ eight_bytes n) ++ r1
     → (n ≡ s.number) × (r1 ≡ encoded_replies (last_replies_of s) ++ (four_bytes (length s.tenants) ++ flat_map encoded_tenant s.tenants))
 told_number config bytes s is n r1 below e =
     let last = encoded_replies (last_replies_of s) ++ (four_bytes (length s.tenants) ++ flat_map encoded_tenant s.tenants) in
@@ -154,17 +154,17 @@ told_number config bytes s is n r1 below e =
     (sym (append_assoc (1 ∷ []) (eight_bytes n) r1) ∙ sym e ∙ behind_head config bytes s is ∙ append_assoc (1 ∷ []) (eight_bytes s.number) last) in
     free_eight n s.number r1 last (omega (arith, below)) (omega (arith, is.bounded.number_in_range)) version.1
 
-fit_replies : (config : Configuration) (bytes : List ℕ) (s : Service) → Spells config bytes s → (n : ℕ) → n ≡ s.number → AreLastReplies config.clients n (last_replies_of s)
+fit_replies : (config : Configuration) (bytes : List ℕ) (s : Service) → Encodes config bytes s → (n : ℕ) → n ≡ s.number → AreLastReplies config.clients n (last_replies_of s)
 fit_replies config bytes s is n same =
     subst (λ (k : ℕ). AreLastReplies config.clients k (last_replies_of s)) (sym same) (subst (λ (c : Configuration). AreLastReplies c.clients s.number (last_replies_of s)) is.config_is (last_replies_fit s is.bounded))
 
-pub begins_replies : (config : Configuration) (bytes : List ℕ) (s : Service) → Spells config bytes s → (n : ℕ) (r1 : List ℕ) → n < 2 ^ 48 → bytes ≡ (1 ∷ [] ++ eight_bytes n) ++ r1 → Begins encoded_replies (AreLastReplies config.clients n) r1
+pub begins_replies : (config : Configuration) (bytes : List ℕ) (s : Service) → Encodes config bytes s → (n : ℕ) (r1 : List ℕ) → n < 2 ^ 48 → bytes ≡ (1 ∷ [] ++ eight_bytes n) ++ r1 → Begins encoded_replies (AreLastReplies config.clients n) r1
 begins_replies config bytes s is n r1 below e =
     let told = told_number config bytes s is n r1 below e in
     (last_replies_of s, four_bytes (length s.tenants) ++ flat_map encoded_tenant s.tenants, fit_replies config bytes s is n told.0, told.1)
 
 -- the replies, and what is behind them
-told_replies : (config : Configuration) (bytes : List ℕ) (s : Service) → Spells config bytes s → (n : ℕ) (replies : List Reply) (r1 r2 : List ℕ) → n < 2 ^ 48 → bytes ≡ (1 ∷ [] ++ eight_bytes n) ++ r1
+told_replies : (config : Configuration) (bytes : List ℕ) (s : Service) → Encodes config bytes s → (n : ℕ) (replies : List Reply) (r1 r2 : List ℕ) → n < 2 ^ 48 → bytes ≡ (1 ∷ [] ++ eight_bytes n) ++ r1
     → AreLastReplies config.clients n replies → r1 ≡ encoded_replies replies ++ r2 → r2 ≡ four_bytes (length s.tenants) ++ flat_map encoded_tenant s.tenants
 told_replies config bytes s is n replies r1 r2 below e fits text =
     let told = told_number config bytes s is n r1 below e in
@@ -172,7 +172,7 @@ told_replies config bytes s is n replies r1 r2 below e fits text =
     (free_list encoded_reply (IsFit n) (free_fit n (omega (arith, below))) replies (last_replies_of s) r2 (four_bytes (length s.tenants) ++ flat_map encoded_tenant s.tenants)
     (omega (arith, fits.0.0), fits.0.1) (omega (arith, mine.0.0), mine.0.1) (sym text ∙ told.1)).1
 
-parts_of : (config : Configuration) (bytes : List ℕ) (s : Service) → Spells config bytes s → ArePartsOf (tenants_of config.clients) s.tenants
+parts_of : (config : Configuration) (bytes : List ℕ) (s : Service) → Encodes config bytes s → ArePartsOf (tenants_of config.clients) s.tenants
 parts_of config bytes s is = subst (λ (c : Configuration). ArePartsOf (tenants_of c.clients) s.tenants) is.config_is (
   is.bounded.same_tenants,
   λ k d lt. (
@@ -181,13 +181,13 @@ parts_of config bytes s is = subst (λ (c : Configuration). ArePartsOf (tenants_
   ),
 )
 
-pub begins_parts : (config : Configuration) (bytes : List ℕ) (s : Service) → Spells config bytes s → (n : ℕ) (replies : List Reply) (r1 r2 : List ℕ) → n < 2 ^ 48 → bytes ≡ (1 ∷ [] ++ eight_bytes n) ++ r1
+pub begins_parts : (config : Configuration) (bytes : List ℕ) (s : Service) → Encodes config bytes s → (n : ℕ) (replies : List Reply) (r1 r2 : List ℕ) → n < 2 ^ 48 → bytes ≡ (1 ∷ [] ++ eight_bytes n) ++ r1
     → AreLastReplies config.clients n replies → r1 ≡ encoded_replies replies ++ r2 → Begins (λ parts. four_bytes (length parts) ++ flat_map encoded_tenant parts) (ArePartsOf (tenants_of config.clients)) r2
 begins_parts config bytes s is n replies r1 r2 below e fits text =
     (s.tenants, [], parts_of config bytes s is, told_replies config bytes s is n replies r1 r2 below e fits text ∙ sym (append-nil (four_bytes (length s.tenants) ++ flat_map encoded_tenant s.tenants)))
 
 -- nothing is behind the parts
-pub ends : (config : Configuration) (bytes : List ℕ) (s : Service) → Spells config bytes s → (n : ℕ) (replies : List Reply) (parts : List TenantState) (r1 r2 r3 : List ℕ) → n < 2 ^ 48 → bytes ≡ (1 ∷ [] ++ eight_bytes n) ++ r1
+pub ends : (config : Configuration) (bytes : List ℕ) (s : Service) → Encodes config bytes s → (n : ℕ) (replies : List Reply) (parts : List TenantState) (r1 r2 r3 : List ℕ) → n < 2 ^ 48 → bytes ≡ (1 ∷ [] ++ eight_bytes n) ++ r1
     → AreLastReplies config.clients n replies → r1 ≡ encoded_replies replies ++ r2 → ArePartsOf (tenants_of config.clients) parts → r2 ≡ (four_bytes (length parts) ++ flat_map encoded_tenant parts) ++ r3 → r3 ≡ []
 ends config bytes s is n replies parts r1 r2 r3 below e fits text are here =
     let mine = parts_of config bytes s is in

@@ -9,6 +9,6 @@ pub mod Sinks
 pub mod Sound
 pub mod Bounded
 pub mod Asked
-pub mod Spelling
+pub mod Decoding
 pub mod StateFaults
 pub mod Readings

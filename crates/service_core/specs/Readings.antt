@@ -19,19 +19,19 @@ use Rattle.service_core.specs.Encoding.{encoded_procedures, encoded_entries}
 use Rattle.service_core.specs.Sound.{IsAcceptedCode}
 use Rattle.service_core.specs.Bounded.{IsSizedMap, IsBoundedReply}
 
--- The bytes begin with the spelling of a value that fits.
+-- The bytes begin with the encoding of a value that fits.
 abbrev pub Begins : {A : Type 0} → (A → List ℕ) → (A → Type 0) → List ℕ → Type 0
-Begins {A} spelled Fits bytes = (x : A) × (rest : List ℕ) × Fits x × (bytes ≡ spelled x ++ rest)
+Begins {A} encoding WellFormed bytes = (x : A) × (rest : List ℕ) × WellFormed x × (bytes ≡ encoding x ++ rest)
 
 abbrev pub Fails : {A : Type 0} → (A → List ℕ) → (A → Type 0) → List ℕ → StateFault → Type 0
-Fails spelled Fits bytes BadState = Begins spelled Fits bytes → ⊥
-Fails spelled Fits bytes Memory = Unit {0}
+Fails encoding WellFormed bytes BadState = Begins encoding WellFormed bytes → ⊥
+Fails encoding WellFormed bytes Memory = Unit {0}
 
--- What was returned is, by view, a value that fits, whose spelling the bytes begin with, and the bytes behind it; or the
--- bytes begin with no such spelling; or memory ran out.
+-- What was returned is, by view, a value that fits, whose encoding the bytes begin with, and the bytes behind it; or the
+-- bytes begin with no such encoding; or memory ran out.
 abbrev pub Reads : {R A : Type 0} → (R → A × List ℕ) → (A → List ℕ) → (A → Type 0) → List ℕ → Result R StateFault → Type 0
-Reads view spelled Fits bytes (Ok r) = Fits (view r).0 × (bytes ≡ spelled (view r).0 ++ (view r).1)
-Reads view spelled Fits bytes (Err fault) = Fails spelled Fits bytes fault
+Reads view encoding WellFormed bytes (Ok r) = WellFormed (view r).0 × (bytes ≡ encoding (view r).0 ++ (view r).1)
+Reads view encoding WellFormed bytes (Err fault) = Fails encoding WellFormed bytes fault
 
 -- Whether replies are to some of these clients, in their order, one each at most.
 abbrev pub in_turn : List ClientId → List Reply → Bool

@@ -7,7 +7,7 @@ ghost use Rattle.std.specs.Arc.{arc_value};
 ghost use Rattle.sha2.specs.Sha256.{sha256};
 ghost use Rattle.host_types.specs.Configuration.{entry_of};
 ghost use Rattle.service_core.specs.Words.{four_bytes};
-ghost use Rattle.service_core.specs.Spelling.{Spells};
+ghost use Rattle.service_core.specs.Decoding.{Encodes};
 ghost use Rattle.service_core.specs.declared.state_fault.StateFault.TheVariants.{BadState};
 ghost use Rattle.service_core.specs.TenantStates.{Service, genesis_of, tenant_index, client_index, last_reply_of};
 ghost use Rattle.service_core.specs.Steps.{IsStep};
@@ -78,13 +78,13 @@ impl State {
 
     /// The state whose canonical encoding under the configuration these bytes are: the one that
     /// `to_bytes` gives them for. `BadState` comes exactly where there is no such state: for another
-    /// version or spelling, a number of 2^48 or more, a reply to a client that is not listed, of a
+    /// version or encoding, a number of 2^48 or more, a reply to a client that is not listed, of a
     /// number that is 0 or above the state's, or with a result over 265 bytes, tenants other than the
     /// configuration's, code that the verifier refuses, or a passed limit. `Memory` comes where memory
     /// ran out. The state takes its memory from `alloc`.
     pub fn from_bytes(alloc: Global, config: Arc<Config>, bytes: &[u8]) -> Result<State, StateFault>
-        ensures state { IfOk result (λ state. Spells (arc_value config) bytes.now state) }
-        ensures none { IfErr result (λ fault. fault ≡ BadState → (state : Service) → Spells (arc_value config) bytes.now state → ⊥) }
+        ensures state { IfOk result (λ state. Encodes (arc_value config) bytes.now state) }
+        ensures none { IfErr result (λ fault. fault ≡ BadState → (state : Service) → Encodes (arc_value config) bytes.now state → ⊥) }
     {
         let (number, rest) = read_head(bytes)?;
         let (replies, rest) = read_replies(alloc, &config, number, rest)?;

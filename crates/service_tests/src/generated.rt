@@ -98,7 +98,7 @@ fn states_of_many_requests_are_read(rt: HostRuntime) -> Result<(), Fail> {
     let alloc = rt.alloc();
     let clients = config(alloc, &CLIENTS)?;
     let mut numbers = Numbers { last: 20_261_124 };
-    let mut spelled = 0u32;
+    let mut states = 0u32;
     for _ in 0..10 {
         let mut state = genesis(alloc, &CLIENTS)?;
         for _ in 0..100 {
@@ -106,10 +106,10 @@ fn states_of_many_requests_are_read(rt: HostRuntime) -> Result<(), Fail> {
             expect_again(&rt, &clients, &state)?;
             let bytes = changed(alloc, &state.to_bytes()?, &mut numbers)?;
             if is_exact(&rt, &clients, &bytes)? {
-                spelled = spelled.saturating_add(1);
+                states = states.saturating_add(1);
             }
         }
     }
-    assert!(rt; spelled > 200 && spelled < 800, "{spelled}");
+    assert!(rt; states > 200 && states < 800, "{states}");
     Ok(())
 }

@@ -1,4 +1,4 @@
-//! A largest state, written out by its layout, and spellings near it that are none.
+//! A largest state, written out by its layout, and bytes near it that encode none.
 
 use crate::service::config;
 use crate::state_bytes::{Edit, PROCEDURE, SAME, edited, is_exact};

@@ -1,4 +1,4 @@
-//! States read from their bytes: those that requests made, and spellings that are none.
+//! States read from their bytes: those that requests made, and bytes that encode none.
 
 use crate::service::{
     COPY, FULL_STATE, PUT, SEVEN, SMALL_STATE, apply, config, genesis, raw, request,
@@ -117,7 +117,7 @@ fn a_state_that_is_cut_is_none(rt: HostRuntime) -> Result<(), Fail> {
     Ok(())
 }
 
-/// Configurations, and whether `FULL_STATE` spells a state under them.
+/// Configurations, and whether `FULL_STATE` encodes a state under them.
 const CONFIGURATIONS: &[(&str, &[(u32, u32)], bool)] = &[
     (
         "no client without a reply",
@@ -148,7 +148,7 @@ fn another_configuration_has_other_states(rt: HostRuntime) -> Result<(), Fail> {
     Ok(())
 }
 
-/// What a change of `FULL_STATE` is called, whether the changed bytes spell a state, a place and the byte
+/// What a change of `FULL_STATE` is called, whether the changed bytes encode a state, an index and the byte
 /// put there, and a range (from, up to) with the piece that then replaces it so many times.
 pub(crate) type Edit = (
     &'static str,
@@ -267,7 +267,7 @@ pub(crate) fn edited(alloc: Global, bytes: &[u8], edit: &Edit) -> Result<Vec<u8>
 }
 
 #[test]
-fn a_changed_spelling_is_of_no_state(rt: HostRuntime) -> Result<(), Fail> {
+fn a_changed_encoding_is_of_no_state(rt: HostRuntime) -> Result<(), Fail> {
     let clients = config(rt.alloc(), &CLIENTS)?;
     let bytes = decode(rt.alloc(), FULL_STATE)?;
     for edit in EDITS {

@@ -1,7 +1,7 @@
 use Rattle.std.proofs.Common.{◌≡◌, suc, List, ◌++◌, map, take, drop, get_or, Bor, Vec, Global, sym, ◌∙◌, ap, subst, arith}
 use Rattle.std.proofs.lemmas.List.{take_all}
 use Rattle.host_types.specs.declared.ReplicaId.{ReplicaId}
-use Rattle.replica_core.specs.Shown.{RowFacts}
+use Rattle.replica_core.specs.Facts.{RowFacts}
 use Rattle.replica_core.specs.declared.row.Done.{Done}
 use Rattle.replica_core.specs.declared.row.Row.{Row}
 use Rattle.byz_world.specs.Audits.{Agree, all_done, all_rise, done_in}

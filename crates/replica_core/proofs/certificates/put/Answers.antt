@@ -1,8 +1,8 @@
 use Rattle.std.proofs.Common.{◌≡◌, ap, subst, sym, ◌∙◌}
 use Rattle.std.specs.Ordering.{nat_cmp}
 use Rattle.pbft_model.specs.Tables.{number_key}
-use Rattle.quorum_log.specs.Log.{shown}
-use Rattle.replica_core.specs.Certificates.{AreShown, certificate_in}
+use Rattle.quorum_log.specs.Log.{as_checked}
+use Rattle.replica_core.specs.Certificates.{AreCheckedCertificates, certificate_in}
 use Rattle.replica_core.specs.Entries.{table_of}
 use Rattle.replica_core.proofs.Certifying.{number_keyed}
 use Rattle.replica_core.proofs.Entries.{all_inserted, table_put}
@@ -12,7 +12,7 @@ pub returns-clause-kept : goal.returns-clause-kept
 returns-clause-kept c =
     ap (table_of number_key certificate_in) c.in_ok-insert.ensures.entries ∙ table_put nat_cmp number_key certificate_in number_keyed c.args.kept.now.entries c.args.number.0 c.args.certificate
 
-pub returns-clause-shown : goal.returns-clause-shown
-returns-clause-shown c = λ d is all.
-    subst (AreShown d) (sym c.in_ok-insert.ensures.entries)
-    (all_inserted (λ e. e.1 ≡ shown d (certificate_in e.1)) nat_cmp c.args.kept.now.entries c.args.number.0 c.args.certificate is (λ j tied. is) all)
+pub returns-clause-checked : goal.returns-clause-checked
+returns-clause-checked c = λ d is all.
+    subst (AreCheckedCertificates d) (sym c.in_ok-insert.ensures.entries)
+    (all_inserted (λ e. e.1 ≡ as_checked d (certificate_in e.1)) nat_cmp c.args.kept.now.entries c.args.number.0 c.args.certificate is (λ j tied. is) all)

@@ -1,7 +1,7 @@
 use Rattle.std.proofs.Common.{◌<◌, ◌^◌, arith}
 use Rattle.service_core.specs.Words.{four_bytes}
 use Rattle.service_core.proofs.PrefixFree.{free_four}
-use Rattle.service_core.proofs.Spelled.{told}
+use Rattle.service_core.proofs.Encoded.{told}
 use Rattle.service_core.proofs.reader.read_count.Goals as goal
 
 pub returns-then-count-limit : goal.returns-then-count-limit

@@ -1,7 +1,7 @@
 use Rattle.std.proofs.Common.{arith}
 use Rattle.service_core.specs.Encoding.{encoded_reply}
 use Rattle.service_core.proofs.Replies.{IsFit}
-use Rattle.service_core.proofs.Spelled.{counted}
+use Rattle.service_core.proofs.Encoded.{counted}
 use Rattle.service_core.proofs.reader.read_counted_replies.Goals as goal
 
 pub returns : goal.returns

@@ -2,7 +2,7 @@ use Rattle.std.proofs.Common.{◌∙◌, ◌<◌, ◌^◌, ◌++◌, length, ap,
 use Rattle.std.proofs.lemmas.List.{length-append}
 use Rattle.service_core.specs.Words.{four_bytes}
 use Rattle.service_core.proofs.PrefixFree.{free_four}
-use Rattle.service_core.proofs.Spelled.{told}
+use Rattle.service_core.proofs.Encoded.{told}
 use Rattle.service_core.proofs.reader.read_length_prefixed.Goals as goal
 
 pub returns-then-rest-length : goal.returns-then-rest-length

@@ -1,6 +1,6 @@
 use Rattle.service_core.specs.Encoding.{encoded_reply}
 use Rattle.service_core.specs.Bounded.{IsBoundedReply}
-use Rattle.service_core.proofs.Spelled.{HasRead}
+use Rattle.service_core.proofs.Encoded.{HasRead}
 use Rattle.service_core.proofs.reader.read_replies_of.Given as goal
 
 abbrev pub invariant-loop : goal.invariant-loop

@@ -4,7 +4,7 @@ use Rattle.service_core.specs.Words.{eight_bytes}
 use Rattle.service_core.specs.Encoding.{length_prefixed, encoded_reply}
 use Rattle.service_core.specs.Readings.{Begins}
 use Rattle.service_core.proofs.Replies.{IsFit, behind_client, behind_time, behind_number}
-use Rattle.service_core.proofs.Spelled.{failed, passes}
+use Rattle.service_core.proofs.Encoded.{failed, passes}
 use Rattle.service_core.proofs.reader.read_reply.Goals as goal
 
 pub returns-in_err-time : goal.returns-in_err-time

@@ -2,7 +2,7 @@ use Rattle.std.proofs.Common.{◌∙◌, ◌++◌, ap, sym, arith, ℕ, ◌<◌,
 use Rattle.std.specs.Int.{w32, from_be_bytes}
 use Rattle.service_core.specs.Words.{four_bytes}
 use Rattle.service_core.proofs.Bounds.{four_short}
-use Rattle.service_core.proofs.Spelled.{too_few, four_read}
+use Rattle.service_core.proofs.Encoded.{too_few, four_read}
 use Rattle.service_core.proofs.reader.read_u32.Goals as goal
 
 pub returns-then-bytes-lt4 : goal.returns-then-bytes-lt4

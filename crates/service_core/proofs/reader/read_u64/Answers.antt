@@ -2,7 +2,7 @@ use Rattle.std.proofs.Common.{◌∙◌, ◌++◌, ap, sym, arith, ℕ, ◌<◌,
 use Rattle.std.specs.Int.{w64, from_be_bytes}
 use Rattle.service_core.specs.Words.{eight_bytes}
 use Rattle.service_core.proofs.Bounds.{eight_short}
-use Rattle.service_core.proofs.Spelled.{too_few, eight_read}
+use Rattle.service_core.proofs.Encoded.{too_few, eight_read}
 use Rattle.service_core.proofs.reader.read_u64.Goals as goal
 
 pub returns-then-bytes-lt8 : goal.returns-then-bytes-lt8

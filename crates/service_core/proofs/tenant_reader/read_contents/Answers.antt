@@ -4,7 +4,7 @@ use Rattle.service_core.specs.Encoding.{encoded_procedures, encoded_entries}
 use Rattle.service_core.specs.Bounded.{IsSizedMap}
 use Rattle.service_core.specs.Readings.{AreProcedures, AreContents, encoded_contents}
 use Rattle.service_core.proofs.Parts.{behind_id, begins_procedures, begins_entries}
-use Rattle.service_core.proofs.Spelled.{failed, passes}
+use Rattle.service_core.proofs.Encoded.{failed, passes}
 use Rattle.service_core.proofs.tenant_reader.read_contents.Goals as goal
 
 pub returns-then-id-tenant : goal.returns-then-id-tenant

@@ -5,7 +5,7 @@ use Rattle.service_core.specs.TenantStates.{replies_of}
 use Rattle.service_core.specs.Encoding.{encoded_tenant}
 use Rattle.service_core.specs.Readings.{AreContents, ArePartsOf, replies_to_tenant}
 use Rattle.service_core.proofs.Parts.{parts_none, parts_more, parts_begin, parts_all}
-use Rattle.service_core.proofs.Spelled.{failed, passes}
+use Rattle.service_core.proofs.Encoded.{failed, passes}
 use Rattle.service_core.proofs.tenant_reader.read_parts.Goals as goal
 
 pub loop-tenant-init : goal.loop-tenant-init

@@ -1,7 +1,7 @@
 use Rattle.std.proofs.Common.{arith}
 use Rattle.service_core.specs.Encoding.{length_prefixed}
 use Rattle.service_core.proofs.Codes.{IsShortCode}
-use Rattle.service_core.proofs.Spelled.{counted}
+use Rattle.service_core.proofs.Encoded.{counted}
 use Rattle.service_core.proofs.tenant_reader.read_procedures.Goals as goal
 
 pub returns : goal.returns

@@ -1,19 +1,19 @@
 use Rattle.std.proofs.Common.{ap, subst, sym, ◌∙◌}
 use Rattle.pbft_model.specs.Tables.{number_key, with_entry}
-use Rattle.quorum_log.specs.Log.{shown}
-use Rattle.replica_core.specs.Certificates.{AreShown, certificate_in}
+use Rattle.quorum_log.specs.Log.{as_checked}
+use Rattle.replica_core.specs.Certificates.{AreCheckedCertificates, certificate_in}
 use Rattle.replica_core.specs.Stores.{KeptCertificates}
-use Rattle.replica_core.proofs.Certifying.{certificate_again, is_shown}
+use Rattle.replica_core.proofs.Certifying.{certificate_again, is_checked}
 use Rattle.replica_core.proofs.Results.{either, on_ok}
 use Rattle.replica_core.proofs.certificates.Certificates.keep.Goals as goal
 
 pub invariant_of-self : goal.invariant_of-self
 invariant_of-self c =
     let config = ap (λ (k : KeptCertificates). k.config) c.self.view_is in
-    let under = c.requires.1 ∙ ap (λ d. shown d c.requires.0) (sym config) in
-    either c.put.result c.put.ensures.shown c.put.ensures.unchanged
-    (λ all. all c.self.inside.config.value (is_shown c.self.inside.config.value c.requires.0 c.args.certificate under) c.self.invariant)
-    (λ same. subst (AreShown c.self.inside.config.value) (sym same) c.self.invariant)
+    let under = c.requires.1 ∙ ap (λ d. as_checked d c.requires.0) (sym config) in
+    either c.put.result c.put.ensures.checked c.put.ensures.unchanged
+    (λ all. all c.self.inside.config.value (is_checked c.self.inside.config.value c.requires.0 c.args.certificate under) c.self.invariant)
+    (λ same. subst (AreCheckedCertificates c.self.inside.config.value) (sym same) c.self.invariant)
 
 pub returns-clause-kept : goal.returns-clause-kept
 returns-clause-kept c = λ x is.

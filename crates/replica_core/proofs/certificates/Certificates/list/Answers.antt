@@ -1,9 +1,9 @@
 use Rattle.std.proofs.Common.{ap, map, sym, ◌++◌, ◌∙◌}
 use Rattle.pbft_model.specs.Tables.{entries_in, number_key}
-use Rattle.quorum_log.specs.Log.{shown}
+use Rattle.quorum_log.specs.Log.{as_checked}
 use Rattle.replica_core.specs.Certificates.{certificate_in}
 use Rattle.replica_core.specs.Stores.{KeptCertificates}
-use Rattle.replica_core.proofs.Certifying.{values_shown}
+use Rattle.replica_core.proofs.Certifying.{values_checked}
 use Rattle.replica_core.proofs.Entries.{table_entries}
 use Rattle.replica_core.proofs.certificates.Certificates.list.Goals as goal
 
@@ -11,5 +11,5 @@ pub loop-certificate-init : goal.loop-certificate-init
 loop-certificate-init c =
     let config = c.self.inside.config.value in
     let entries = c.self.inside.kept.entries in
-    ap (λ xs. xs ++ c.into_iter-certificate-iterator.result) c.new-list.ensures.items ∙ c.into_iter-certificate-iterator.ensures.into_iter_gives ∙ c.values-certificate-items.ensures.rest ∙ values_shown config entries c.self.invariant
-    ∙ ap (map (shown config)) (sym (table_entries number_key certificate_in entries)) ∙ ap (λ (k : KeptCertificates). map (shown k.config) (entries_in k.kept)) c.self.view_is
+    ap (λ xs. xs ++ c.into_iter-certificate-iterator.result) c.new-list.ensures.items ∙ c.into_iter-certificate-iterator.ensures.into_iter_gives ∙ c.values-certificate-items.ensures.rest ∙ values_checked config entries c.self.invariant
+    ∙ ap (map (as_checked config)) (sym (table_entries number_key certificate_in entries)) ∙ ap (λ (k : KeptCertificates). map (as_checked k.config) (entries_in k.kept)) c.self.view_is

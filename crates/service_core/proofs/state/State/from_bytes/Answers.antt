@@ -10,8 +10,8 @@ use Rattle.service_core.specs.Words.{four_bytes}
 use Rattle.service_core.specs.TenantStates.{TenantState}
 use Rattle.service_core.specs.Encoding.{encoded_replies, encoded_tenant}
 use Rattle.service_core.specs.Readings.{Fails, AreLastReplies, ArePartsOf, HaveReplies}
-use Rattle.service_core.proofs.Spelled.{none_spelled}
-use Rattle.service_core.proofs.StateRead.{begins_replies, begins_parts, ends, spells}
+use Rattle.service_core.proofs.Encoded.{none_encoded}
+use Rattle.service_core.proofs.StateRead.{begins_replies, begins_parts, ends, is_encoded}
 use Rattle.service_core.proofs.state.State.from_bytes.Goals as goal
 
 abbrev text_of : List TenantState → List ℕ
@@ -24,7 +24,7 @@ returns-in_err-replies-clause-none c =
     let n = c.in_ok-number.number in
     let here = c.in_ok-number.ensures in
     let bad = c.in_err-replies.ensures in
-    none_spelled encoded_replies (AreLastReplies config.clients n) c.in_ok-number.rest.now config c.args.bytes.now _ p.0 c.in_err-replies.field-0.0 p.1 p.2
+    none_encoded encoded_replies (AreLastReplies config.clients n) c.in_ok-number.rest.now config c.args.bytes.now _ p.0 c.in_err-replies.field-0.0 p.1 p.2
     (subst (λ (k : Configuration). Fails encoded_replies (AreLastReplies k.clients n) c.in_ok-number.rest.now c.in_err-replies.field-0.0) c.deref.ensures bad.read)
     (λ s is. begins_replies config c.args.bytes.now s is n c.in_ok-number.rest.now here.0 here.1)
 
@@ -37,7 +37,7 @@ returns-in_err-tenants-clause-none c =
     let kept = c.in_ok-replies.ensures in
     let bad = c.in_err-tenants.ensures in
     let fits = subst (λ (k : Configuration). AreLastReplies k.clients n c.in_ok-replies.replies.items) c.deref.ensures kept.read.0 in
-    none_spelled text_of (ArePartsOf (tenants_of config.clients)) c.in_ok-replies.rest.now config c.args.bytes.now _ p.0 c.in_err-tenants.field-0.0 p.1 p.2
+    none_encoded text_of (ArePartsOf (tenants_of config.clients)) c.in_ok-replies.rest.now config c.args.bytes.now _ p.0 c.in_err-tenants.field-0.0 p.1 p.2
     (subst (λ (k : Configuration). Fails text_of (ArePartsOf (tenants_of k.clients)) c.in_ok-replies.rest.now c.in_err-tenants.field-0.0) c.deref-2.ensures bad.read)
     (λ s is. begins_parts config c.args.bytes.now s is n c.in_ok-replies.replies.items c.in_ok-number.rest.now c.in_ok-replies.rest.now here.0 here.1 fits kept.read.1)
 
@@ -67,4 +67,4 @@ returns-clause-state c =
     let are = subst (λ (k : Configuration). ArePartsOf (tenants_of k.clients) c.in_ok-tenants.tenants.items) c.deref-2.ensures parts.read.0 in
     let same = subst (λ (k : Configuration). HaveReplies k.clients c.deref-3.result.now c.in_ok-tenants.tenants.items) c.deref-2.ensures parts.replies in
     let keeps = subst (λ (rs : List Reply). HaveReplies config.clients rs c.in_ok-tenants.tenants.items) c.deref-3.ensures.value same in
-    spells config n c.in_ok-replies.replies.items c.in_ok-tenants.tenants.items legal here.0 fits are keeps c.args.bytes.now c.in_ok-number.rest.now c.in_ok-replies.rest.now c.in_ok-tenants.rest.now here.1 kept.read.1 parts.read.1 (nil_from_length c.in_ok-tenants.rest.now (eqb-true (length c.in_ok-tenants.rest.now) 0 (sym end)))
+    is_encoded config n c.in_ok-replies.replies.items c.in_ok-tenants.tenants.items legal here.0 fits are keeps c.args.bytes.now c.in_ok-number.rest.now c.in_ok-replies.rest.now c.in_ok-tenants.rest.now here.1 kept.read.1 parts.read.1 (nil_from_length c.in_ok-tenants.rest.now (eqb-true (length c.in_ok-tenants.rest.now) 0 (sym end)))

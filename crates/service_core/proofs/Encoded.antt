@@ -1,4 +1,4 @@
--- Bytes that begin with the spelling of a value: what is told by them, and what is not.
+-- Bytes that begin with the encoding of a value: what is told by them, and what is not.
 use Rattle.std.proofs.Common.{◌≡◌, ℕ, ◌+◌, ◌^◌, ◌<◌, ◌≤◌, List, [], ◌∷◌, ◌++◌, length, take, drop, get_or, Result, Ok, Err, refl, sym, ap, subst, ◌∙◌, inl, inr, append_assoc, arith}
 use Rattle.std.specs.Prelude.{flat_map, All, IfErr}
 use Rattle.std.specs.Int.{w32, w64, from_be_bytes}
@@ -11,7 +11,7 @@ use Rattle.service_core.specs.declared.state_fault.StateFault.{StateFault}
 use Rattle.service_core.specs.declared.state_fault.StateFault.TheVariants.{BadState, Memory}
 use Rattle.host_types.specs.Configuration.{Configuration}
 use Rattle.service_core.specs.TenantStates.{Service}
-use Rattle.service_core.specs.Spelling.{Spells}
+use Rattle.service_core.specs.Decoding.{Encodes}
 use Rattle.service_core.specs.Words.{four_bytes, eight_bytes}
 use Rattle.service_core.specs.Readings.{Begins, Fails, Reads}
 use Rattle.service_core.proofs.PrefixFree.{IsPrefixFree, free_four}
@@ -28,11 +28,11 @@ passes s F b s' F' b' BadState f h = λ begins. h (f begins)
 passes s F b s' F' b' Memory f h = tt
 
 -- a fault in a part of what would be a state: there is none
-pub none_spelled : {R A : Type 0} (s : A → List ℕ) (F : A → Type 0) (b : List ℕ) (config : Configuration) (bytes : List ℕ) (result : Result R StateFault) (e fault : StateFault) → result ≡ Err e → e ≡ fault
-    → Fails s F b fault → ((state : Service) → Spells config bytes state → Begins s F b) → IfErr result (λ f. f ≡ BadState → (state : Service) → Spells config bytes state → ⊥)
-none_spelled {R} {A} s F b config bytes result e fault is same h begins = subst (λ (r : Result R StateFault). IfErr r (λ f. f ≡ BadState → (state : Service) → Spells config bytes state → ⊥)) (sym (is ∙ ap Err same)) (none fault h) where
-  none : (f : StateFault) → Fails s F b f → f ≡ BadState → (state : Service) → Spells config bytes state → ⊥
-  none BadState h is = λ state spells. h (begins state spells)
+pub none_encoded : {R A : Type 0} (s : A → List ℕ) (F : A → Type 0) (b : List ℕ) (config : Configuration) (bytes : List ℕ) (result : Result R StateFault) (e fault : StateFault) → result ≡ Err e → e ≡ fault
+    → Fails s F b fault → ((state : Service) → Encodes config bytes state → Begins s F b) → IfErr result (λ f. f ≡ BadState → (state : Service) → Encodes config bytes state → ⊥)
+none_encoded {R} {A} s F b config bytes result e fault is same h begins = subst (λ (r : Result R StateFault). IfErr r (λ f. f ≡ BadState → (state : Service) → Encodes config bytes state → ⊥)) (sym (is ∙ ap Err same)) (none fault h) where
+  none : (f : StateFault) → Fails s F b f → f ≡ BadState → (state : Service) → Encodes config bytes state → ⊥
+  none BadState h is = λ state is_encoded. h (begins state is_encoded)
   none Memory h is = absurd cc
 
 -- too few bytes

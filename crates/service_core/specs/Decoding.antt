@@ -9,7 +9,7 @@ use Rattle.service_core.specs.Bounded.{IsBounded}
 -- The bytes are the canonical encoding of this state under this configuration: a number below 2^48, the last replies to
 -- listed clients by client, each of a number from 1 to the state's, and each tenant of the configuration, by id, with
 -- procedures that the verifier accepts and a tenant's map.
-pub record Spells (config : Configuration) (bytes : List ℕ) (state : Service) : Type 0 where
+pub record Encodes (config : Configuration) (bytes : List ℕ) (state : Service) : Type 0 where
   pub config_is : state.config ≡ config
   pub encodes : encoded state ≡ bytes
   pub bounded : IsBounded state
