@@ -1,7 +1,7 @@
 -- Pieces fed to a sink one after another.
-use Rattle.std.proofs.Common.{◌≡◌, ℕ, ◌+◌, ◌<◌, ◌≤◌, List, [], ◌∷◌, ◌++◌, length, take, drop, arith, get_or, map, refl, sym, ap, subst, ◌∙◌, append_assoc}
+use Rattle.std.proofs.Common.{◌≡◌, ℕ, ◌+◌, ◌<◌, ◌≤◌, List, [], ◌∷◌, ◌++◌, length, take, drop, arith, get_or, map, set, refl, sym, ap, subst, ◌∙◌, append_assoc}
 use Rattle.std.specs.Prelude.{flat_map}
-use Rattle.std.proofs.lemmas.List.{append-nil, take_more, take_all, drop_all}
+use Rattle.std.proofs.lemmas.List.{append-nil, take_more, take_more_set, take_all, drop_all}
 use Rattle.std.proofs.Math.Seq.{take-append_seam, drop-append_seam}
 use borrow.Rule.Slice.PartMut.{put_mid}
 use Rattle.std.proofs.lemmas.Grind.{flat_map-append}
@@ -24,25 +24,47 @@ flat_map_more f xs i d h =
     ap (flat_map f) (take_more xs i d h) ∙ flat_map-append f (take i xs) (get_or xs i d ∷ [])
     ∙ ap (λ (ys : List _). flat_map f (take i xs) ++ ys) (append-nil (f (get_or xs i d)))
 
--- Some pieces of a list were fed behind a head, and the others are left.
-pub record Put {S X : Type 0} (holds : S → List ℕ → Type 0) (first last : S) (head : List ℕ) (f : X → List ℕ) (left all : List X) : Type 0 where
+-- what the first rows of a table hold
+abbrev pub rows : ℕ → List (List ℕ) → List ℕ
+rows count table = flat_map (λ (row : List ℕ). row) (take count table)
+
+-- Some pieces of a list were fed behind a head, then some wait to be fed, and the others are left.
+pub record Put {S X : Type 0} (holds : S → List ℕ → Type 0) (first last : S) (head : List ℕ) (f : X → List ℕ) (waiting : List ℕ) (left all : List X) : Type 0 where
   pub done : List ℕ
   pub fed : Feeds holds first last (head ++ done)
-  pub is : done ++ flat_map f left ≡ flat_map f all
+  pub is : done ++ (waiting ++ flat_map f left) ≡ flat_map f all
 
-pub put_none : {S X : Type 0} (holds : S → List ℕ → Type 0) (first last : S) (head : List ℕ) (f : X → List ℕ) (left all : List X) → left ≡ all → Feeds holds first last head → Put holds first last head f left all
+pub put_none : {S X : Type 0} (holds : S → List ℕ → Type 0) (first last : S) (head : List ℕ) (f : X → List ℕ) (left all : List X) → left ≡ all → Feeds holds first last head → Put holds first last head f [] left all
 put_none holds first last head f left all e h = record { done = []; fed = fed_same holds first last head (head ++ []) (sym (append-nil head)) h; is = ap (flat_map f) e }
 
-pub put_more : {S X : Type 0} (holds : S → List ℕ → Type 0) (first mid last : S) (head : List ℕ) (f : X → List ℕ) (before left all : List X) (x : X) → before ≡ x ∷ left
-    → Put holds first mid head f before all → Feeds holds mid last (f x) → Put holds first last head f left all
-put_more holds first mid last head f before left all x e h more = record {
-  done = h.done ++ f x;
-  fed = fed_same holds first last ((head ++ h.done) ++ f x) (head ++ (h.done ++ f x)) (append_assoc head h.done (f x)) (fed_then holds first mid last (head ++ h.done) (f x) h.fed more);
-  is = append_assoc h.done (f x) (flat_map f left) ∙ ap (λ (ys : List ℕ). h.done ++ ys) (sym (ap (flat_map f) e ∙ flat_map-cons f x left)) ∙ h.is;
+-- the next piece waits too, written behind the first rows of a table
+pub put_row : {S X : Type 0} (holds : S → List ℕ → Type 0) (first last : S) (head : List ℕ) (f : X → List ℕ) (table : List (List ℕ)) (count : ℕ) (row : List ℕ) (before left all : List X) (x : X) → before ≡ x ∷ left → count < length table → row ≡ f x
+    → Put holds first last head f (rows count table) before all → Put holds first last head f (rows (count + 1) (set table count row)) left all
+put_row holds first last head f table count row before left all x e room is_row h = record {
+  done = h.done;
+  fed = h.fed;
+  is = ap (λ (ys : List ℕ). h.done ++ (ys ++ flat_map f left)) one_more
+      ∙ ap (λ (ys : List ℕ). h.done ++ ys)
+      (append_assoc (rows count table) (f x) (flat_map f left)
+      ∙ ap (λ (ys : List ℕ). rows count table ++ ys) (sym (ap (flat_map f) e ∙ flat_map-cons f x left)))
+      ∙ h.is;
+} where
+  one_more : rows (count + 1) (set table count row) ≡ rows count table ++ f x
+  one_more =
+      ap (flat_map (λ (y : List ℕ). y)) (take_more_set table count row room)
+      ∙ flat_map-append (λ (y : List ℕ). y) (take count table) (row ∷ [])
+      ∙ ap (λ (ys : List ℕ). rows count table ++ ys) (append-nil row ∙ is_row)
+
+-- what waits is fed
+pub put_fed : {S X : Type 0} (holds : S → List ℕ → Type 0) (first mid last : S) (head : List ℕ) (f : X → List ℕ) (waiting : List ℕ) (left all : List X) → Put holds first mid head f waiting left all → Feeds holds mid last waiting
+    → Put holds first last head f [] left all
+put_fed holds first mid last head f waiting left all h more = record {
+  done = h.done ++ waiting;
+  fed = fed_same holds first last ((head ++ h.done) ++ waiting) (head ++ (h.done ++ waiting)) (append_assoc head h.done waiting) (fed_then holds first mid last (head ++ h.done) waiting h.fed more);
+  is = append_assoc h.done waiting (flat_map f left) ∙ h.is;
 }
 
-pub put_all : {S X : Type 0} (holds : S → List ℕ → Type 0) (first last : S) (head : List ℕ) (f : X → List ℕ) (left all : List X) → left ≡ [] → Put holds first last head f left all
-    → Feeds holds first last (head ++ flat_map f all)
+pub put_all : {S X : Type 0} (holds : S → List ℕ → Type 0) (first last : S) (head : List ℕ) (f : X → List ℕ) (left all : List X) → left ≡ [] → Put holds first last head f [] left all → Feeds holds first last (head ++ flat_map f all)
 put_all holds first last head f left all e h =
     fed_same holds first last (head ++ h.done) (head ++ flat_map f all)
     (ap (λ (ys : List ℕ). head ++ ys) (sym (append-nil h.done) ∙ ap (λ (xs : List _). h.done ++ flat_map f xs) (sym e) ∙ h.is)) h.fed
