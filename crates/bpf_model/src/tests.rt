@@ -4,18 +4,22 @@ ghost use Rattle.std.specs.Prelude.{◌≡◌, ℕ, ◌+◌, ◌-◌, ◌^◌, t
 ghost use Rattle.std.specs.FinMap as map;
 ghost use Rattle.tenant_maps.specs.Entries.{Entries};
 ghost use Rattle.bpf_num.specs.declared.AluWidth.TheVariants.{W64};
+ghost use Rattle.bpf_num.specs.declared.AluOp.TheVariants.{Add, Mov};
+ghost use Rattle.bpf_num.specs.declared.swap.SwapKind.TheVariants as kind;
+ghost use Rattle.bpf_num.specs.declared.swap.Width.TheVariants as width;
 ghost use Rattle.bpf_num.specs.declared.jump.Test.TheVariants.{Jgt};
 ghost use Rattle.reg_ranges.specs.Ranges.{range, single, full};
 ghost use Rattle.reg_ranges.specs.Refine.{Ranges};
 ghost use Rattle.bpf_decode.specs.declared.insn.Reg.{Reg};
 ghost use Rattle.bpf_decode.specs.declared.insn.Source.TheVariants as source;
 ghost use Rattle.bpf_decode.specs.declared.insn.Size.TheVariants.{B, H, W, Dw};
-ghost use Rattle.bpf_decode.specs.declared.insn.Insn.TheVariants.{LoadImm, Load, StoreImm, Jump, JumpLong, Test, CallHelper, CallLocal, Exit};
+ghost use Rattle.bpf_decode.specs.declared.insn.Insn.TheVariants.{Alu, Swap, LoadImm, Load, StoreImm, Jump, JumpLong, Test, CallHelper, CallLocal, Exit};
 ghost use Rattle.bpf_model.specs.declared.fault.VerifyFault.TheVariants.{JumpBackward, JumpOutside, FallsOffEnd, UninitRegister, BadAccess, UninitBytes, CallDepth};
 ghost use Rattle.bpf_model.specs.Access.{address_of, loaded, stored_bytes};
 ghost use Rattle.bpf_model.specs.Code.{insn_at, target_of};
-ghost use Rattle.bpf_model.specs.Machine.{Machine, Frame, Call, start, stored, is_in_bounds};
-ghost use Rattle.bpf_model.specs.Step.{Continues, tested_immediate, written, stores, jumps, returned, resumed, without_frame};
+ghost use Rattle.bpf_model.specs.Machine.{Machine, Registers, Memory, Frame, Call, start, bytes_at, stored, is_in_bounds};
+ghost use Rattle.bpf_model.specs.Step.{Continues, tested_immediate, written, stores, jumps, returned, resumed, without_frame, after_answer, entry_registers, effect};
+ghost use Rattle.bpf_model.specs.HelperCalls.{Answer, stored_in_bounds};
 ghost use Rattle.bpf_model.specs.AbstractState.{AbstractState, start_state, join_option, in_bounds, is_written, loaded_range, with_range, with_ranges, after_insn, edges};
 ghost use Rattle.bpf_model.specs.Verdict.{structure_fault, insn_dataflow_fault};
 
@@ -96,6 +100,100 @@ fn stuck_machines()
         stores (record m { callers = [] }) 1 (2 ^ 32 + 512) (7 ∷ []) ≡ None }
     ensures before { (m : Machine) →
         jumps (record m { frame = record { pc = 0; registers = m.frame.registers } }) (negsuc 1) ≡ None }
+{}
+
+/// As a call begins r1, r2 and r10 alone hold something, and of the memory the arguments alone are there.
+fn what_is_there_at_the_start()
+    ensures r0 { (call : Call) → map.get (start call).frame.registers 0 ≡ None }
+    ensures r1 { (call : Call) → map.get (start call).frame.registers 1 ≡ Some (2 ^ 33) }
+    ensures r3 { (call : Call) → map.get (start call).frame.registers 3 ≡ None }
+    ensures r9 { (call : Call) → map.get (start call).frame.registers 9 ≡ None }
+    ensures r10 { (call : Call) → map.get (start call).frame.registers 10 ≡ Some (2 ^ 32 + 512) }
+    ensures stack { (call : Call) → call.arguments ≡ 7 ∷ [] →
+        map.get (start call).memory (2 ^ 32 + 511) ≡ None }
+    ensures argument { (call : Call) → call.arguments ≡ 7 ∷ [] →
+        map.get (start call).memory (2 ^ 33) ≡ Some 7 }
+    ensures padding { (call : Call) → call.arguments ≡ 7 ∷ [] →
+        map.get (start call).memory (2 ^ 33 + 1) ≡ Some 0 }
+    ensures last { (call : Call) → call.arguments ≡ 7 ∷ [] →
+        map.get (start call).memory (2 ^ 33 + 255) ≡ Some 0 }
+    ensures past { (call : Call) → call.arguments ≡ 7 ∷ [] →
+        map.get (start call).memory (2 ^ 33 + 256) ≡ None }
+{}
+
+/// A function that is entered has r1 to r5 of its caller, and its own r10.
+fn registers_of_a_callee()
+    ensures result { (registers : Registers) → map.get (entry_registers 1 registers) 0 ≡ None }
+    ensures first { (registers : Registers) →
+        map.get (entry_registers 1 registers) 1 ≡ map.get registers 1 }
+    ensures last { (registers : Registers) →
+        map.get (entry_registers 1 registers) 5 ≡ map.get registers 5 }
+    ensures kept { (registers : Registers) → map.get (entry_registers 1 registers) 6 ≡ None }
+    ensures kept_last { (registers : Registers) → map.get (entry_registers 1 registers) 9 ≡ None }
+    ensures frame { (registers : Registers) →
+        map.get (entry_registers 1 registers) 10 ≡ Some (2 ^ 32 + 1024) }
+{}
+
+/// A caller that resumes has the result in r0, nothing in r1 to r5, and its own r6 to r10; so has code
+/// behind a helper.
+fn registers_behind_a_call()
+    ensures result { (caller : Frame) → map.get (resumed caller 7).registers 0 ≡ Some 7 }
+    ensures first { (caller : Frame) → map.get (resumed caller 7).registers 1 ≡ None }
+    ensures last { (caller : Frame) → map.get (resumed caller 7).registers 5 ≡ None }
+    ensures kept { (caller : Frame) →
+        map.get (resumed caller 7).registers 6 ≡ map.get caller.registers 6 }
+    ensures frame { (caller : Frame) →
+        map.get (resumed caller 7).registers 10 ≡ map.get caller.registers 10 }
+    ensures helper { (m : Machine) (answer : Answer) →
+        after_answer m 1 answer ≡ Continues (record m {
+          frame = record {
+            pc = m.frame.pc + 1;
+            registers = (resumed m.frame answer.value).registers;
+          };
+          memory = answer.memory;
+          entries = answer.entries;
+          output = answer.output;
+        }) }
+{}
+
+/// As a function at depth 1 returns, the bytes of frame 1 go, and all others stay.
+fn bytes_of_a_frame()
+    ensures before { (memory : Memory) →
+        map.get (without_frame 1 memory) (2 ^ 32 + 511) ≡ map.get memory (2 ^ 32 + 511) }
+    ensures first { (memory : Memory) → map.get (without_frame 1 memory) (2 ^ 32 + 512) ≡ None }
+    ensures last { (memory : Memory) → map.get (without_frame 1 memory) (2 ^ 32 + 1023) ≡ None }
+    ensures past { (memory : Memory) →
+        map.get (without_frame 1 memory) (2 ^ 32 + 1024) ≡ map.get memory (2 ^ 32 + 1024) }
+{}
+
+/// Bytes are read where all of them are there; a helper writes none outside the frames and the arguments.
+fn bytes_of_memory()
+    ensures read { (memory : Memory) → map.get memory 5 ≡ Some 1 → map.get memory 6 ≡ Some 2 →
+        bytes_at memory 5 2 ≡ Some (1 ∷ 2 ∷ []) }
+    ensures first { (memory : Memory) → map.get memory 5 ≡ None → bytes_at memory 5 2 ≡ None }
+    ensures last { (memory : Memory) → map.get memory 5 ≡ Some 1 → map.get memory 6 ≡ None →
+        bytes_at memory 5 2 ≡ None }
+    ensures outside { (memory : Memory) (bytes : List ℕ) →
+        stored_in_bounds 0 memory (2 ^ 32 + 481) bytes 32 ≡ None }
+{}
+
+/// There is no step where a register that is read holds nothing.
+fn empty_registers()
+    ensures exit { (m : Machine) → map.get m.frame.registers 0 ≡ None → effect m Exit ≡ None }
+    ensures source { (m : Machine) (r s : Reg) → map.get m.frame.registers s.number ≡ None →
+        effect m (Alu W64 Mov r (source.Reg s)) ≡ None }
+    ensures destination { (m : Machine) (r : Reg) → map.get m.frame.registers r.number ≡ None →
+        effect m (Alu W64 Add r (source.Imm (pos 1))) ≡ None }
+    ensures swap { (m : Machine) (r : Reg) → map.get m.frame.registers r.number ≡ None →
+        effect m (Swap kind.Le width.W16 r) ≡ None }
+    ensures load { (m : Machine) (r s : Reg) → map.get m.frame.registers s.number ≡ None →
+        effect m (Load B false r s (pos 0)) ≡ None }
+    ensures base { (m : Machine) (r : Reg) → map.get m.frame.registers r.number ≡ None →
+        effect m (StoreImm B r (pos 0) (pos 0)) ≡ None }
+    ensures tested { (m : Machine) (r : Reg) → map.get m.frame.registers r.number ≡ None →
+        effect m (Test false Jgt r (source.Imm (pos 5)) (pos 0)) ≡ None }
+    ensures helper { (m : Machine) → map.get m.frame.registers 1 ≡ None →
+        effect m (CallHelper (pos 3)) ≡ None }
 {}
 
 /// An immediate of a narrow test is its 32 bits.
@@ -215,6 +313,12 @@ fn definitions_at_values(rt: HostRuntime) {
     loads_and_stores();
     bounds();
     stuck_machines();
+    what_is_there_at_the_start();
+    registers_of_a_callee();
+    registers_behind_a_call();
+    bytes_of_a_frame();
+    bytes_of_memory();
+    empty_registers();
     tested_immediates();
     loaded_ranges();
     ranges_of_addresses();
