@@ -10,7 +10,7 @@ ghost use Rattle.bpf_decode.specs.declared.insn.Reg.{Reg};
 ghost use Rattle.bpf_decode.specs.declared.insn.Source.TheVariants as source;
 ghost use Rattle.bpf_decode.specs.declared.insn.Size.TheVariants.{B, Dw};
 ghost use Rattle.bpf_decode.specs.declared.insn.Insn.TheVariants.{LoadImm, Load, StoreImm, Test, CallLocal, Exit};
-ghost use Rattle.bpf_model.specs.declared.fault.VerifyFault.TheVariants.{UninitRegister, BadAccess, UninitBytes, CallDepth};
+ghost use Rattle.bpf_model.specs.declared.fault.VerifyFault.TheVariants.{UninitRegister, BadAccess, UninitBytes, CallDepth, TooComplex};
 ghost use Rattle.bpf_model.specs.Machine.{Machine, Frame, frame_end};
 ghost use Rattle.bpf_model.specs.Step.{Continues, entry_registers, resumed, effect, enters};
 ghost use Rattle.bpf_model.specs.AbstractState.{AbstractState, start_state, entry_state, after_call, with_range};
@@ -87,10 +87,22 @@ fn two_exits()
         each (λ v. v.slot) (visits code) ≡ 0 ∷ 2 ∷ 3 ∷ 5 ∷ 6 ∷ 8 ∷ 1 ∷ [] }
 {}
 
+/// Of 65,536 visits the last one has its own fault; one more is too many, whatever else is wrong there.
+fn too_many_visits()
+    ensures last { visit_fault 65535 (Some (record { slot = 3; fault = None })) ≡ None }
+    ensures last_fault { visit_fault 65535 (Some (record { slot = 3; fault = Some BadAccess }))
+        ≡ Some BadAccess }
+    ensures past { visit_fault 65536 (Some (record { slot = 3; fault = None })) ≡ Some TooComplex }
+    ensures past_fault { visit_fault 65536 (Some (record { slot = 3; fault = Some BadAccess }))
+        ≡ Some TooComplex }
+    ensures none { visit_fault 65536 None ≡ None }
+{}
+
 #[test]
 fn calls_at_values(_rt: HostRuntime) {
     a_call();
     a_callee_is_entered();
     a_callee_has_returned();
     two_exits();
+    too_many_visits();
 }
