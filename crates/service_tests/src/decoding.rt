@@ -87,7 +87,7 @@ fn opcodes(rt: HostRuntime) -> Result<(), Fail> {
 #[test]
 fn first_faults(rt: HostRuntime) -> Result<(), Fail> {
     // a slot in the order of its bytes
-    let rows: [(&str, u64, DecodeFault); 26] = [
+    let rows: [(&str, u64, DecodeFault); 27] = [
         (
             "an opcode that no instruction has, and r11",
             0x0d0b_0000_0000_0000,
@@ -137,6 +137,11 @@ fn first_faults(rt: HostRuntime) -> Result<(), Fail> {
             "a wide instruction in the last slot, and a source",
             0x1810_0000_0000_0000,
             DecodeFault::TruncatedWide,
+        ),
+        (
+            "le of 8, and r11",
+            0xd40b_0000_0800_0000,
+            DecodeFault::BadRegister,
         ),
         (
             "le of 8, and an offset",

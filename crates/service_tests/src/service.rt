@@ -148,9 +148,72 @@ fn a_tenant_has_64_procedures(rt: HostRuntime) -> Result<(), Fail> {
         reply_to(alloc, &mut state, time, seven)?;
     }
     expect(&rt, &mut state, 65, install(alloc, SEVEN)?, "65 04")?;
-    expect(&rt, &mut state, 66, install(alloc, &[])?, "66 04")?;
-    let seven = "67 000000000000000007";
-    expect(&rt, &mut state, 67, call(alloc, 63, &[])?, seven)
+    expect(&rt, &mut state, 65, call(alloc, 63, &[])?, "65 04")?;
+    expect(&rt, &mut state, 67, install(alloc, &[])?, "67 04")?;
+    let seven = "68 000000000000000007";
+    expect(&rt, &mut state, 68, call(alloc, 63, &[])?, seven)
+}
+
+/// A refused operation is answered once, too: asked again at its time, whatever for, its reply comes again.
+#[test]
+fn a_refusal_uses_up_its_time(rt: HostRuntime) -> Result<(), Fail> {
+    let alloc = rt.alloc();
+    let mut state = genesis(alloc, &[(100, 1)])?;
+    reply_to(alloc, &mut state, 1, install(alloc, SEVEN)?)?;
+    let rows: [(&str, Bytes, &str); 4] = [
+        ("no operation", raw(alloc, &[3])?, "01"),
+        ("refused code", install(alloc, &[])?, "02"),
+        ("no procedure", call(alloc, 9, &[])?, "03"),
+        ("long arguments", call(alloc, 0, &[0; 257])?, "05"),
+    ];
+    let mut time = 1;
+    for (name, op, result) in rows {
+        time += 1;
+        let number = state.number().0 + 1;
+        let wanted = format!(in alloc; "{number} {result}")?;
+        let first = reply_to(alloc, &mut state, time, op)?;
+        let again = reply_to(alloc, &mut state, time, call(alloc, 0, &[])?)?;
+        let late = reply_to(alloc, &mut state, time - 1, call(alloc, 0, &[])?)?;
+        assert!(rt;
+            first.as_str() == wanted.as_str() && again.as_str() == wanted.as_str(),
+            "{name}"
+        );
+        assert!(rt; late.as_str() == "-", "{name}");
+    }
+    Ok(())
+}
+
+/// Code that puts the client that calls into r0 and exits.
+const CALLER: &[u8] = &[0x85, 0, 0, 0, 7, 0, 0, 0, 0x95, 0, 0, 0, 0, 0, 0, 0];
+
+#[test]
+fn a_procedure_sees_the_client_that_calls(rt: HostRuntime) -> Result<(), Fail> {
+    let alloc = rt.alloc();
+    let mut state = genesis(alloc, &[(100, 1), (200, 1)])?;
+    apply(&mut state, &request(100, 1, install(alloc, CALLER)?))?;
+    let rows = [
+        ("who installed it", 100, "000000000000000064"),
+        ("another", 200, "0000000000000000c8"),
+    ];
+    for (name, client, wanted) in rows {
+        let outcome = apply(&mut state, &request(client, 2, call(alloc, 0, &[])?))?;
+        let reply = outcome.reply.ok_or("no reply")?;
+        let result = encode(alloc, reply.result.as_slice())?;
+        assert!(rt; result.as_str() == wanted, "{name}");
+    }
+    Ok(())
+}
+
+/// Code that puts out its arguments and exits.
+const ECHO: &[u8] = &[0x85, 0, 0, 0, 6, 0, 0, 0, 0x95, 0, 0, 0, 0, 0, 0, 0];
+
+#[test]
+fn a_call_returns_what_it_put_out(rt: HostRuntime) -> Result<(), Fail> {
+    let alloc = rt.alloc();
+    let mut state = genesis(alloc, &[(100, 1)])?;
+    expect(&rt, &mut state, 1, install(alloc, ECHO)?, "1 0000000000")?;
+    let output = "2 0000000000000000000102ff";
+    expect(&rt, &mut state, 2, call(alloc, 0, &[1, 2, 255])?, output)
 }
 
 /// Wants these bytes, in hex, of a state, and the digest of them.
@@ -183,6 +246,7 @@ fn a_small_state_as_bytes(rt: HostRuntime) -> Result<(), Fail> {
     assert!(rt; state.number().0 == 2);
     let outcome = state.apply(None)?;
     assert!(rt; outcome.number.0 == 3 && outcome.reply.is_none());
+    assert!(rt; state.number().0 == 3);
     Ok(())
 }
 

@@ -44,6 +44,20 @@ const R10_IS_R1: u64 = 0xbf1a_0000_0000_0000;
 
 const CALL_9: u64 = 0x8500_0000_0900_0000;
 
+const LEN: u64 = 0x8500_0000_0400_0000;
+
+const R5_IS_0: u64 = 0xb705_0000_0000_0000;
+
+const R0_IS_R2: u64 = 0xbf20_0000_0000_0000;
+
+const BE16_R5: u64 = 0xdc05_0000_1000_0000;
+
+const R2_EQUALS_R5: u64 = 0x1d52_0000_0000_0000;
+
+const STORE_8: u64 = 0x7a0a_f8ff_0000_0000;
+
+const LOAD_8: u64 = 0x79a0_f8ff_0000_0000;
+
 /// Code that reads a key at the frame pointer less some, and r2 on.
 fn key_at_r2(less: u64) -> [u64; 8] {
     [
@@ -81,7 +95,7 @@ fn refusals(rt: HostRuntime) -> Result<(), Fail> {
     let at_271 = key_at_r2(0x0703_0000_f1fe_ffff);
     let at_513 = key_at_r2(0x0703_0000_fffd_ffff);
     let at_16 = key_at_r0(0x0703_0000_f0ff_ffff);
-    let rows: [(&str, &[u64], VerifyFault, u32); 13] = [
+    let rows: [(&str, &[u64], VerifyFault, u32); 19] = [
         ("r2 is at most 256", &at_272, VerifyFault::UninitBytes, 6),
         ("r2 may be 256", &at_271, VerifyFault::BadAccess, 6),
         ("r2 may be 0", &at_513, VerifyFault::BadAccess, 6),
@@ -111,6 +125,56 @@ fn refusals(rt: HostRuntime) -> Result<(), Fail> {
             0,
         ),
         ("exit without r0", &[EXIT], VerifyFault::UninitRegister, 0),
+        (
+            "a byte swap of an absent register",
+            &[BE16_R5, R0_IS_0, EXIT],
+            VerifyFault::UninitRegister,
+            0,
+        ),
+        (
+            "a test with an absent register",
+            &[R2_EQUALS_R5, R0_IS_0, EXIT],
+            VerifyFault::UninitRegister,
+            0,
+        ),
+        (
+            "a helper leaves nothing in r2",
+            &[LEN, R0_IS_R2, EXIT],
+            VerifyFault::UninitRegister,
+            1,
+        ),
+        (
+            "a helper leaves nothing in r5",
+            &[R5_IS_0, LEN, R0_IS_R5, EXIT],
+            VerifyFault::UninitRegister,
+            2,
+        ),
+        (
+            "bytes that the first of two edges has",
+            &[
+                0x1502_0200_0000_0000,
+                STORE_8,
+                0x0500_0100_0000_0000,
+                R0_IS_0,
+                LOAD_8,
+                EXIT,
+            ],
+            VerifyFault::UninitBytes,
+            4,
+        ),
+        (
+            "bytes that the second of two edges has",
+            &[
+                0x1502_0200_0000_0000,
+                R0_IS_0,
+                0x0500_0100_0000_0000,
+                STORE_8,
+                LOAD_8,
+                EXIT,
+            ],
+            VerifyFault::UninitBytes,
+            4,
+        ),
         (
             "the structure before the data flow",
             &[R0_IS_R5, R10_IS_R1, EXIT],
