@@ -69,7 +69,15 @@ fn definitions_at_values(rt: HostRuntime) {
     }
     assert_eq!(rt; Helper::Len.max_answer(), 4096);
     assert_eq!(rt; Helper::Caller.max_answer(), 4_294_967_295);
-    assert_eq!(rt; Helper::Emit.max_answer(), 1);
+    for helper in [
+        Helper::Get,
+        Helper::Put,
+        Helper::Del,
+        Helper::Next,
+        Helper::Emit,
+    ] {
+        assert_eq!(rt; helper.max_answer(), 1, "{helper:?}");
+    }
     assert_eq!(rt; Extent::Second.fixed(), 0);
     assert_eq!(rt; Helper::Emit.reads()[0].size, Extent::Second);
     assert_eq!(rt; Helper::Next.writes()[0].size.fixed(), 16);
