@@ -114,6 +114,9 @@ fn worked_transfers(rt: HostRuntime) {
     let both = join(range(1, 2), range(5, 9));
     assert_eq!(rt; both.lo, 1);
     assert_eq!(rt; both.hi, 9);
+    let exchanged = join(range(5, 9), range(1, 2));
+    assert_eq!(rt; exchanged.lo, 1);
+    assert_eq!(rt; exchanged.hi, 9);
 }
 
 #[test]
