@@ -32,9 +32,9 @@ pub chain-chain : (id : List ℕ) (leaf i from steps more : ℕ) (value : List �
 unfolding chain
 chain-chain id leaf i from steps zero value = sym (ap (λ k. chain id leaf i from k value) (add-zero steps))
 chain-chain id leaf i from steps (suc more) value =
-    let place : from + steps + more ≡ from + (steps + more) = omega arith in
+    let same_step : from + steps + more ≡ from + (steps + more) = omega arith in
     ap (λ v. chain_step id leaf i (from + steps + more) v) (chain-chain id leaf i from steps more value)
-    ∙ (ap (λ k. chain_step id leaf i k (chain id leaf i from (steps + more) value)) place
+    ∙ (ap (λ k. chain_step id leaf i k (chain id leaf i from (steps + more) value)) same_step
     ∙ sym (ap (λ k. chain id leaf i from k value) (add-suc steps more)))
 
 pub length-chain : (id : List ℕ) (leaf i from steps : ℕ) (value : List ℕ) → length value ≡ 32

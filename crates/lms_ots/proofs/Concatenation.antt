@@ -12,18 +12,18 @@ pub concatenation-more : (f : ℕ → List ℕ) (n : ℕ) → concatenation f (n
 unfolding concatenation
 concatenation-more f n = ap (concatenation f) (add-one n)
 
--- one more piece behind a list and n pieces
+-- one more part behind a list and n parts
 pub joined_push : (p : List ℕ) (f : ℕ → List ℕ) (n : ℕ) → (p ++ concatenation f n) ++ f n ≡ p ++ concatenation f (n + 1)
 joined_push p f n = append_assoc p (concatenation f n) (f n) ∙ ap (λ t. p ++ t) (sym (concatenation-more f n))
 
--- pieces of one length each
+-- parts of one length each
 pub length-concatenation : (f : ℕ → List ℕ) (w n : ℕ) → ((i : ℕ) → length (f i) ≡ w) → length (concatenation f n) ≡ w * n
 unfolding concatenation
 length-concatenation f w zero each = omega arith
 length-concatenation f w (suc n) each =
     omega (arith, length-append (concatenation f n) (f n), length-concatenation f w n each, each n)
 
--- two concatenations whose pieces are equal
+-- two concatenations whose parts are equal
 pub joined_same : (f g : ℕ → List ℕ) (n : ℕ) → ((i : ℕ) → i < n → f i ≡ g i) → concatenation f n ≡ concatenation g n
 unfolding concatenation
 joined_same f g zero each = refl

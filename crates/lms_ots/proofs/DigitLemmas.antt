@@ -10,9 +10,9 @@ pub get_or-digits_of : (q : List ℕ) (i : ℕ) → i < 67 → get_or (digits_of
 unfolding digits_of
 get_or-digits_of q i h = get_or-map-range_with_len (digit q) 0 67 i i 0 h (omega arith)
 
-pub digits_from_places : (q ds : List ℕ) (n : ℕ) → n ≡ 67 → length ds ≡ 67 → ((k : ℕ) → k < n → get_or ds k 0 ≡ digit q k) → ds ≡ digits_of q
+pub digits_from_each : (q ds : List ℕ) (n : ℕ) → n ≡ 67 → length ds ≡ 67 → ((k : ℕ) → k < n → get_or ds k 0 ≡ digit q k) → ds ≡ digits_of q
 unfolding digits_of
-digits_from_places q ds n e w each = fill_by_all (digit q) ds 67 0 w (λ k h. each k (omega arith))
+digits_from_each q ds n e w each = fill_by_all (digit q) ds 67 0 w (λ k h. each k (omega arith))
 
 -- one number more in a sum
 pub sum-map-range_more : (f : ℕ → ℕ) (n : ℕ)
@@ -20,9 +20,9 @@ pub sum-map-range_more : (f : ℕ → ℕ) (n : ℕ)
 sum-map-range_more f n = sum_by-map-range_with_len_more (λ x. x) f 0 n n (omega arith)
 
 -- one index more of a list that is filled index by index
-pub fill_place : (f : ℕ → ℕ) (xs : List ℕ) (i v : ℕ) → v ≡ f i → i < length xs
+pub fill_index : (f : ℕ → ℕ) (xs : List ℕ) (i v : ℕ) → v ≡ f i → i < length xs
     → ((k : ℕ) → k < i → get_or xs k 0 ≡ f k) → (k : ℕ) → k < i + 1 → get_or (set xs i v) k 0 ≡ f k
-fill_place f xs i v e l below k h = ap (λ u. get_or (set xs i u) k 0) e ∙ fill_by_more f xs i 0 l below k h
+fill_index f xs i v e l below k h = ap (λ u. get_or (set xs i u) k 0) e ∙ fill_by_more f xs i 0 l below k h
 
 -- a digit of the hash
 pub digit_of_hash : (q : List ℕ) (i : ℕ) → length q ≡ 32 → i < 64 → coef q i ≡ digit q i
@@ -34,9 +34,9 @@ pub digit_of_checksum : (q : List ℕ) (i : ℕ) → length q ≡ 32 → 64 ≤ 
     → coef (u16str (checksum q)) (i - 64) ≡ digit q i
 digit_of_checksum q i w h =
     let t : List ℕ = u16str (checksum q) in
-    let place : (i - 64) / 2 ≡ i / 2 - 32 = omega arith in
+    let same_byte : (i - 64) / 2 ≡ i / 2 - 32 = omega arith in
     let half : (i - 64) % 2 ≡ i % 2 = omega arith in
     let byte : get_or t ((i - 64) / 2) 0 ≡ get_or (q ++ t) (i / 2) 0 =
-    ap (λ k. get_or t k 0) place ∙ sym (get_or-append_right q t 32 (i / 2) 0 w (omega arith)) in
+    ap (λ k. get_or t k 0) same_byte ∙ sym (get_or-append_right q t 32 (i / 2) 0 w (omega arith)) in
     ap (λ k. get_or t ((i - 64) / 2) 0 / 2 ^ (4 - 4 * k) % 16) half
     ∙ ap (λ b. b / 2 ^ (4 - 4 * (i % 2)) % 16) byte

@@ -1,4 +1,4 @@
--- What a hasher holds, as pieces are fed to it.
+-- What a hasher holds, as parts are fed to it.
 use Rattle.std.proofs.Common.{◌≡◌, ℕ, ◌+◌, List, ◌++◌, sym, ◌∙◌, ap, subst}
 use Rattle.std.proofs.lemmas.List.{append-nil}
 use Rattle.sha2.specs.Hashers.{Holds256}

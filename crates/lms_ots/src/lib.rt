@@ -105,7 +105,7 @@ fn randomizer(id: &[u8; 16], leaf: u32, secret: &[u8; 32]) -> [u8; 32]
     block_hash(id, leaf, RANDOMIZER_TAG, SEED_STEP, secret)
 }
 
-// The hash whose digits are signed (RFC 8554, section 4.5), of a message in two pieces.
+// The hash whose digits are signed (RFC 8554, section 4.5), of a message in two parts.
 fn message_hash(
     id: &[u8; 16],
     leaf: u32,
@@ -162,7 +162,7 @@ pub fn ots_candidate(id: &[u8; 16], leaf: u32, message: &[u8], signature: &[u8; 
     ots_candidate_of_two(id, leaf, &[], message, signature)
 }
 
-/// As `ots_candidate`, of a message in two pieces, which need not be copied together.
+/// As `ots_candidate`, of a message in two parts, which need not be copied together.
 pub fn ots_candidate_of_two(
     id: &[u8; 16],
     leaf: u32,

@@ -48,7 +48,7 @@ fn key_height(key: &[u8; 56]) -> Option<Height>
     }
 }
 
-// The root that a signature of a message in two pieces leads to.
+// The root that a signature of a message in two parts leads to.
 fn candidate_root(height: Height, id: &[u8; 16], head: &[u8], tail: &[u8], sig: &[u8]) -> [u8; 32]
     requires long { length sig.now ≡ 2188 + 32 * levels_of height }
     requires leaf { word_at sig.now 0 < 2 ^ levels_of height }
@@ -85,7 +85,7 @@ pub fn verify(key: &[u8; 56], body: &[u8], sig: &[u8]) -> Result<(), SigFault>
     verify_two(key, &[], body, sig)
 }
 
-/// As `verify`, of a body in two pieces, which need not be copied together.
+/// As `verify`, of a body in two parts, which need not be copied together.
 pub fn verify_two(key: &[u8; 56], head: &[u8], tail: &[u8], sig: &[u8]) -> Result<(), SigFault>
     ensures { MatchResult result (λ _. signature_fault key.now (head.now ++ tail.now) sig.now ≡ None)
         (λ fault. signature_fault key.now (head.now ++ tail.now) sig.now ≡ Some fault) }

@@ -27,7 +27,7 @@ use Rattle.pbft_codec.specs.Bodies.{BodyWellFormed}
 use Rattle.pbft_codec.proofs.Widths.{LengthInRange, CertificateWidths, ViewChangeWidths, BodyWidths}
 use Rattle.pbft_codec.specs.Layouts.{view, client, number, length_prefixed, encoded_list, of_kind, request, proposal, pre_prepare, prepare, commit, reply, checkpoint, signed_pre_prepare, signed_prepare, signed_checkpoint, certificate, view_change, signed_view_change, new_view, fetch, snapshot}
 use Rattle.pbft_codec.proofs.Forms.{IsBytes, IsBytes-rest, bind_ok, ok_is, Takes, IsForm, form_pair, form_map, forms_many, AllFrom}
-use Rattle.pbft_codec.proofs.FieldLaws.{wide64, form_number, form_view, form_client, form_sequence_number, form_digest, form_counted, form_signed, form_listed}
+use Rattle.pbft_codec.proofs.FieldLaws.{wide64, form_number, form_view, form_client, form_sequence_number, form_digest, form_length_prefixed, form_signed, form_listed}
 use Rattle.pbft_codec.proofs.ListLaws.{SignedReadable, split_signed, join_signed, split_ascending, join_ascending, split_any, join_any, split_each, join_each}
 
 -- ---- the byte of a kind
@@ -84,7 +84,7 @@ unfolding request_at request
 form_request =
     form_map (pair (number_at w64) length_prefixed_at) (λ p. to_be_bytes w64 p.0 ++ length_prefixed p.1) (λ p. (p.0 < 2 ^ 64) × LengthInRange p.1)
     (λ p. record { time = p.0; op = p.1 }) (λ r. (r.time, r.op)) request (λ r. BodyReadable (bodies.Request r)) (λ _. refl) (λ _. refl) (λ p fits. (tt, fits)) (λ r fits. fits.1)
-    (form_pair (number_at w64) (to_be_bytes w64) (λ n. n < 2 ^ 64) length_prefixed_at length_prefixed LengthInRange (form_number w64 (2 ^ 64) wide64) form_counted)
+    (form_pair (number_at w64) (to_be_bytes w64) (λ n. n < 2 ^ 64) length_prefixed_at length_prefixed LengthInRange (form_number w64 (2 ^ 64) wide64) form_length_prefixed)
 
 abbrev vote_text : View × (SeqNo × Digest) → List ℕ
 vote_text p = view p.0 ++ (number p.1.0 ++ p.1.1.0)
@@ -128,7 +128,7 @@ form_reply =
     (form_pair view_at view IsView (pair client_at (pair (number_at w64) (pair sequence_number_at length_prefixed_at))) (λ p. client p.0 ++ (to_be_bytes w64 p.1.0 ++ (number p.1.1.0 ++ length_prefixed p.1.1.1))) (λ p. (p.0.0 < 2 ^ 32) × ((p.1.0 < 2 ^ 64) × (IsSequenceNumber p.1.1.0 × LengthInRange p.1.1.1))) form_view
     (form_pair client_at client (λ c. c.0 < 2 ^ 32) (pair (number_at w64) (pair sequence_number_at length_prefixed_at)) (λ p. to_be_bytes w64 p.0 ++ (number p.1.0 ++ length_prefixed p.1.1)) (λ p. (p.0 < 2 ^ 64) × (IsSequenceNumber p.1.0 × LengthInRange p.1.1)) form_client
     (form_pair (number_at w64) (to_be_bytes w64) (λ n. n < 2 ^ 64) (pair sequence_number_at length_prefixed_at) (λ p. number p.0 ++ length_prefixed p.1) (λ p. IsSequenceNumber p.0 × LengthInRange p.1) (form_number w64 (2 ^ 64) wide64)
-    (form_pair sequence_number_at number IsSequenceNumber length_prefixed_at length_prefixed LengthInRange form_sequence_number form_counted))))
+    (form_pair sequence_number_at number IsSequenceNumber length_prefixed_at length_prefixed LengthInRange form_sequence_number form_length_prefixed))))
 
 pub form_checkpoint : IsForm checkpoint_at checkpoint (λ c. BodyReadable (bodies.Checkpoint c))
 unfolding checkpoint_at checkpoint
@@ -142,7 +142,7 @@ unfolding snapshot_at snapshot
 form_snapshot =
     form_map (pair sequence_number_at length_prefixed_at) (λ p. number p.0 ++ length_prefixed p.1) (λ p. IsSequenceNumber p.0 × LengthInRange p.1)
     (λ p. record { number = p.0; state = p.1 }) (λ s. (s.number, s.state)) snapshot (λ s. BodyReadable (bodies.Snapshot s)) (λ _. refl) (λ _. refl) (λ p fits. fits) (λ s fits. fits)
-    (form_pair sequence_number_at number IsSequenceNumber length_prefixed_at length_prefixed LengthInRange form_sequence_number form_counted)
+    (form_pair sequence_number_at number IsSequenceNumber length_prefixed_at length_prefixed LengthInRange form_sequence_number form_length_prefixed)
 
 -- ---- a request for what is missing
 

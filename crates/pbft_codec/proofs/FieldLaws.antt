@@ -163,9 +163,9 @@ form_role = record {
 
 -- ---- lengths and bytes
 
-counted_takes : (bytes : List ℕ) (x : List ℕ × List ℕ) → IsBytes bytes → length_prefixed_at bytes ≡ Ok x → (Takes bytes (length_prefixed x.0) x.1 × LengthInRange x.0) × IsBytes x.0
+length_prefixed_takes : (bytes : List ℕ) (x : List ℕ × List ℕ) → IsBytes bytes → length_prefixed_at bytes ≡ Ok x → (Takes bytes (length_prefixed x.0) x.1 × LengthInRange x.0) × IsBytes x.0
 unfolding length_prefixed_at length_prefixed
-counted_takes bytes x fits e =
+length_prefixed_takes bytes x fits e =
     let b = bind_ok (number_at w32 bytes) (λ n. cond (ltb (length n.1) n.0) (Err Truncated) (Ok (take n.0 n.1, drop n.0 n.1))) x e in
     let n = b.0 in
     let t = number_takes w32 (2 ^ 32) wide32 bytes n fits b.1 in
@@ -177,26 +177,26 @@ counted_takes bytes x fits e =
     let all : Takes bytes (length_prefixed (take n.0 n.1)) (drop n.0 n.1) = subst (λ (k : ℕ). Takes bytes (to_be_bytes w32 k ++ take n.0 n.1) (drop n.0 n.1)) (sym len) pair in
     subst (λ (p : List ℕ × List ℕ). (Takes bytes (length_prefixed p.0) p.1 × LengthInRange p.0) × IsBytes p.0) g.1 ((all, omega (arith, t.1)), IsBytes-take n.0 n.1 t.0.rest_bytes)
 
-counted_again : (text rest : List ℕ) → LengthInRange text → length_prefixed_at (length_prefixed text ++ rest) ≡ Ok (text, rest)
+length_prefixed_again : (text rest : List ℕ) → LengthInRange text → length_prefixed_at (length_prefixed text ++ rest) ≡ Ok (text, rest)
 unfolding length_prefixed_at length_prefixed
-counted_again text rest lt =
+length_prefixed_again text rest lt =
     let long : ltb (length (text ++ rest)) (length text) ≡ false = le-ltb _ _ (omega (arith, length-append text rest)) in
     rw (number_again w32 (2 ^ 32) wide32 (length text) (text ++ rest) lt, long, take_at text rest (length text) refl, drop_at text rest (length text) refl) refl
 
-counted_short : (text front back : List ℕ) → LengthInRange text → 0 < length back → length_prefixed text ≡ front ++ back → length_prefixed_at front ≡ Err Truncated
+length_prefixed_short : (text front back : List ℕ) → LengthInRange text → 0 < length back → length_prefixed text ≡ front ++ back → length_prefixed_at front ≡ Err Truncated
 unfolding length_prefixed_at length_prefixed
-counted_short text front back lt more e = by_cut (cut (to_be_bytes w32 (length text)) text front back e) where
+length_prefixed_short text front back lt more e = by_cut (cut (to_be_bytes w32 (length text)) text front back e) where
   by_cut : IsCut (to_be_bytes w32 (length text)) text front back → length_prefixed_at front ≡ Err Truncated
   by_cut (inl p) = rw (number_short w32 (2 ^ 32) wide32 (length text) front p.0 p.1 p.2) refl
   by_cut (inr p) =
       let few : ltb (length p.0) (length text) ≡ true = lt-ltb _ _ (omega (arith, ap length p.2, length-append p.0 back)) in
       rw (p.1, number_again w32 (2 ^ 32) wide32 (length text) p.0 lt, few) refl
 
-pub form_counted : IsForm length_prefixed_at length_prefixed LengthInRange
-form_counted = record {
-  takes = λ bytes x fits e. (counted_takes bytes x fits e).0;
-  again = counted_again;
-  short = counted_short;
+pub form_length_prefixed : IsForm length_prefixed_at length_prefixed LengthInRange
+form_length_prefixed = record {
+  takes = λ bytes x fits e. (length_prefixed_takes bytes x fits e).0;
+  again = length_prefixed_again;
+  short = length_prefixed_short;
 }
 
 pub form_filling : {A : Type 0} (reading : Reading A) (s : A → List ℕ) (F : A → Type 0) → IsForm reading s F → IsForm (framed reading) (λ x. length_prefixed (s x)) (λ x. F x × LengthInRange (s x))
@@ -205,14 +205,14 @@ form_filling {A} reading s F f = record {
   takes = λ bytes x fits e.
       let a = bind_ok (length_prefixed_at bytes) (λ inside. whole reading inside.0 >>= λ value. Ok (value, inside.1)) x e in
       let b = bind_ok (whole reading a.0.0) (λ value. Ok (value, a.0.1)) x a.2 in
-      let one = counted_takes bytes a.0 fits a.1 in
+      let one = length_prefixed_takes bytes a.0 fits a.1 in
       let two = whole_takes reading s F a.0.0 b.0 f one.1 b.1 in
       let out : A × List ℕ = (b.0, a.0.1) in
       let text : Takes bytes (length_prefixed (s b.0)) a.0.1 = subst (λ (t : List ℕ). Takes bytes (length_prefixed t) a.0.1) two.0 one.0.0 in
       let len : LengthInRange (s b.0) = subst (λ (t : List ℕ). LengthInRange t) two.0 one.0.1 in
       subst (λ (y : A × List ℕ). Takes bytes (length_prefixed (s y.0)) y.1 × (F y.0 × LengthInRange (s y.0))) (ok_is out x b.2) (text, (two.1, len));
-  again = λ x rest fits. rw (counted_again (s x) rest fits.1, whole_again reading s F x f fits.0) refl;
-  short = λ x front back fits more e. rw (counted_short (s x) front back fits.1 more e) refl;
+  again = λ x rest fits. rw (length_prefixed_again (s x) rest fits.1, whole_again reading s F x f fits.0) refl;
+  short = λ x front back fits more e. rw (length_prefixed_short (s x) front back fits.1 more e) refl;
 }
 
 -- ---- signed bodies
@@ -230,7 +230,7 @@ form_signed {B} reading s F low f =
     (λ m fits. (tt, ((fits.0, fits.1.id_in_range), ((fits.1.body_in_range, fits.1.body_length_in_range), fits.1.sig_length_in_range))))
     (form_pair role_at (λ r. role_byte r ∷ []) (λ _. Unit {0}) (pair (id_at low) (pair (framed reading) length_prefixed_at)) (λ p. to_be_bytes w32 p.0 ++ (length_prefixed (s p.1.0) ++ length_prefixed p.1.1)) (λ p. ((low ≤ p.0) × (p.0 < 2 ^ 32)) × ((F p.1.0 × LengthInRange (s p.1.0)) × LengthInRange p.1.1)) form_role
     (form_pair (id_at low) (to_be_bytes w32) (λ n. (low ≤ n) × (n < 2 ^ 32)) (pair (framed reading) length_prefixed_at) (λ p. length_prefixed (s p.0) ++ length_prefixed p.1) (λ p. (F p.0 × LengthInRange (s p.0)) × LengthInRange p.1) (form_id low)
-    (form_pair (framed reading) (λ x. length_prefixed (s x)) (λ x. F x × LengthInRange (s x)) length_prefixed_at length_prefixed LengthInRange (form_filling reading s F f) form_counted)))
+    (form_pair (framed reading) (λ x. length_prefixed (s x)) (λ x. F x × LengthInRange (s x)) length_prefixed_at length_prefixed LengthInRange (form_filling reading s F f) form_length_prefixed)))
 
 -- ---- lists
 

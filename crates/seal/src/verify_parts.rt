@@ -61,7 +61,7 @@ pub fn may_sign(config: &Config, role: Role, id: u32, body: &Body) -> bool
     }
 }
 
-/// Verifies a message itself, whatever is nested in it, over the two pieces of what is signed.
+/// Verifies a message itself, whatever is nested in it, over the two parts of what is signed.
 #[tactic(auto, unfolding(crate::specs::Signers::own_fault))]
 fn verify_part(config: &Config, message: &Signed, head: &[u8], tail: &[u8]) -> Result<(), SealFault>
     requires { head.now ++ tail.now ≡ signed_text message.now }

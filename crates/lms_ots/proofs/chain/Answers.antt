@@ -16,9 +16,9 @@ steps-preserved c =
     let above = c.steps.auto.j in
     let within = c.steps.auto.j-end in
     let low : a.from ≤ j = omega arith in
-    let place : a.from + (j - a.from) ≡ j = omega arith in
+    let same_step : a.from + (j - a.from) ≡ j = omega arith in
     let next : j - a.from + 1 ≡ j + 1 - a.from = omega arith in
     c.block_hash-value.ensures
     ∙ (ap (λ v. chain_step a.id.now a.leaf a.i j v) c.steps.invariant
-    ∙ (sym (chain-more a.id.now a.leaf a.i a.from (j - a.from) j a.start.now place)
+    ∙ (sym (chain-more a.id.now a.leaf a.i a.from (j - a.from) j a.start.now same_step)
     ∙ ap (λ k. chain a.id.now a.leaf a.i a.from k a.start.now) next))

@@ -37,10 +37,10 @@ returns c =
     let hashed : c.message_hash.result ≡ q =
     c.message_hash.ensures ∙ ap (λ r. message_hash a.id.now a.leaf r (a.head.now ++ a.tail.now)) c.hash_at-randomizer.ensures in
     let digits : c.digits-digits.result ≡ digits_of q = c.digits-digits.ensures ∙ ap digits_of hashed in
-    let places : (i : ℕ) → i < 67 → get_or c.digits-digits.result i 0 ≡ digit q i =
+    let each_digit : (i : ℕ) → i < 67 → get_or c.digits-digits.result i 0 ≡ digit q i =
     λ i h. ap (λ ds. get_or ds i 0) digits ∙ get_or-digits_of q i h in
     c.finalize.ensures _ c.chains.invariant
     ∙ (ap (λ n. sha256 (a.id.now ++ u32str a.leaf ++ u16str 0x8080
     ++ concatenation (λ i. chain a.id.now a.leaf i (get_or c.digits-digits.result i 0) (15 - get_or c.digits-digits.result i 0) (value_in a.signature.now i)) n)) all
     ∙ ap (λ ys. sha256 (a.id.now ++ u32str a.leaf ++ u16str 0x8080 ++ ys))
-    (joined_same _ _ 67 (λ i h. ap (λ d. chain a.id.now a.leaf i d (15 - d) (value_in a.signature.now i)) (places i h))))
+    (joined_same _ _ 67 (λ i h. ap (λ d. chain a.id.now a.leaf i d (15 - d) (value_in a.signature.now i)) (each_digit i h))))

@@ -55,10 +55,10 @@ returns c =
     let hashed : c.message_hash.result ≡ q =
     c.message_hash.ensures ∙ ap (λ r. message_hash a.id.now a.leaf r a.message.now) c.randomizer-randomizer.ensures in
     let digits : c.digits-digits.result ≡ digits_of q = c.digits-digits.ensures ∙ ap digits_of hashed in
-    let places : (i : ℕ) → i < 67 → get_or c.digits-digits.result i 0 ≡ digit q i =
+    let each_digit : (i : ℕ) → i < 67 → get_or c.digits-digits.result i 0 ≡ digit q i =
     λ i h. ap (λ ds. get_or ds i 0) digits ∙ get_or-digits_of q i h in
     sym (take_all (36 + 32 * c.chains.i) c.chains.signature long)
     ∙ (c.chains.invariant.so_far
     ∙ (ap (λ n. u32str 3 ++ r ++ concatenation (λ i. chain a.id.now a.leaf i 0 (get_or c.digits-digits.result i 0) (chain_start a.id.now a.leaf a.secret.now i)) n) all
     ∙ ap (λ ys. u32str 3 ++ r ++ ys)
-    (joined_same _ _ 67 (λ i h. ap (λ d. chain a.id.now a.leaf i 0 d (chain_start a.id.now a.leaf a.secret.now i)) (places i h)))))
+    (joined_same _ _ 67 (λ i h. ap (λ d. chain a.id.now a.leaf i 0 d (chain_start a.id.now a.leaf a.secret.now i)) (each_digit i h)))))

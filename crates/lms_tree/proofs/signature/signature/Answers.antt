@@ -34,8 +34,8 @@ sibling-sibling_node-requires-clause-within c =
     let count = c.leaf_count.ensures in
     let levels = c.levels-i-end.ensures in
     let h : ℕ = levels_of c.args.height in
-    let place = sibling-in_tree h (c.leaf_count.result + c.args.leaf) c.path.i (omega arith) (omega arith) (omega arith) in
-    omega (arith, place.1, c.requires.nodes.long)
+    let in_tree = sibling-in_tree h (c.leaf_count.result + c.args.leaf) c.path.i (omega arith) (omega arith) (omega arith) in
+    omega (arith, in_tree.1, c.requires.nodes.long)
 
 pub path-preserved : goal.path-preserved
 path-preserved c =
@@ -46,9 +46,9 @@ path-preserved c =
     let n : ℕ = first / 2 ^ c.path.i in
     let count = c.leaf_count.ensures in
     let levels = c.levels-i-end.ensures in
-    let place = sibling-in_tree h first c.path.i (omega arith) (omega arith) (omega arith) in
+    let in_tree = sibling-in_tree h first c.path.i (omega arith) (omega arith) (omega arith) in
     let node : c.sibling-sibling_node.result ≡ f c.path.i =
-    c.sibling-sibling_node.ensures ∙ c.requires.nodes.holds (sibling n) place.0 place.1 in
+    c.sibling-sibling_node.ensures ∙ c.requires.nodes.holds (sibling n) in_tree.0 in_tree.1 in
     pushed c.sibling-sibling_node.result c.path.invariant c.in_ok-extend_from_slice-4.was c.extend_from_slice-in-path.ensures.items
     ∙ (ap (λ t. u32str a.leaf ++ signature_of a.id.now a.leaf a.secret.now a.body.now ++ u32str (typecode_of a.height) ++ concatenation f c.path.i ++ t) node
     ∙ joined_push _ f c.path.i)
