@@ -30,7 +30,7 @@ use Rattle.bpf_model.proofs.Effects.{Keeps, step_keeps}
 use Rattle.bpf_model.proofs.HelperCalls.{ReadAt, read_at, bytes_length}
 use Rattle.bpf_model.proofs.Options.{no_fault, some_is}
 use Rattle.service_core.specs.declared.outcome.Outcome.{Outcome}
-use Rattle.service_core.specs.Words.{four_bytes, eight_bytes}
+use Rattle.service_core.specs.Words.{u32_bytes, u64_bytes}
 use Rattle.service_core.specs.Operations.{Operation, Install, Call as CallOf, Bad, operation_of, Installs, Runs, Does, installed, called, refused, no_procedure, too_many_procedures, arguments_too_long, bad_operation}
 use Rattle.service_core.specs.TenantStates.{Replies, TenantState, Service, tenant_at, with_tenant, empty_tenant, genesis_of, last_reply_of}
 use Rattle.service_core.specs.Steps.{reply_to, Executes, IsTenantStep, IsStep}
@@ -89,12 +89,12 @@ ending_sized code call ending e is =
 
 -- ---- operations keep a tenant's bounds, and results are short
 
-pub four_short : (n : ℕ) → length (four_bytes n) ≡ 4
-unfolding four_bytes
+pub four_short : (n : ℕ) → length (u32_bytes n) ≡ 4
+unfolding u32_bytes
 four_short n = refl
 
-pub eight_short : (n : ℕ) → length (eight_bytes n) ≡ 8
-unfolding eight_bytes
+pub eight_short : (n : ℕ) → length (u64_bytes n) ≡ 8
+unfolding u64_bytes
 eight_short n = refl
 
 -- accepted code has at most 1,024 slots
@@ -123,25 +123,25 @@ installs_within procedures code after entries result few codes sized h = cases (
   id : List ℕ
   id = installed (length procedures)
 
-  judged : nat_le 64 (length procedures) ≡ false
+  decided : nat_le 64 (length procedures) ≡ false
       → ((bound : ℕ) × Accepts code bound × (after ≡ procedures ++ code ∷ []) × (result ≡ installed (length procedures))) ⊎ (((bound : ℕ) → Accepts code bound → ⊥) × (after ≡ procedures) × (result ≡ refused)) → Within after entries result
-  judged room (inl x) = subst (λ (ps : List (List ℕ)). Within ps entries result) (sym x.2)
+  decided room (inl x) = subst (λ (ps : List (List ℕ)). Within ps entries result) (sym x.2)
       (with_result (procedures ++ code ∷ []) entries result id
       (omega (arith, length-append procedures (code ∷ []), leb-false 64 (length procedures) room))
       (All-push (λ c. length c ≤ 8192) procedures code codes (accepted_short code x.0 x.1)) sized x.3 (omega (arith, four_short (length procedures))))
-  judged room (inr x) = unchanged refused (omega arith) x.1 x.2
+  decided room (inr x) = unchanged refused (omega arith) x.1 x.2
 
   cases : (b : Bool) → nat_le 64 (length procedures) ≡ b → MatchBool b ((after ≡ procedures) × (result ≡ too_many_procedures))
       (((bound : ℕ) × Accepts code bound × (after ≡ procedures ++ code ∷ []) × (result ≡ installed (length procedures))) ⊎ (((bound : ℕ) → Accepts code bound → ⊥) × (after ≡ procedures) × (result ≡ refused))) → Within after entries result
   cases true is x = unchanged too_many_procedures (omega arith) x.0 x.1
-  cases false is x = judged is x
+  cases false is x = decided is x
 
 runs_within : (client : ℕ) (procedures : List (List ℕ)) (code arguments : List ℕ) (entries after : Entries) (result : List ℕ) → length procedures ≤ 64 → All (λ c. length c ≤ 8192) procedures → IsSizedMap entries
     → Runs client code arguments entries after result → Within procedures after result
 runs_within client procedures code arguments entries after result few codes sized r =
     let kept = ending_sized r.insns (record { arguments = arguments; client = client; entries = entries }) r.ending r.ends sized in
     with_result procedures after result (called r.ending.value r.ending.output) few codes (subst IsSizedMap (sym r.entries_are) kept.0) r.result_is
-    (omega (arith, kept.1, eight_short r.ending.value, length-append (eight_bytes r.ending.value) r.ending.output))
+    (omega (arith, kept.1, eight_short r.ending.value, length-append (u64_bytes r.ending.value) r.ending.output))
 
 does_within : (client : ℕ) (op : Operation) (procedures after : List (List ℕ)) (entries entries' : Entries) (result : List ℕ) → length procedures ≤ 64 → All (λ c. length c ≤ 8192) procedures → IsSizedMap entries
     → Does client op procedures entries after entries' result → Within after entries' result

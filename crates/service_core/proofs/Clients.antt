@@ -110,7 +110,7 @@ ascends_fold (client ∷ clients) ids up = ascends_fold clients (insert_sorted (
 pub client_ids_ascend : (clients : List ClientEntry) → Ascends (λ (id : ClientId). id.0) (client_ids_of clients)
 client_ids_ascend clients = ascends_fold clients [] tt
 
--- ---- replies that are found for the ids of a list tell for which they were found
+-- ---- replies that are found for the ids of a list say for which they were found
 
 abbrev pub OwnReplies : (ℕ → Option Reply) → Type 0
 OwnReplies f = (q : ℕ) → IfSome (f q) (λ reply. reply.client.0 ≡ q)

@@ -1,4 +1,4 @@
--- Bytes that begin with the encoding of a value: what is told by them, and what is not.
+-- Bytes that begin with the encoding of a value: what they determine, and what is not.
 use Rattle.std.proofs.Common.{◌≡◌, ℕ, ◌+◌, ◌^◌, ◌<◌, ◌≤◌, List, [], ◌∷◌, ◌++◌, length, take, drop, get_or, Result, Ok, Err, refl, sym, ap, subst, ◌∙◌, inl, inr, append_assoc, arith}
 use Rattle.std.specs.Prelude.{flat_map, All, IfErr}
 use Rattle.std.specs.Int.{w32, w64, from_be_bytes}
@@ -12,7 +12,7 @@ use Rattle.service_core.specs.declared.state_fault.StateFault.TheVariants.{BadSt
 use Rattle.host_types.specs.Configuration.{Configuration}
 use Rattle.service_core.specs.TenantStates.{Service}
 use Rattle.service_core.specs.Decoding.{Encodes}
-use Rattle.service_core.specs.Words.{four_bytes, eight_bytes}
+use Rattle.service_core.specs.Words.{u32_bytes, u64_bytes}
 use Rattle.service_core.specs.Readings.{Begins, Fails, Reads}
 use Rattle.service_core.proofs.PrefixFree.{IsPrefixFree, free_four}
 
@@ -51,13 +51,13 @@ taken_bytes n bytes h i =
       | inr le ↦ subst (λ (k : ℕ). k < 256) (sym (get_or_past (take n bytes) i 0 (omega (arith, length-take n bytes, le)))) (omega arith)
     ]
 
-pub four_read : (bytes : List ℕ) (n : ℕ) → ((i : ℕ) → get_or bytes i 0 < 256) → 4 ≤ length bytes → n ≡ from_be_bytes w32 (take 4 bytes) → bytes ≡ four_bytes n ++ drop 4 bytes
-unfolding four_bytes
+pub four_read : (bytes : List ℕ) (n : ℕ) → ((i : ℕ) → get_or bytes i 0 < 256) → 4 ≤ length bytes → n ≡ from_be_bytes w32 (take 4 bytes) → bytes ≡ u32_bytes n ++ drop 4 bytes
+unfolding u32_bytes
 four_read bytes n fits long e =
     sym (take-append-drop 4 bytes) ∙ ap (λ (t : List ℕ). t ++ drop 4 bytes) (sym (be_bytes_4 (take 4 bytes) n (omega (arith, length-take 4 bytes, long)) (taken_bytes 4 bytes fits) e))
 
-pub eight_read : (bytes : List ℕ) (n : ℕ) → ((i : ℕ) → get_or bytes i 0 < 256) → 8 ≤ length bytes → n ≡ from_be_bytes w64 (take 8 bytes) → bytes ≡ eight_bytes n ++ drop 8 bytes
-unfolding eight_bytes
+pub eight_read : (bytes : List ℕ) (n : ℕ) → ((i : ℕ) → get_or bytes i 0 < 256) → 8 ≤ length bytes → n ≡ from_be_bytes w64 (take 8 bytes) → bytes ≡ u64_bytes n ++ drop 8 bytes
+unfolding u64_bytes
 eight_read bytes n fits long e =
     sym (take-append-drop 8 bytes) ∙ ap (λ (t : List ℕ). t ++ drop 8 bytes) (sym (be_bytes_8 (take 8 bytes) n (omega (arith, length-take 8 bytes, long)) (taken_bytes 8 bytes fits) e))
 
@@ -89,8 +89,8 @@ module _ {A : Type 0} (s : A → List ℕ) (F : A → Type 0) where
   ended bytes xs counter count rest h e = ((h.count ∙ e, h.fits), h.text)
 
   module _ (free : IsPrefixFree s F) where
-    pub told : (x : A) (rest b : List ℕ) → F x → b ≡ s x ++ rest → (y : A) (more : List ℕ) → F y → b ≡ s y ++ more → (x ≡ y) × (rest ≡ more)
-    told x rest b fx e y more fy h = free x y rest more fx fy (sym e ∙ h)
+    pub determined : (x : A) (rest b : List ℕ) → F x → b ≡ s x ++ rest → (y : A) (more : List ℕ) → F y → b ≡ s y ++ more → (x ≡ y) × (rest ≡ more)
+    determined x rest b fx e y more fy h = free x y rest more fx fy (sym e ∙ h)
 
     -- what stands behind the first of several values
     pub stuck : (xs ys : List A) (rest more : List ℕ) → length xs < length ys → All F xs → All F ys → flat_map s xs ++ rest ≡ flat_map s ys ++ more
@@ -110,12 +110,12 @@ module _ {A : Type 0} (s : A → List ℕ) (F : A → Type 0) where
         (next.0, flat_map s next.1 ++ more, next.2, next.4)
 
 -- a list after its count
-pub counted : {R A : Type 0} (view : R → List A × List ℕ) (s : A → List ℕ) (F : A → Type 0) (max count : ℕ) (bytes rest : List ℕ) (result : Result R StateFault) → max < 2 ^ 32 → count ≤ max → bytes ≡ four_bytes count ++ rest
-    → Reads view (flat_map s) (SoMany F count) rest result → Reads view (λ xs. four_bytes (length xs) ++ flat_map s xs) (λ xs. (length xs ≤ max) × All F xs) bytes result
-counted view s F max count bytes rest (Ok r) few fits e h =
+pub length_prefixed_list : {R A : Type 0} (view : R → List A × List ℕ) (s : A → List ℕ) (F : A → Type 0) (max count : ℕ) (bytes rest : List ℕ) (result : Result R StateFault) → max < 2 ^ 32 → count ≤ max → bytes ≡ u32_bytes count ++ rest
+    → Reads view (flat_map s) (SoMany F count) rest result → Reads view (λ xs. u32_bytes (length xs) ++ flat_map s xs) (λ xs. (length xs ≤ max) × All F xs) bytes result
+length_prefixed_list view s F max count bytes rest (Ok r) few fits e h =
     let xs = (view r).0 in
-    ((omega (arith, fits, h.0.0), h.0.1), e ∙ ap (λ (t : List ℕ). four_bytes count ++ t) h.1 ∙ sym (append_assoc (four_bytes count) (flat_map s xs) (view r).1) ∙ ap (λ (k : ℕ). (four_bytes k ++ flat_map s xs) ++ (view r).1) (sym h.0.0))
-counted view s F max count bytes rest (Err BadState) few fits e h = λ begins.
-    let one = free_four count (length begins.0) rest (flat_map s begins.0 ++ begins.1) (omega (arith, few, fits)) (omega (arith, few, begins.2.0)) (sym e ∙ begins.3 ∙ append_assoc (four_bytes (length begins.0)) (flat_map s begins.0) begins.1) in
+    ((omega (arith, fits, h.0.0), h.0.1), e ∙ ap (λ (t : List ℕ). u32_bytes count ++ t) h.1 ∙ sym (append_assoc (u32_bytes count) (flat_map s xs) (view r).1) ∙ ap (λ (k : ℕ). (u32_bytes k ++ flat_map s xs) ++ (view r).1) (sym h.0.0))
+length_prefixed_list view s F max count bytes rest (Err BadState) few fits e h = λ begins.
+    let one = free_four count (length begins.0) rest (flat_map s begins.0 ++ begins.1) (omega (arith, few, fits)) (omega (arith, few, begins.2.0)) (sym e ∙ begins.3 ∙ append_assoc (u32_bytes (length begins.0)) (flat_map s begins.0) begins.1) in
     h (begins.0, begins.1, (sym one.0, begins.2.1), one.1)
-counted view s F max count bytes rest (Err Memory) few fits e h = tt
+length_prefixed_list view s F max count bytes rest (Err Memory) few fits e h = tt

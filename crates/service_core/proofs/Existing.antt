@@ -59,8 +59,8 @@ of_bytes (kind ∷ rest) all = install (eqb kind 1) where
 -- ---- an operation can be done
 
 -- the verdict on code
-judged : (code : List ℕ) → AreBytes code → ((bound : ℕ) × Accepts code bound) ⊎ ((bound : ℕ) → Accepts code bound → ⊥)
-judged code all = elim (bytes_decided code (small_of code all)) [
+verdict_decided : (code : List ℕ) → AreBytes code → ((bound : ℕ) × Accepts code bound) ⊎ ((bound : ℕ) → Accepts code bound → ⊥)
+verdict_decided code all = elim (bytes_decided code (small_of code all)) [
   | inl (insns, is) ↦ elim (decided code insns is) [
     | inl (bound, accepted) ↦ inl (bound, (insns, is, accepted))
     | inr (fault, slot, rejected) ↦ inr (λ bound accepts. not_both insns bound fault slot (subst (λ (x : List Insn). IsAccepted x bound) (same_code code accepts.0 insns accepts.1 is) accepts.2) rejected)
@@ -76,7 +76,7 @@ record Done (client : ℕ) (op : Operation) (procedures : List (List ℕ)) (entr
   does : Does client op procedures entries procedures' entries' result
 
 install_done : (client : ℕ) (code : List ℕ) (procedures : List (List ℕ)) (entries : Entries) → AreBytes code → Done client (Install code) procedures entries
-install_done client code procedures entries all = cases (nat_le 64 (length procedures)) refl (judged code all) where
+install_done client code procedures entries all = cases (nat_le 64 (length procedures)) refl (verdict_decided code all) where
   done : (after : List (List ℕ)) (result : List ℕ) → Installs procedures code after result → Done client (Install code) procedures entries
   done after result installs = record { procedures' = after; entries' = entries; result = result; does = (installs, refl) }
 

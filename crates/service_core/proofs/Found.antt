@@ -8,7 +8,7 @@ use Rattle.std.proofs.lemmas.List.Folds.{find_at}
 use Rattle.std.proofs.lemmas.List.Quantifiers.{position-Some}
 use Rattle.service_core.specs.TenantStates.{TenantState, tenant_at, with_tenant, tenant_index}
 
--- the first that passes stands at the first index that does
+-- the first that passes is at the first index that does
 pub find_by_position : {X : Type 0} (p : X → Bool) (xs : List X) → find p xs ≡ option_and_then (slice_get xs) (position p xs)
 find_by_position p xs = find_at p xs ∙ cases (ltb (position_or_len p xs) (length xs)) refl where
   cases : (b : Bool) → ltb (position_or_len p xs) (length xs) ≡ b → slice_get xs (position_or_len p xs) ≡ option_and_then (slice_get xs) (cond b (Some (position_or_len p xs)) None)

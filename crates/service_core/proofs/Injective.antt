@@ -1,4 +1,4 @@
--- A bounded, sound state is told by its bytes.
+-- A bounded, sound state is determined by its bytes.
 use Rattle.std.proofs.Common.{◌≡◌, ℕ, suc, ◌+◌, ◌^◌, ◌<◌, ◌≤◌, Bool, true, false, eqb, List, [], ◌∷◌, ◌++◌, length, map, Option, Some, None, refl, sym, ap, subst, ◌∙◌, append_assoc, arith}
 use Rattle.std.specs.Prelude.{flat_map, find, fold, cond, nat_lt, option_and_then, All, IsSome, IsSomeAnd}
 use Rattle.std.specs.Prelude.{IfSome}
@@ -17,12 +17,12 @@ use Rattle.host_types.specs.Configuration.{Configuration, insert_sorted, client_
 use Rattle.host_types.proofs.AscendingLemmas.{tenants_ascending}
 use Rattle.tenant_maps.specs.Entries.{Entries}
 use Rattle.tenant_maps.proofs.EntriesLemmas.{order, order_tells}
-use Rattle.service_core.specs.Words.{four_bytes, eight_bytes}
+use Rattle.service_core.specs.Words.{u32_bytes, u64_bytes}
 use Rattle.service_core.specs.TenantStates.{Replies, TenantState, Service, tenant_at, last_reply_of}
 use Rattle.service_core.specs.Encoding.{encoded, encoded_reply, encoded_replies, encoded_tenant, encoded_procedures, encoded_entries, length_prefixed, last_replies_of}
 use Rattle.service_core.specs.Sound.{IsSoundTenant, IsSound}
 use Rattle.service_core.specs.Bounded.{IsSizedMap, IsBoundedReply, IsBoundedTenant, IsBounded}
-use Rattle.service_core.proofs.PrefixFree.{InRange, same_length, free_bytes, free_eight, free_length_prefixed, free_list, free_reply}
+use Rattle.service_core.proofs.PrefixFree.{FieldsInRange, same_length, free_bytes, free_eight, free_length_prefixed, free_list, free_reply}
 use Rattle.service_core.proofs.Clients.{Each, Ascends, OwnReplies, listed, client_ids_ascend, same_found}
 
 -- ---- a tenant's procedures and entries
@@ -59,7 +59,7 @@ procedures_free xs ys r t fx fy cx cy h =
 
 pub entries_free : (a b : Entries) (r t : List ℕ) → IsSizedMap a → IsSizedMap b → encoded_entries a ++ r ≡ encoded_entries b ++ t → (a ≡ b) × (r ≡ t)
 entries_free a b r t fa fb h =
-    let count : (m : Entries) → four_bytes (finite.len m) ≡ four_bytes (length (finite.entries m)) = λ m. ap four_bytes (finite.len-entries m) in
+    let count : (m : Entries) → u32_bytes (finite.len m) ≡ u32_bytes (length (finite.entries m)) = λ m. ap u32_bytes (finite.len-entries m) in
     let spread : (m : Entries) → List ℕ = λ m. flat_map (λ entry. entry.0 ++ entry.1) (finite.entries m) in
     let few : (m : Entries) → IsSizedMap m → length (finite.entries m) < 2 ^ 32 = λ m is. omega (arith, finite.len-entries m, is.count) in
     let both = free_list (λ (entry : List ℕ × List ℕ). entry.0 ++ entry.1) (λ e. (length e.0 ≡ 16) × (length e.1 ≡ 32)) free_entry (finite.entries a) (finite.entries b) r t
@@ -78,15 +78,15 @@ SameTenants (x ∷ xs) (y ∷ ys) = (x.tenant ≡ y.tenant) × (x.procedures ≡
 regrouped : (a b c r : List ℕ) → ((a ++ b) ++ c) ++ r ≡ a ++ (b ++ (c ++ r))
 regrouped a b c r = simp append_assoc
 
-pub four_long : (n m : ℕ) → length (four_bytes n) ≡ length (four_bytes m)
-unfolding four_bytes
+pub four_long : (n m : ℕ) → length (u32_bytes n) ≡ length (u32_bytes m)
+unfolding u32_bytes
 four_long n m = refl
 
 tenant_free : (n m : ℕ) (x y : TenantState) (r t : List ℕ) → x.tenant ≡ y.tenant → IsBoundedTenant n x → IsBoundedTenant m y → encoded_tenant x ++ r ≡ encoded_tenant y ++ t
     → (x.procedures ≡ y.procedures) × (x.entries ≡ y.entries) × (r ≡ t)
 tenant_free n m x y r t same fx fy h =
-    let id = same_length (four_bytes x.tenant) (four_bytes y.tenant) (encoded_procedures x.procedures ++ (encoded_entries x.entries ++ r)) (encoded_procedures y.procedures ++ (encoded_entries y.entries ++ t)) (four_long x.tenant y.tenant)
-    (sym (regrouped (four_bytes x.tenant) (encoded_procedures x.procedures) (encoded_entries x.entries) r) ∙ h ∙ regrouped (four_bytes y.tenant) (encoded_procedures y.procedures) (encoded_entries y.entries) t) in
+    let id = same_length (u32_bytes x.tenant) (u32_bytes y.tenant) (encoded_procedures x.procedures ++ (encoded_entries x.entries ++ r)) (encoded_procedures y.procedures ++ (encoded_entries y.entries ++ t)) (four_long x.tenant y.tenant)
+    (sym (regrouped (u32_bytes x.tenant) (encoded_procedures x.procedures) (encoded_entries x.entries) r) ∙ h ∙ regrouped (u32_bytes y.tenant) (encoded_procedures y.procedures) (encoded_entries y.entries) t) in
     let procedures = procedures_free x.procedures y.procedures (encoded_entries x.entries ++ r) (encoded_entries y.entries ++ t) fx.procedures_in_range fy.procedures_in_range fx.codes_in_range fy.codes_in_range id.1 in
     let entries = entries_free x.entries y.entries r t fx.entries_in_range fy.entries_in_range procedures.1 in
     (procedures.0, entries.0, entries.1)
@@ -153,7 +153,7 @@ part_reply clients all x q reply found sound is = cases (entry_of clients q) (so
   cases None h = absurd h
   cases (Some entry) h = (refl, ap (option_and_then (λ (part : TenantState). finite.get part.last_replies q)) (ap (tenant_at all) h ∙ found))
 
--- the same of the tenant at its place in another state, where the ids are alike
+-- the same of the tenant at its index in another state, where the ids are alike
 part_of_other : (clients : List ClientEntry) (all : List TenantState) (x y : TenantState) (q : ℕ) (reply : Reply) → x.tenant ≡ y.tenant → tenant_at all y.tenant ≡ Some y → IsSoundTenant clients x
     → finite.get x.last_replies q ≡ Some reply
     → option_and_then (λ part. finite.get part.last_replies q) (option_and_then (λ entry. tenant_at all entry.tenant.0) (entry_of clients q)) ≡ finite.get y.last_replies q
@@ -228,10 +228,10 @@ own_of s bounded q = cases (last_reply_of s q) (last_bounded s bounded q) where
   cases (Some reply) h = h.own
 
 -- the replies that stand in a state's bytes are in range
-pub replies_in_range : (s : Service) → IsBounded s → (ids : List ClientId) → All InRange (filter_map (λ id. last_reply_of s id.0) ids)
-replies_in_range s bounded [] = All-nil InRange
+pub replies_in_range : (s : Service) → IsBounded s → (ids : List ClientId) → All FieldsInRange (filter_map (λ id. last_reply_of s id.0) ids)
+replies_in_range s bounded [] = All-nil FieldsInRange
 replies_in_range s bounded (id ∷ ids) = cases (last_reply_of s id.0) (last_bounded s bounded id.0) (replies_in_range s bounded ids) where
-  in_range : (reply : Reply) → IsBoundedReply s.number id.0 reply → InRange reply
+  in_range : (reply : Reply) → IsBoundedReply s.number id.0 reply → FieldsInRange reply
   in_range reply h = record {
     client = subst (λ (k : ℕ). k < 2 ^ 32) (sym h.own) h.client_in_range;
     time = h.time_in_range;
@@ -239,9 +239,9 @@ replies_in_range s bounded (id ∷ ids) = cases (last_reply_of s id.0) (last_bou
     result = omega (arith, h.result_in_range);
   }
 
-  cases : (o : Option Reply) → IfSome o (IsBoundedReply s.number id.0) → All InRange (filter_map (λ i. last_reply_of s i.0) ids) → All InRange (cons_option o (filter_map (λ i. last_reply_of s i.0) ids))
+  cases : (o : Option Reply) → IfSome o (IsBoundedReply s.number id.0) → All FieldsInRange (filter_map (λ i. last_reply_of s i.0) ids) → All FieldsInRange (cons_option o (filter_map (λ i. last_reply_of s i.0) ids))
   cases None h rest = rest
-  cases (Some reply) h rest = All-cons InRange reply _ (in_range reply h) rest
+  cases (Some reply) h rest = All-cons FieldsInRange reply _ (in_range reply h) rest
 
 found_at_most : {X Y : Type 0} (f : X → Option Y) (xs : List X) → length (filter_map f xs) ≤ length xs
 found_at_most f [] = omega arith
@@ -294,10 +294,10 @@ same_state s t bounded bounded' sound sound' config e = λ i. record { config = 
   clients = t.config.clients
 
   rest_of : Service → List ℕ
-  rest_of u = four_bytes (length u.tenants) ++ flat_map encoded_tenant u.tenants
+  rest_of u = u32_bytes (length u.tenants) ++ flat_map encoded_tenant u.tenants
 
-  spread : (u : Service) → encoded u ≡ 1 ∷ (eight_bytes u.number ++ (encoded_replies (last_replies_of u) ++ rest_of u))
-  spread u = regrouped_state (1 ∷ []) (eight_bytes u.number) (encoded_replies (last_replies_of u)) (four_bytes (length u.tenants)) (flat_map encoded_tenant u.tenants)
+  spread : (u : Service) → encoded u ≡ 1 ∷ (u64_bytes u.number ++ (encoded_replies (last_replies_of u) ++ rest_of u))
+  spread u = regrouped_state (1 ∷ []) (u64_bytes u.number) (encoded_replies (last_replies_of u)) (u32_bytes (length u.tenants)) (flat_map encoded_tenant u.tenants)
 
   below : (n : ℕ) → n < 2 ^ 48 → n < 2 ^ 64
   below n lt = omega (arith, lt)
@@ -308,7 +308,7 @@ same_state s t bounded bounded' sound sound' config e = λ i. record { config = 
       free_eight s.number t.number _ _ (below s.number bounded.number_in_range) (below t.number bounded'.number_in_range) version.1
 
   replies : (last_replies_of s ≡ last_replies_of t) × (rest_of s ≡ rest_of t)
-  replies = free_list encoded_reply InRange free_reply (last_replies_of s) (last_replies_of t) (rest_of s) (rest_of t)
+  replies = free_list encoded_reply FieldsInRange free_reply (last_replies_of s) (last_replies_of t) (rest_of s) (rest_of t)
       (few_replies s bounded, replies_in_range s bounded (client_ids_of s.config.clients)) (few_replies t bounded', replies_in_range t bounded' (client_ids_of t.config.clients)) number.1
 
   same_ids : map (λ x. x.tenant) s.tenants ≡ map (λ y. y.tenant) t.tenants
@@ -318,7 +318,7 @@ same_state s t bounded bounded' sound sound' config e = λ i. record { config = 
   same_count = sym (length-map s.tenants (λ x. x.tenant)) ∙ ap length same_ids ∙ length-map t.tenants (λ y. y.tenant)
 
   parts : flat_map encoded_tenant s.tenants ≡ flat_map encoded_tenant t.tenants
-  parts = (same_length (four_bytes (length s.tenants)) (four_bytes (length t.tenants)) _ _ (ap (λ (k : ℕ). length (four_bytes k)) same_count) replies.1).1
+  parts = (same_length (u32_bytes (length s.tenants)) (u32_bytes (length t.tenants)) _ _ (ap (λ (k : ℕ). length (u32_bytes k)) same_count) replies.1).1
 
   same : SameTenants s.tenants t.tenants
   same = tenants_free s.number t.number s.tenants t.tenants same_ids bounded.tenants_in_range bounded'.tenants_in_range parts

@@ -12,7 +12,7 @@ use Rattle.tenant_maps.specs.Entries.{Entries, next_key}
 use Rattle.tenant_maps.proofs.EntriesLemmas.{order}
 use Rattle.service_core.specs.declared.state_fault.StateFault.{StateFault}
 use Rattle.service_core.specs.declared.state_fault.StateFault.TheVariants.{BadState, Memory}
-use Rattle.service_core.specs.Words.{four_bytes}
+use Rattle.service_core.specs.Words.{u32_bytes}
 use Rattle.service_core.specs.Encoding.{encoded_entries}
 use Rattle.service_core.specs.Bounded.{IsSizedMap}
 use Rattle.service_core.specs.Readings.{Begins, Reads, IsAbove, AreSizedEntries}
@@ -123,16 +123,16 @@ next_above bytes entries counter count rest after key value h lt k v e (m, more,
     subst (λ (x : Entry). AllBelow x.0 (finite.entries entries)) (sym one.0) (before (finite.entries entries) next.1 next.0 rises)
 
 -- the entries of a map after its count
-pub counted_entries : {R : Type 0} (view : R → Entries × List ℕ) (count : ℕ) (bytes rest : List ℕ) (result : Result R StateFault) → count ≤ 4096 → bytes ≡ four_bytes count ++ rest
+pub length_prefixed_entries : {R : Type 0} (view : R → Entries × List ℕ) (count : ℕ) (bytes rest : List ℕ) (result : Result R StateFault) → count ≤ 4096 → bytes ≡ u32_bytes count ++ rest
     → Reads view entries_bytes (AreSizedEntries count) rest result → Reads view encoded_entries IsSizedMap bytes result
-counted_entries view count bytes rest (Ok r) few e h =
+length_prefixed_entries view count bytes rest (Ok r) few e h =
     let m = (view r).0 in
     let len : finite.len m ≡ count = finite.len-entries m ∙ h.0.count_is in (
       record { keys = h.0.keys; values = h.0.values; count = omega (arith, len, few) },
-      e ∙ ap (λ (t : List ℕ). four_bytes count ++ t) h.1 ∙ sym (append_assoc (four_bytes count) (entries_bytes m) (view r).1) ∙ ap (λ (k : ℕ). (four_bytes k ++ entries_bytes m) ++ (view r).1) (sym len),
+      e ∙ ap (λ (t : List ℕ). u32_bytes count ++ t) h.1 ∙ sym (append_assoc (u32_bytes count) (entries_bytes m) (view r).1) ∙ ap (λ (k : ℕ). (u32_bytes k ++ entries_bytes m) ++ (view r).1) (sym len),
     )
-counted_entries view count bytes rest (Err BadState) few e h = λ begins.
+length_prefixed_entries view count bytes rest (Err BadState) few e h = λ begins.
     let m = begins.0 in
-    let one = free_four count (finite.len m) rest (entries_bytes m ++ begins.1) (omega (arith, few)) (omega (arith, begins.2.count)) (sym e ∙ begins.3 ∙ append_assoc (four_bytes (finite.len m)) (entries_bytes m) begins.1) in
+    let one = free_four count (finite.len m) rest (entries_bytes m ++ begins.1) (omega (arith, few)) (omega (arith, begins.2.count)) (sym e ∙ begins.3 ∙ append_assoc (u32_bytes (finite.len m)) (entries_bytes m) begins.1) in
     h (m, begins.1, record { keys = begins.2.keys; values = begins.2.values; count_is = sym (finite.len-entries m) ∙ sym one.0 }, one.1)
-counted_entries view count bytes rest (Err Memory) few e h = tt
+length_prefixed_entries view count bytes rest (Err Memory) few e h = tt

@@ -6,7 +6,7 @@ use Rattle.std.proofs.lemmas.List.{length-append, length-map}
 use Rattle.std.proofs.lemmas.List.Elements.{All-head, All-tail}
 use Rattle.host_types.specs.declared.request.Reply.{Reply}
 use Rattle.host_types.specs.Configuration.{tenants_of}
-use Rattle.service_core.specs.Words.{four_bytes, eight_bytes}
+use Rattle.service_core.specs.Words.{u32_bytes, u64_bytes}
 use Rattle.service_core.specs.TenantStates.{TenantState, Service}
 use Rattle.service_core.specs.Encoding.{encoded, encoded_reply, encoded_replies, encoded_tenant, encoded_procedures, encoded_entries, length_prefixed, last_replies_of}
 use Rattle.service_core.specs.Bounded.{IsBoundedTenant, IsBounded}
@@ -14,7 +14,7 @@ use Rattle.service_core.proofs.Injective.{entry_lengths, replies_are_short, few_
 use Rattle.service_core.proofs.Bounds.{four_short, eight_short}
 
 prefixed_length : (bytes : List ℕ) → length (length_prefixed bytes) ≡ 4 + length bytes
-prefixed_length bytes = length-append (four_bytes (length bytes)) bytes ∙ ap (λ (k : ℕ). k + length bytes) (four_short (length bytes))
+prefixed_length bytes = length-append (u32_bytes (length bytes)) bytes ∙ ap (λ (k : ℕ). k + length bytes) (four_short (length bytes))
 
 codes_length : (codes : List (List ℕ)) → All (λ code. length code ≤ 8192) codes → length (flat_map length_prefixed codes) ≤ 8196 * length codes
 codes_length [] all = omega arith
@@ -39,14 +39,14 @@ tenant_length n x b =
     let entries = entry_lengths (finite.entries x.entries) b.entries_in_range.keys b.entries_in_range.values in
     omega (
       arith,
-      length-append (four_bytes x.tenant ++ encoded_procedures x.procedures) (encoded_entries x.entries),
-      length-append (four_bytes x.tenant) (encoded_procedures x.procedures),
+      length-append (u32_bytes x.tenant ++ encoded_procedures x.procedures) (encoded_entries x.entries),
+      length-append (u32_bytes x.tenant) (encoded_procedures x.procedures),
       four_short x.tenant,
-      length-append (four_bytes (length x.procedures)) (flat_map length_prefixed x.procedures),
+      length-append (u32_bytes (length x.procedures)) (flat_map length_prefixed x.procedures),
       four_short (length x.procedures),
       codes_length x.procedures b.codes_in_range,
       b.procedures_in_range,
-      length-append (four_bytes (finite.len x.entries)) (flat_map (λ (e : List ℕ × List ℕ). e.0 ++ e.1) (finite.entries x.entries)),
+      length-append (u32_bytes (finite.len x.entries)) (flat_map (λ (e : List ℕ × List ℕ). e.0 ++ e.1) (finite.entries x.entries)),
       four_short (finite.len x.entries),
       entries_length (finite.entries x.entries) entries,
       finite.len-entries x.entries,
@@ -65,9 +65,9 @@ tenants_length n (x ∷ xs) all =
 
 reply_length : (reply : Reply) → length reply.result ≤ 265 → length (encoded_reply reply) ≤ 289
 reply_length reply short =
-    let client = four_bytes reply.client.0 in
-    let time = eight_bytes reply.time in
-    let number = eight_bytes reply.number.0 in
+    let client = u32_bytes reply.client.0 in
+    let time = u64_bytes reply.time in
+    let number = u64_bytes reply.number.0 in
     omega (
       arith,
       length-append ((client ++ time) ++ number) (length_prefixed reply.result),
@@ -93,8 +93,8 @@ replies_length (reply ∷ replies) all =
 pub state_length : (s : Service) → IsBounded s → length (encoded s) ≤ 5_787_825
 state_length s b =
     let replies = last_replies_of s in
-    let number = eight_bytes s.number in
-    let count = four_bytes (length s.tenants) in
+    let number = u64_bytes s.number in
+    let count = u32_bytes (length s.tenants) in
     let tenants = flat_map encoded_tenant s.tenants in
     omega (
       arith,
@@ -104,7 +104,7 @@ state_length s b =
       length-append (1 ∷ []) number,
       eight_short s.number,
       four_short (length s.tenants),
-      length-append (four_bytes (length replies)) (flat_map encoded_reply replies),
+      length-append (u32_bytes (length replies)) (flat_map encoded_reply replies),
       four_short (length replies),
       replies_length replies (replies_are_short s b),
       few_replies_found s b,

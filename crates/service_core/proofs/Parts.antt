@@ -9,7 +9,7 @@ use Rattle.host_types.specs.declared.config.ClientEntry.{ClientEntry}
 use Rattle.host_types.specs.declared.request.Reply.{Reply}
 use Rattle.service_core.specs.declared.state_fault.StateFault.{StateFault}
 use Rattle.service_core.specs.declared.state_fault.StateFault.TheVariants.{BadState, Memory}
-use Rattle.service_core.specs.Words.{four_bytes}
+use Rattle.service_core.specs.Words.{u32_bytes}
 use Rattle.service_core.specs.TenantStates.{TenantState, replies_of}
 use Rattle.service_core.specs.Encoding.{length_prefixed, encoded_procedures, encoded_entries, encoded_tenant}
 use Rattle.service_core.specs.Readings.{Begins, Reads, AreProcedures, Contents, AreContents, encoded_contents, ArePartsOf, HaveReplies, replies_to_tenant}
@@ -27,9 +27,9 @@ free_procedures xs ys r t fx fy h = free_list length_prefixed IsShortCode free_c
 abbrev pub BehindId : List ℕ → Type 0
 BehindId rest = (x : Contents) × (more : List ℕ) × AreContents x × (rest ≡ encoded_procedures x.0 ++ (encoded_entries x.1 ++ more))
 
-pub behind_id : (tenant id : ℕ) (bytes rest : List ℕ) → tenant < 2 ^ 32 → id < 2 ^ 32 → bytes ≡ four_bytes id ++ rest → Begins (encoded_contents tenant) AreContents bytes → (id ≡ tenant) × BehindId rest
+pub behind_id : (tenant id : ℕ) (bytes rest : List ℕ) → tenant < 2 ^ 32 → id < 2 ^ 32 → bytes ≡ u32_bytes id ++ rest → Begins (encoded_contents tenant) AreContents bytes → (id ≡ tenant) × BehindId rest
 behind_id tenant id bytes rest few lt e (x, more, fits, h) =
-    let one = free_four id tenant rest _ lt few (sym e ∙ h ∙ regrouped (four_bytes tenant) (encoded_procedures x.0) (encoded_entries x.1) more) in
+    let one = free_four id tenant rest _ lt few (sym e ∙ h ∙ regrouped (u32_bytes tenant) (encoded_procedures x.0) (encoded_entries x.1) more) in
     (one.0, (x, more, fits, one.1))
 
 pub begins_procedures : (rest : List ℕ) → BehindId rest → Begins encoded_procedures AreProcedures rest
@@ -41,8 +41,8 @@ begins_entries rest after codes fits e y = (free_procedures codes y.0.0 after _ 
 -- what is behind the bytes of one tenant
 pub free_part : (x y : TenantState) (r t : List ℕ) → x.tenant ≡ y.tenant → AreContents (x.procedures, x.entries) → AreContents (y.procedures, y.entries) → encoded_tenant x ++ r ≡ encoded_tenant y ++ t → r ≡ t
 free_part x y r t same fx fy h =
-    let id = same_length (four_bytes x.tenant) (four_bytes y.tenant) (encoded_procedures x.procedures ++ (encoded_entries x.entries ++ r)) (encoded_procedures y.procedures ++ (encoded_entries y.entries ++ t)) (four_long x.tenant y.tenant)
-    (sym (regrouped (four_bytes x.tenant) (encoded_procedures x.procedures) (encoded_entries x.entries) r) ∙ h ∙ regrouped (four_bytes y.tenant) (encoded_procedures y.procedures) (encoded_entries y.entries) t) in
+    let id = same_length (u32_bytes x.tenant) (u32_bytes y.tenant) (encoded_procedures x.procedures ++ (encoded_entries x.entries ++ r)) (encoded_procedures y.procedures ++ (encoded_entries y.entries ++ t)) (four_long x.tenant y.tenant)
+    (sym (regrouped (u32_bytes x.tenant) (encoded_procedures x.procedures) (encoded_entries x.entries) r) ∙ h ∙ regrouped (u32_bytes y.tenant) (encoded_procedures y.procedures) (encoded_entries y.entries) t) in
     let procedures = free_procedures x.procedures y.procedures (encoded_entries x.entries ++ r) (encoded_entries y.entries ++ t) fx.0 fy.0 id.1 in
     (entries_free x.entries y.entries r t fx.1 fy.1 procedures.1).1
 
@@ -123,24 +123,24 @@ module _ (clients : List ClientEntry) (replies : List Reply) (tenants : List Ten
   parts_all parts index rest h over = ((h.ids ∙ ap (map number) (take_all index tenants over), h.fits), h.text)
 
 -- all parts after their count
-pub counted_parts : {R : Type 0} (view : R → List TenantState × List ℕ) (tenants : List TenantId) (count : ℕ) (bytes rest : List ℕ) (result : Result R StateFault) → count < 2 ^ 32 → count ≡ length tenants → bytes ≡ four_bytes count ++ rest
-    → Reads view (flat_map encoded_tenant) (ArePartsOf tenants) rest result → Reads view (λ parts. four_bytes (length parts) ++ flat_map encoded_tenant parts) (ArePartsOf tenants) bytes result
-counted_parts view tenants count bytes rest (Ok r) few same e h =
+pub length_prefixed_parts : {R : Type 0} (view : R → List TenantState × List ℕ) (tenants : List TenantId) (count : ℕ) (bytes rest : List ℕ) (result : Result R StateFault) → count < 2 ^ 32 → count ≡ length tenants → bytes ≡ u32_bytes count ++ rest
+    → Reads view (flat_map encoded_tenant) (ArePartsOf tenants) rest result → Reads view (λ parts. u32_bytes (length parts) ++ flat_map encoded_tenant parts) (ArePartsOf tenants) bytes result
+length_prefixed_parts view tenants count bytes rest (Ok r) few same e h =
     let parts = (view r).0 in
     let all : count ≡ length parts = same ∙ many tenants parts h.0.0 in
-    (h.0, e ∙ ap (λ (t : List ℕ). four_bytes count ++ t) h.1 ∙ sym (append_assoc (four_bytes count) (flat_map encoded_tenant parts) (view r).1) ∙ ap (λ (k : ℕ). (four_bytes k ++ flat_map encoded_tenant parts) ++ (view r).1) all) where
+    (h.0, e ∙ ap (λ (t : List ℕ). u32_bytes count ++ t) h.1 ∙ sym (append_assoc (u32_bytes count) (flat_map encoded_tenant parts) (view r).1) ∙ ap (λ (k : ℕ). (u32_bytes k ++ flat_map encoded_tenant parts) ++ (view r).1) all) where
       many : (us : List TenantId) (ps : List TenantState) → ids_of ps ≡ map number us → length us ≡ length ps
       many us ps h = sym (sym (length-map ps (λ (p : TenantState). p.tenant)) ∙ ap length h ∙ length-map us number)
-counted_parts view tenants count bytes rest (Err BadState) few same e h = λ begins.
+length_prefixed_parts view tenants count bytes rest (Err BadState) few same e h = λ begins.
     let parts = begins.0 in
-    let one = same_length (four_bytes count) (four_bytes (length parts)) rest (flat_map encoded_tenant parts ++ begins.1) (four_long count (length parts)) (sym e ∙ begins.3 ∙ append_assoc (four_bytes (length parts)) (flat_map encoded_tenant parts) begins.1) in
+    let one = same_length (u32_bytes count) (u32_bytes (length parts)) rest (flat_map encoded_tenant parts ++ begins.1) (four_long count (length parts)) (sym e ∙ begins.3 ∙ append_assoc (u32_bytes (length parts)) (flat_map encoded_tenant parts) begins.1) in
     h (parts, begins.1, begins.2, one.1)
-counted_parts view tenants count bytes rest (Err Memory) few same e h = tt
+length_prefixed_parts view tenants count bytes rest (Err Memory) few same e h = tt
 
 -- another count is none of them
-pub other_count : (tenants : List TenantId) (count : ℕ) (bytes rest : List ℕ) → count < 2 ^ 32 → length tenants < 2 ^ 32 → (count ≡ length tenants → ⊥) → bytes ≡ four_bytes count ++ rest
-    → Begins (λ parts. four_bytes (length parts) ++ flat_map encoded_tenant parts) (ArePartsOf tenants) bytes → ⊥
+pub other_count : (tenants : List TenantId) (count : ℕ) (bytes rest : List ℕ) → count < 2 ^ 32 → length tenants < 2 ^ 32 → (count ≡ length tenants → ⊥) → bytes ≡ u32_bytes count ++ rest
+    → Begins (λ parts. u32_bytes (length parts) ++ flat_map encoded_tenant parts) (ArePartsOf tenants) bytes → ⊥
 other_count tenants count bytes rest lt few differs e (parts, more, fits, h) =
     let many : length parts ≡ length tenants = sym (length-map parts (λ (p : TenantState). p.tenant)) ∙ ap length fits.0 ∙ length-map tenants number in
-    let one = free_four count (length parts) rest (flat_map encoded_tenant parts ++ more) lt (omega (arith, many, few)) (sym e ∙ h ∙ append_assoc (four_bytes (length parts)) (flat_map encoded_tenant parts) more) in
+    let one = free_four count (length parts) rest (flat_map encoded_tenant parts ++ more) lt (omega (arith, many, few)) (sym e ∙ h ∙ append_assoc (u32_bytes (length parts)) (flat_map encoded_tenant parts) more) in
     differs (one.0 ∙ many)

@@ -4,7 +4,7 @@ use Rattle.std.specs.Prelude.{All, flat_map}
 use Rattle.std.specs.FinMap as finite
 use Rattle.std.proofs.lemmas.List.Elements.{All-cons, All-head, All-tail, All-nil, All-map}
 use Rattle.tenant_maps.specs.Entries.{IsTenantMap}
-use Rattle.service_core.specs.Words.{four_bytes, eight_bytes}
+use Rattle.service_core.specs.Words.{u32_bytes, u64_bytes}
 use Rattle.service_core.specs.TenantStates.{TenantState, Service}
 use Rattle.service_core.specs.Encoding.{encoded, encoded_tenant, encoded_procedures, encoded_entries, encoded_replies, last_replies_of}
 use Rattle.service_core.specs.Bounded.{IsBoundedTenant, IsBounded}
@@ -36,7 +36,7 @@ tenant_map number part bounded all = record {
   es = finite.entries part.entries
 
   both : All (λ (e : List ℕ × List ℕ). AreBytes (e.0 ++ e.1)) es
-  both = each_bytes (λ (e : List ℕ × List ℕ). e.0 ++ e.1) es (right_bytes (four_bytes (finite.len part.entries)) _ (right_bytes (four_bytes part.tenant ++ encoded_procedures part.procedures) (encoded_entries part.entries) all))
+  both = each_bytes (λ (e : List ℕ × List ℕ). e.0 ++ e.1) es (right_bytes (u32_bytes (finite.len part.entries)) _ (right_bytes (u32_bytes part.tenant ++ encoded_procedures part.procedures) (encoded_entries part.entries) all))
 
   keys : All AreBytes (map (λ e. e.0) es)
   keys = All-map AreBytes (λ (e : List ℕ × List ℕ). e.0) es (λ k d lt. left_bytes (get_or es k d).0 (get_or es k d).1 (both k d lt))
@@ -46,6 +46,6 @@ tenant_map number part bounded all = record {
 
 pub read_maps : (s : Service) → IsBounded s → AreBytes (encoded s) → HasTenantMaps s
 read_maps s b all =
-    let before : List ℕ = ((1 ∷ [] ++ eight_bytes s.number) ++ encoded_replies (last_replies_of s)) ++ four_bytes (length s.tenants) in
+    let before : List ℕ = ((1 ∷ [] ++ u64_bytes s.number) ++ encoded_replies (last_replies_of s)) ++ u32_bytes (length s.tenants) in
     let parts = each_bytes encoded_tenant s.tenants (right_bytes before (flat_map encoded_tenant s.tenants) all) in
     λ k d lt. tenant_map s.number (get_or s.tenants k d) (b.tenants_in_range k d lt) (parts k d lt)

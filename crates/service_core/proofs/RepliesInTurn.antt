@@ -87,9 +87,9 @@ turn_found (id ∷ ids) (reply ∷ replies) up e = cases (turn_found ids replies
 -- ---- the replies of a tenant
 
 -- what holds of all replies holds of those of a tenant
-pub kept_all : (P : Reply → Type 0) (clients : List ClientEntry) (tenant : ℕ) (replies : List Reply) → All P replies → All P (replies_to_tenant clients tenant replies)
-kept_all P clients tenant [] all = All-nil P
-kept_all P clients tenant (reply ∷ replies) all = cases (is_of tenant (entry_of clients reply.client.0)) (kept_all P clients tenant replies (All-tail P reply replies all)) where
+pub tenant_replies_all : (P : Reply → Type 0) (clients : List ClientEntry) (tenant : ℕ) (replies : List Reply) → All P replies → All P (replies_to_tenant clients tenant replies)
+tenant_replies_all P clients tenant [] all = All-nil P
+tenant_replies_all P clients tenant (reply ∷ replies) all = cases (is_of tenant (entry_of clients reply.client.0)) (tenant_replies_all P clients tenant replies (All-tail P reply replies all)) where
   cases : (b : Bool) → All P (replies_to_tenant clients tenant replies) → All P (cons_option (cond b (Some reply) None) (replies_to_tenant clients tenant replies))
   cases true rest = All-cons P reply _ (All-head P reply replies all) rest
   cases false rest = rest
@@ -97,17 +97,17 @@ kept_all P clients tenant (reply ∷ replies) all = cases (is_of tenant (entry_o
 abbrev pub IsOwn : List ClientEntry → ℕ → Reply → Type 0
 IsOwn clients tenant reply = is_of tenant (entry_of clients reply.client.0) ≡ true
 
-pub kept_own : (clients : List ClientEntry) (tenant : ℕ) (replies : List Reply) → All (IsOwn clients tenant) (replies_to_tenant clients tenant replies)
-kept_own clients tenant [] = All-nil (IsOwn clients tenant)
-kept_own clients tenant (reply ∷ replies) = cases (is_of tenant (entry_of clients reply.client.0)) refl (kept_own clients tenant replies) where
+pub tenant_replies_own : (clients : List ClientEntry) (tenant : ℕ) (replies : List Reply) → All (IsOwn clients tenant) (replies_to_tenant clients tenant replies)
+tenant_replies_own clients tenant [] = All-nil (IsOwn clients tenant)
+tenant_replies_own clients tenant (reply ∷ replies) = cases (is_of tenant (entry_of clients reply.client.0)) refl (tenant_replies_own clients tenant replies) where
   cases : (b : Bool) → is_of tenant (entry_of clients reply.client.0) ≡ b → All (IsOwn clients tenant) (replies_to_tenant clients tenant replies) → All (IsOwn clients tenant) (cons_option (cond b (Some reply) None) (replies_to_tenant clients tenant replies))
   cases true e rest = All-cons (IsOwn clients tenant) reply _ e rest
   cases false e rest = rest
 
 -- a client's reply is among its tenant's
-pub kept_found : (clients : List ClientEntry) (tenant q : ℕ) (replies : List Reply) → is_of tenant (entry_of clients q) ≡ true → find (to q) (replies_to_tenant clients tenant replies) ≡ find (to q) replies
-kept_found clients tenant q [] is = refl
-kept_found clients tenant q (reply ∷ replies) is = cases (eqb reply.client.0 q) refl (is_of tenant (entry_of clients reply.client.0)) refl (kept_found clients tenant q replies is) where
+pub tenant_replies_found : (clients : List ClientEntry) (tenant q : ℕ) (replies : List Reply) → is_of tenant (entry_of clients q) ≡ true → find (to q) (replies_to_tenant clients tenant replies) ≡ find (to q) replies
+tenant_replies_found clients tenant q [] is = refl
+tenant_replies_found clients tenant q (reply ∷ replies) is = cases (eqb reply.client.0 q) refl (is_of tenant (entry_of clients reply.client.0)) refl (tenant_replies_found clients tenant q replies is) where
   cases : (b : Bool) → eqb reply.client.0 q ≡ b → (kept : Bool) → is_of tenant (entry_of clients reply.client.0) ≡ kept → find (to q) (replies_to_tenant clients tenant replies) ≡ find (to q) replies
       → find (to q) (cons_option (cond kept (Some reply) None) (replies_to_tenant clients tenant replies)) ≡ find (to q) (reply ∷ replies)
   cases true same true mine rest =
@@ -126,10 +126,10 @@ found_passes p (x ∷ xs) = cases (p x) refl (found_passes p xs) where
   cases false e rest = rest
 
 -- a bounded reply that is found is one to the client
-pub kept_bounded : (taken : ℕ) (clients : List ClientEntry) (tenant q : ℕ) (replies : List Reply) → All (λ reply. IsBoundedReply taken reply.client.0 reply) replies
+pub tenant_replies_bounded : (taken : ℕ) (clients : List ClientEntry) (tenant q : ℕ) (replies : List Reply) → All (λ reply. IsBoundedReply taken reply.client.0 reply) replies
     → IfSome (finite.get (replies_of (replies_to_tenant clients tenant replies)) q) (IsBoundedReply taken q)
-kept_bounded taken clients tenant q replies all =
-    subst (λ o. IfSome o (IsBoundedReply taken q)) (sym (get-replies_of kept q)) (cases (find (to q) kept) (found_has (λ (r : Reply). IsBoundedReply taken r.client.0 r) (to q) kept (kept_all (λ (r : Reply). IsBoundedReply taken r.client.0 r) clients tenant replies all)) (found_passes (to q) kept)) where
+tenant_replies_bounded taken clients tenant q replies all =
+    subst (λ o. IfSome o (IsBoundedReply taken q)) (sym (get-replies_of kept q)) (cases (find (to q) kept) (found_has (λ (r : Reply). IsBoundedReply taken r.client.0 r) (to q) kept (tenant_replies_all (λ (r : Reply). IsBoundedReply taken r.client.0 r) clients tenant replies all)) (found_passes (to q) kept)) where
       kept : List Reply
       kept = replies_to_tenant clients tenant replies
 
@@ -138,8 +138,8 @@ kept_bounded taken clients tenant q replies all =
       cases (Some r) h same = subst (λ (k : ℕ). IsBoundedReply taken k r) (eqb-true r.client.0 q same) h
 
 -- and the client is of the tenant
-pub kept_sound : (clients : List ClientEntry) (tenant q : ℕ) (replies : List Reply) → IsSome (finite.get (replies_of (replies_to_tenant clients tenant replies)) q) → IsSomeAnd (entry_of clients q) (λ entry. entry.tenant.0 ≡ tenant)
-kept_sound clients tenant q replies some = cases (find (to q) kept) (found_has (IsOwn clients tenant) (to q) kept (kept_own clients tenant replies)) (found_passes (to q) kept) (subst IsSome (get-replies_of kept q) some) where
+pub tenant_replies_sound : (clients : List ClientEntry) (tenant q : ℕ) (replies : List Reply) → IsSome (finite.get (replies_of (replies_to_tenant clients tenant replies)) q) → IsSomeAnd (entry_of clients q) (λ entry. entry.tenant.0 ≡ tenant)
+tenant_replies_sound clients tenant q replies some = cases (find (to q) kept) (found_has (IsOwn clients tenant) (to q) kept (tenant_replies_own clients tenant replies)) (found_passes (to q) kept) (subst IsSome (get-replies_of kept q) some) where
   kept : List Reply
   kept = replies_to_tenant clients tenant replies
 

@@ -10,7 +10,7 @@ use Rattle.host_types.specs.declared.config.ClientEntry.{ClientEntry}
 use Rattle.host_types.specs.declared.request.Reply.{Reply}
 use Rattle.host_types.specs.Configuration.{Configuration, IsConfiguration, insert_sorted, client_ids_of, tenants_of, entry_of}
 use Rattle.host_types.proofs.InsertSorted.{insert_sorted_before, insert_sorted_here, insert_sorted_after}
-use Rattle.service_core.specs.Words.{four_bytes, eight_bytes}
+use Rattle.service_core.specs.Words.{u32_bytes, u64_bytes}
 use Rattle.service_core.specs.TenantStates.{Replies, TenantState, Service, empty_tenant, tenant_at, tenant_index, last_reply_of}
 use Rattle.service_core.specs.Encoding.{encoded_tenant, encoded_replies, encoded_reply, last_replies_of}
 use Rattle.service_core.specs.Sound.{IsSoundTenant}
@@ -23,7 +23,7 @@ use Rattle.service_core.proofs.TenantIndexes.{index_for, listed_has_index}
 use Rattle.service_core.proofs.Found.{tenant_at_index}
 use Rattle.service_core.proofs.PrefixFree.{same_length, free_eight, free_list}
 use Rattle.service_core.proofs.Replies.{IsFit, free_fit}
-use Rattle.service_core.proofs.RepliesInTurn.{last_replies_fit, turn_found, kept_found, found_passes, kept_bounded, kept_sound}
+use Rattle.service_core.proofs.RepliesInTurn.{last_replies_fit, turn_found, tenant_replies_found, found_passes, tenant_replies_bounded, tenant_replies_sound}
 use Rattle.service_core.proofs.Injective.{four_long}
 use Rattle.service_core.proofs.Parts.{ids_of, number, free_parts}
 
@@ -77,7 +77,7 @@ part_keeps clients replies parts q same keeps some = cases (entry_of clients q) 
       let id : eqb part.tenant entry.tenant.0 ≡ true = subst (λ (o : Option TenantState). IfSome o (λ p. eqb p.tenant entry.tenant.0 ≡ true)) found.1 (found_passes (λ (p : TenantState). eqb p.tenant entry.tenant.0) parts) in
       let mine : is_of part.tenant (entry_of clients q) ≡ true = ap (is_of part.tenant) e ∙ eq-eqb entry.tenant.0 part.tenant (sym (eqb-true part.tenant entry.tenant.0 id)) in
       ap (option_and_then (λ (p : TenantState). finite.get p.last_replies q)) found.1 ∙ ap (λ m. finite.get m q) (keeps i d found.0) ∙ get-replies_of (replies_to_tenant clients part.tenant replies) q
-      ∙ kept_found clients part.tenant q replies mine
+      ∙ tenant_replies_found clients part.tenant q replies mine
 
   cases : (o : Option ClientEntry) → entry_of clients q ≡ o → IsSome o → option_and_then (λ part. finite.get part.last_replies q) (option_and_then (λ entry. tenant_at parts entry.tenant.0) o) ≡ find (to q) replies
   cases None e h = absurd (true≢false (sym h))
@@ -94,7 +94,7 @@ each_keeps f g all (id ∷ ids) inside same = (same id.0 inside.0, each_keeps f 
 -- ---- the whole state
 
 abbrev rest_of : List TenantState → List ℕ
-rest_of parts = four_bytes (length parts) ++ flat_map encoded_tenant parts
+rest_of parts = u32_bytes (length parts) ++ flat_map encoded_tenant parts
 
 regrouped : (a b c d e : List ℕ) → (((a ++ b) ++ c) ++ d) ++ e ≡ (a ++ b) ++ (c ++ (d ++ e))
 regrouped a b c d e = simp append_assoc
@@ -116,22 +116,22 @@ module _ (config : Configuration) (n : ℕ) (replies : List Reply) (parts : List
     procedures_in_range = (are.1 k d lt).0.0;
     codes_in_range = λ i c below. ((are.1 k d lt).0.1 i c below).0;
     entries_in_range = (are.1 k d lt).1;
-    replies_in_range = λ q. subst (λ (m : Replies). IfSome (finite.get m q) (IsBoundedReply n q)) (sym (keeps k d lt)) (kept_bounded n config.clients (get_or parts k d).tenant q replies turn.0.1);
+    replies_in_range = λ q. subst (λ (m : Replies). IfSome (finite.get m q) (IsBoundedReply n q)) (sym (keeps k d lt)) (tenant_replies_bounded n config.clients (get_or parts k d).tenant q replies turn.0.1);
   }
 
   sound_part : (k : ℕ) (d : TenantState) → k < length parts → IsSoundTenant config.clients (get_or parts k d)
   sound_part k d lt = record {
     accepted = λ i c below. ((are.1 k d lt).0.1 i c below).1;
-    own = λ q some. kept_sound config.clients (get_or parts k d).tenant q replies (subst (λ (m : Replies). IsSome (finite.get m q)) (keeps k d lt) some);
+    own = λ q some. tenant_replies_sound config.clients (get_or parts k d).tenant q replies (subst (λ (m : Replies). IsSome (finite.get m q)) (keeps k d lt) some);
   }
 
-  pub is_encoded : (bytes r1 r2 r3 : List ℕ) → bytes ≡ (1 ∷ [] ++ eight_bytes n) ++ r1 → r1 ≡ encoded_replies replies ++ r2 → r2 ≡ (four_bytes (length parts) ++ flat_map encoded_tenant parts) ++ r3 → r3 ≡ []
+  pub is_encoded : (bytes r1 r2 r3 : List ℕ) → bytes ≡ (1 ∷ [] ++ u64_bytes n) ++ r1 → r1 ≡ encoded_replies replies ++ r2 → r2 ≡ (u32_bytes (length parts) ++ flat_map encoded_tenant parts) ++ r3 → r3 ≡ []
       → Encodes config bytes (record { config = config; number = n; tenants = parts })
   is_encoded bytes r1 r2 r3 e1 e2 e3 e4 = record {
     config_is = refl;
-    encodes = regrouped (1 ∷ []) (eight_bytes n) (encoded_replies (last_replies_of state)) (four_bytes (length parts)) (flat_map encoded_tenant parts)
-        ∙ ap (λ (rs : List Reply). (1 ∷ [] ++ eight_bytes n) ++ (encoded_replies rs ++ rest_of parts)) same_last
-        ∙ sym (e1 ∙ ap (λ (r : List ℕ). (1 ∷ [] ++ eight_bytes n) ++ r) (e2 ∙ ap (λ (r : List ℕ). encoded_replies replies ++ r) (e3 ∙ ap (λ (r : List ℕ). rest_of parts ++ r) e4 ∙ append-nil (rest_of parts))));
+    encodes = regrouped (1 ∷ []) (u64_bytes n) (encoded_replies (last_replies_of state)) (u32_bytes (length parts)) (flat_map encoded_tenant parts)
+        ∙ ap (λ (rs : List Reply). (1 ∷ [] ++ u64_bytes n) ++ (encoded_replies rs ++ rest_of parts)) same_last
+        ∙ sym (e1 ∙ ap (λ (r : List ℕ). (1 ∷ [] ++ u64_bytes n) ++ r) (e2 ∙ ap (λ (r : List ℕ). encoded_replies replies ++ r) (e3 ∙ ap (λ (r : List ℕ). rest_of parts ++ r) e4 ∙ append-nil (rest_of parts))));
     bounded = record { is_configuration = legal; number_in_range = below; same_tenants = are.0; tenants_in_range = bounded_part };
     sound = sound_part;
   }
@@ -139,38 +139,38 @@ module _ (config : Configuration) (n : ℕ) (replies : List Reply) (parts : List
 -- ---- no state
 
 -- what a state's bytes begin with
-pub behind_head : (config : Configuration) (bytes : List ℕ) (s : Service) → Encodes config bytes s → bytes ≡ (1 ∷ [] ++ eight_bytes s.number) ++ (encoded_replies (last_replies_of s) ++ (four_bytes (length s.tenants) ++ flat_map encoded_tenant s.tenants))
-behind_head config bytes s is = sym is.encodes ∙ regrouped (1 ∷ []) (eight_bytes s.number) (encoded_replies (last_replies_of s)) (four_bytes (length s.tenants)) (flat_map encoded_tenant s.tenants)
+pub behind_head : (config : Configuration) (bytes : List ℕ) (s : Service) → Encodes config bytes s → bytes ≡ (1 ∷ [] ++ u64_bytes s.number) ++ (encoded_replies (last_replies_of s) ++ (u32_bytes (length s.tenants) ++ flat_map encoded_tenant s.tenants))
+behind_head config bytes s is = sym is.encodes ∙ regrouped (1 ∷ []) (u64_bytes s.number) (encoded_replies (last_replies_of s)) (u32_bytes (length s.tenants)) (flat_map encoded_tenant s.tenants)
 
-pub begins_head : (config : Configuration) (bytes : List ℕ) (s : Service) → Encodes config bytes s → Begins (λ n. 1 ∷ [] ++ eight_bytes n) (λ n. n < 2 ^ 48) bytes
-begins_head config bytes s is = (s.number, encoded_replies (last_replies_of s) ++ (four_bytes (length s.tenants) ++ flat_map encoded_tenant s.tenants), is.bounded.number_in_range, behind_head config bytes s is)
+pub begins_head : (config : Configuration) (bytes : List ℕ) (s : Service) → Encodes config bytes s → Begins (λ n. 1 ∷ [] ++ u64_bytes n) (λ n. n < 2 ^ 48) bytes
+begins_head config bytes s is = (s.number, encoded_replies (last_replies_of s) ++ (u32_bytes (length s.tenants) ++ flat_map encoded_tenant s.tenants), is.bounded.number_in_range, behind_head config bytes s is)
 
 -- the number, and what is behind it
-told_number : (config : Configuration) (bytes : List ℕ) (s : Service) → Encodes config bytes s → (n : ℕ) (r1 : List ℕ) → n < 2 ^ 48 → bytes ≡ (1 ∷ [] ++ eight_bytes n) ++ r1
-    → (n ≡ s.number) × (r1 ≡ encoded_replies (last_replies_of s) ++ (four_bytes (length s.tenants) ++ flat_map encoded_tenant s.tenants))
-told_number config bytes s is n r1 below e =
-    let last = encoded_replies (last_replies_of s) ++ (four_bytes (length s.tenants) ++ flat_map encoded_tenant s.tenants) in
-    let version = same_length (1 ∷ []) (1 ∷ []) (eight_bytes n ++ r1) (eight_bytes s.number ++ last) refl
-    (sym (append_assoc (1 ∷ []) (eight_bytes n) r1) ∙ sym e ∙ behind_head config bytes s is ∙ append_assoc (1 ∷ []) (eight_bytes s.number) last) in
+number_determined : (config : Configuration) (bytes : List ℕ) (s : Service) → Encodes config bytes s → (n : ℕ) (r1 : List ℕ) → n < 2 ^ 48 → bytes ≡ (1 ∷ [] ++ u64_bytes n) ++ r1
+    → (n ≡ s.number) × (r1 ≡ encoded_replies (last_replies_of s) ++ (u32_bytes (length s.tenants) ++ flat_map encoded_tenant s.tenants))
+number_determined config bytes s is n r1 below e =
+    let last = encoded_replies (last_replies_of s) ++ (u32_bytes (length s.tenants) ++ flat_map encoded_tenant s.tenants) in
+    let version = same_length (1 ∷ []) (1 ∷ []) (u64_bytes n ++ r1) (u64_bytes s.number ++ last) refl
+    (sym (append_assoc (1 ∷ []) (u64_bytes n) r1) ∙ sym e ∙ behind_head config bytes s is ∙ append_assoc (1 ∷ []) (u64_bytes s.number) last) in
     free_eight n s.number r1 last (omega (arith, below)) (omega (arith, is.bounded.number_in_range)) version.1
 
 fit_replies : (config : Configuration) (bytes : List ℕ) (s : Service) → Encodes config bytes s → (n : ℕ) → n ≡ s.number → AreLastReplies config.clients n (last_replies_of s)
 fit_replies config bytes s is n same =
     subst (λ (k : ℕ). AreLastReplies config.clients k (last_replies_of s)) (sym same) (subst (λ (c : Configuration). AreLastReplies c.clients s.number (last_replies_of s)) is.config_is (last_replies_fit s is.bounded))
 
-pub begins_replies : (config : Configuration) (bytes : List ℕ) (s : Service) → Encodes config bytes s → (n : ℕ) (r1 : List ℕ) → n < 2 ^ 48 → bytes ≡ (1 ∷ [] ++ eight_bytes n) ++ r1 → Begins encoded_replies (AreLastReplies config.clients n) r1
+pub begins_replies : (config : Configuration) (bytes : List ℕ) (s : Service) → Encodes config bytes s → (n : ℕ) (r1 : List ℕ) → n < 2 ^ 48 → bytes ≡ (1 ∷ [] ++ u64_bytes n) ++ r1 → Begins encoded_replies (AreLastReplies config.clients n) r1
 begins_replies config bytes s is n r1 below e =
-    let told = told_number config bytes s is n r1 below e in
-    (last_replies_of s, four_bytes (length s.tenants) ++ flat_map encoded_tenant s.tenants, fit_replies config bytes s is n told.0, told.1)
+    let determined = number_determined config bytes s is n r1 below e in
+    (last_replies_of s, u32_bytes (length s.tenants) ++ flat_map encoded_tenant s.tenants, fit_replies config bytes s is n determined.0, determined.1)
 
 -- the replies, and what is behind them
-told_replies : (config : Configuration) (bytes : List ℕ) (s : Service) → Encodes config bytes s → (n : ℕ) (replies : List Reply) (r1 r2 : List ℕ) → n < 2 ^ 48 → bytes ≡ (1 ∷ [] ++ eight_bytes n) ++ r1
-    → AreLastReplies config.clients n replies → r1 ≡ encoded_replies replies ++ r2 → r2 ≡ four_bytes (length s.tenants) ++ flat_map encoded_tenant s.tenants
-told_replies config bytes s is n replies r1 r2 below e fits text =
-    let told = told_number config bytes s is n r1 below e in
-    let mine = fit_replies config bytes s is n told.0 in
-    (free_list encoded_reply (IsFit n) (free_fit n (omega (arith, below))) replies (last_replies_of s) r2 (four_bytes (length s.tenants) ++ flat_map encoded_tenant s.tenants)
-    (omega (arith, fits.0.0), fits.0.1) (omega (arith, mine.0.0), mine.0.1) (sym text ∙ told.1)).1
+replies_determined : (config : Configuration) (bytes : List ℕ) (s : Service) → Encodes config bytes s → (n : ℕ) (replies : List Reply) (r1 r2 : List ℕ) → n < 2 ^ 48 → bytes ≡ (1 ∷ [] ++ u64_bytes n) ++ r1
+    → AreLastReplies config.clients n replies → r1 ≡ encoded_replies replies ++ r2 → r2 ≡ u32_bytes (length s.tenants) ++ flat_map encoded_tenant s.tenants
+replies_determined config bytes s is n replies r1 r2 below e fits text =
+    let determined = number_determined config bytes s is n r1 below e in
+    let mine = fit_replies config bytes s is n determined.0 in
+    (free_list encoded_reply (IsFit n) (free_fit n (omega (arith, below))) replies (last_replies_of s) r2 (u32_bytes (length s.tenants) ++ flat_map encoded_tenant s.tenants)
+    (omega (arith, fits.0.0), fits.0.1) (omega (arith, mine.0.0), mine.0.1) (sym text ∙ determined.1)).1
 
 parts_of : (config : Configuration) (bytes : List ℕ) (s : Service) → Encodes config bytes s → ArePartsOf (tenants_of config.clients) s.tenants
 parts_of config bytes s is = subst (λ (c : Configuration). ArePartsOf (tenants_of c.clients) s.tenants) is.config_is (
@@ -181,17 +181,17 @@ parts_of config bytes s is = subst (λ (c : Configuration). ArePartsOf (tenants_
   ),
 )
 
-pub begins_parts : (config : Configuration) (bytes : List ℕ) (s : Service) → Encodes config bytes s → (n : ℕ) (replies : List Reply) (r1 r2 : List ℕ) → n < 2 ^ 48 → bytes ≡ (1 ∷ [] ++ eight_bytes n) ++ r1
-    → AreLastReplies config.clients n replies → r1 ≡ encoded_replies replies ++ r2 → Begins (λ parts. four_bytes (length parts) ++ flat_map encoded_tenant parts) (ArePartsOf (tenants_of config.clients)) r2
+pub begins_parts : (config : Configuration) (bytes : List ℕ) (s : Service) → Encodes config bytes s → (n : ℕ) (replies : List Reply) (r1 r2 : List ℕ) → n < 2 ^ 48 → bytes ≡ (1 ∷ [] ++ u64_bytes n) ++ r1
+    → AreLastReplies config.clients n replies → r1 ≡ encoded_replies replies ++ r2 → Begins (λ parts. u32_bytes (length parts) ++ flat_map encoded_tenant parts) (ArePartsOf (tenants_of config.clients)) r2
 begins_parts config bytes s is n replies r1 r2 below e fits text =
-    (s.tenants, [], parts_of config bytes s is, told_replies config bytes s is n replies r1 r2 below e fits text ∙ sym (append-nil (four_bytes (length s.tenants) ++ flat_map encoded_tenant s.tenants)))
+    (s.tenants, [], parts_of config bytes s is, replies_determined config bytes s is n replies r1 r2 below e fits text ∙ sym (append-nil (u32_bytes (length s.tenants) ++ flat_map encoded_tenant s.tenants)))
 
 -- nothing is behind the parts
-pub ends : (config : Configuration) (bytes : List ℕ) (s : Service) → Encodes config bytes s → (n : ℕ) (replies : List Reply) (parts : List TenantState) (r1 r2 r3 : List ℕ) → n < 2 ^ 48 → bytes ≡ (1 ∷ [] ++ eight_bytes n) ++ r1
-    → AreLastReplies config.clients n replies → r1 ≡ encoded_replies replies ++ r2 → ArePartsOf (tenants_of config.clients) parts → r2 ≡ (four_bytes (length parts) ++ flat_map encoded_tenant parts) ++ r3 → r3 ≡ []
+pub ends : (config : Configuration) (bytes : List ℕ) (s : Service) → Encodes config bytes s → (n : ℕ) (replies : List Reply) (parts : List TenantState) (r1 r2 r3 : List ℕ) → n < 2 ^ 48 → bytes ≡ (1 ∷ [] ++ u64_bytes n) ++ r1
+    → AreLastReplies config.clients n replies → r1 ≡ encoded_replies replies ++ r2 → ArePartsOf (tenants_of config.clients) parts → r2 ≡ (u32_bytes (length parts) ++ flat_map encoded_tenant parts) ++ r3 → r3 ≡ []
 ends config bytes s is n replies parts r1 r2 r3 below e fits text are here =
     let mine = parts_of config bytes s is in
-    let told = told_replies config bytes s is n replies r1 r2 below e fits text in
-    let behind = same_length (four_bytes (length parts)) (four_bytes (length s.tenants)) (flat_map encoded_tenant parts ++ r3) (flat_map encoded_tenant s.tenants) (four_long (length parts) (length s.tenants))
-    (sym (append_assoc (four_bytes (length parts)) (flat_map encoded_tenant parts) r3) ∙ sym here ∙ told) in
+    let determined = replies_determined config bytes s is n replies r1 r2 below e fits text in
+    let behind = same_length (u32_bytes (length parts)) (u32_bytes (length s.tenants)) (flat_map encoded_tenant parts ++ r3) (flat_map encoded_tenant s.tenants) (four_long (length parts) (length s.tenants))
+    (sym (append_assoc (u32_bytes (length parts)) (flat_map encoded_tenant parts) r3) ∙ sym here ∙ determined) in
     free_parts parts s.tenants r3 [] (are.0 ∙ sym mine.0) are.1 mine.1 (behind.1 ∙ sym (append-nil (flat_map encoded_tenant s.tenants)))

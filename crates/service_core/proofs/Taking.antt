@@ -16,17 +16,17 @@ use Rattle.service_core.proofs.Found.{with_tenant_at}
 use Rattle.service_core.proofs.TenantIndexes.{index_for, tenant_for_index}
 use Rattle.service_core.proofs.Doing.{match_true, match_false, match_none, match_some}
 
-pub executed : (number tenant : ℕ) (procedures procedures' : List (List ℕ)) (entries entries' : Entries) (kept kept' : Replies) (request : Request) (op : Operation) (result bytes : List ℕ) (copy : Reply)
+pub executed : (number tenant : ℕ) (procedures procedures' : List (List ℕ)) (entries entries' : Entries) (replies replies' : Replies) (request : Request) (op : Operation) (result bytes : List ℕ) (copy : Reply)
     → op ≡ operation_of request.op → bytes ≡ result → Does request.client.0 op procedures entries procedures' entries' result
-    → kept' ≡ finite.insert kept request.client.0 (reply_to request number bytes) → copy ≡ reply_to request number bytes
-    → Executes number (record { tenant = tenant; procedures = procedures; entries = entries; last_replies = kept }) request
-    (record { tenant = tenant; procedures = procedures'; entries = entries'; last_replies = kept' }) (Some copy) false
-executed number tenant procedures procedures' entries entries' kept kept' request op result bytes copy is_op is does keeps copies = record {
+    → replies' ≡ finite.insert replies request.client.0 (reply_to request number bytes) → copy ≡ reply_to request number bytes
+    → Executes number (record { tenant = tenant; procedures = procedures; entries = entries; last_replies = replies }) request
+    (record { tenant = tenant; procedures = procedures'; entries = entries'; last_replies = replies' }) (Some copy) false
+executed number tenant procedures procedures' entries entries' replies replies' request op result bytes copy is_op is does keeps copies = record {
   procedures = procedures';
   entries = entries';
   result = result;
   does = subst (λ (o : Operation). Does request.client.0 o procedures entries procedures' entries' result) is_op does;
-  part_is = ap (λ (k : Replies). let p : TenantState = record { tenant = tenant; procedures = procedures'; entries = entries'; last_replies = k } in p) (keeps ∙ ap (λ (r : List ℕ). finite.insert kept request.client.0 (reply_to request number r)) is);
+  part_is = ap (λ (k : Replies). let p : TenantState = record { tenant = tenant; procedures = procedures'; entries = entries'; last_replies = k } in p) (keeps ∙ ap (λ (r : List ℕ). finite.insert replies request.client.0 (reply_to request number r)) is);
   reply_is = ap Some (copies ∙ ap (reply_to request number) is);
   is_new = refl;
 }
@@ -56,11 +56,11 @@ pub taken : (config : Configuration) (number : ℕ) (parts : List TenantState) (
     → index_for parts (entry_of config.clients request.client.0) ≡ Some index → part ≡ get_or parts index part
     → IsTenantStep (number + 1) part request changed outcome.reply outcome.kept → changed.tenant ≡ part.tenant → outcome.number.0 ≡ number + 1
     → TakesRequest (record { config = config; number = number; tenants = parts }) request (record { config = config; number = number + 1; tenants = set parts index changed }) outcome
-taken config number parts request index part changed outcome e is step same counted = record {
+taken config number parts request index part changed outcome e is step same next_number = record {
   part = part;
   is_part = tenant_for_index parts (entry_of config.clients request.client.0) index part e ∙ ap Some (sym is);
   changed = changed;
   step = step;
   state_is = ap (λ (ps : List TenantState). let s : Service = record { config = config; number = number + 1; tenants = ps } in s) (changes parts (entry_of config.clients request.client.0) index part changed e is same);
-  number_is = counted;
+  number_is = next_number;
 }

@@ -27,7 +27,7 @@ pub tenant_for_no_index : (parts : List TenantState) (entry : Option ClientEntry
 tenant_for_no_index parts None e = refl
 tenant_for_no_index parts (Some entry) e = tenant_at_no_index parts entry.tenant.0 e
 
--- the reply kept in that part
+-- the last reply in that part
 pub last_reply_at : (parts : List TenantState) (entry : Option ClientEntry) (index client : ℕ) (part : TenantState) → index_for parts entry ≡ Some index → part ≡ get_or parts index part
     → option_and_then (λ p. finite.get p.last_replies client) (part_for parts entry) ≡ finite.get part.last_replies client
 last_reply_at parts entry index client part e is =

@@ -1,4 +1,4 @@
--- Statement: the bounds that every state keeps that the service reaches. With them a state's bytes tell the state.
+-- Statement: the bounds that every state keeps that the service reaches. With them a state's bytes determine the state.
 use Rattle.std.specs.Prelude.{◌≡◌, ℕ, ◌<◌, ◌≤◌, ◌^◌, length, map, All, IfSome}
 use Rattle.std.specs.FinMap as finite
 use Rattle.host_types.specs.declared.request.Reply.{Reply}

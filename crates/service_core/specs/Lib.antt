@@ -2,7 +2,7 @@ pub mod Words
 pub mod Operations
 pub mod ReadOperations
 pub mod TenantStates
-pub mod Codes
+pub mod Equality
 pub mod Steps
 pub mod Encoding
 pub mod Sinks

@@ -6,7 +6,7 @@ use Rattle.bpf_decode.specs.Faults.{IsCode}
 use Rattle.tenant_maps.specs.Entries.{Entries}
 use Rattle.bpf_model.specs.Run.{Ending, EndsSo}
 use Rattle.bpf_model.specs.Verdict.{Accepts}
-use Rattle.service_core.specs.Words.{four_bytes, eight_bytes}
+use Rattle.service_core.specs.Words.{u32_bytes, u64_bytes}
 
 -- to install code, to call a procedure with arguments, or nothing that this service knows
 pub data Operation : Type 0 where
@@ -24,10 +24,10 @@ operation_of (kind ∷ rest) =
 
 -- The results: the new procedure's id; r0 and the output of a call; and what was refused.
 abbrev pub installed : ℕ → List ℕ
-installed id = 0 ∷ four_bytes id
+installed id = 0 ∷ u32_bytes id
 
 abbrev pub called : ℕ → List ℕ → List ℕ
-called value output = 0 ∷ (eight_bytes value ++ output)
+called value output = 0 ∷ (u64_bytes value ++ output)
 
 abbrev pub bad_operation : List ℕ
 bad_operation = 1 ∷ []

@@ -13,7 +13,7 @@ use Rattle.host_types.specs.Configuration.{entry_of, client_ids_of}
 use Rattle.tenant_maps.specs.Entries.{Entries}
 use Rattle.service_core.specs.declared.state_fault.StateFault.{StateFault}
 use Rattle.service_core.specs.declared.state_fault.StateFault.TheVariants.{BadState, Memory}
-use Rattle.service_core.specs.Words.{four_bytes}
+use Rattle.service_core.specs.Words.{u32_bytes}
 use Rattle.service_core.specs.TenantStates.{TenantState, replies_of}
 use Rattle.service_core.specs.Encoding.{encoded_procedures, encoded_entries}
 use Rattle.service_core.specs.Sound.{IsAcceptedCode}
@@ -55,12 +55,12 @@ is_of tenant None = false
 is_of tenant (Some entry) = entry.tenant.0 == tenant
 
 -- The reply, where it is to a client of this tenant.
-abbrev pub kept_for : List ClientEntry → ℕ → Reply → Option Reply
-kept_for clients tenant reply = if is_of tenant (entry_of clients reply.client.0) then Some reply else None
+abbrev pub reply_to_tenant : List ClientEntry → ℕ → Reply → Option Reply
+reply_to_tenant clients tenant reply = if is_of tenant (entry_of clients reply.client.0) then Some reply else None
 
 -- The replies to the clients of a tenant.
 abbrev pub replies_to_tenant : List ClientEntry → ℕ → List Reply → List Reply
-replies_to_tenant clients tenant replies = filter_map (kept_for clients tenant) replies
+replies_to_tenant clients tenant replies = filter_map (reply_to_tenant clients tenant) replies
 
 -- Procedures that the verifier accepts, at most 64.
 abbrev pub AreProcedures : List (List ℕ) → Type 0
@@ -76,17 +76,17 @@ pub record AreSizedEntries (count : ℕ) (entries : Entries) : Type 0 where
 abbrev pub IsAbove : Entries → List ℕ → Type 0
 IsAbove entries key = All (λ other. slice_cmp nat_cmp other key ≡ Less) (finite.keys entries)
 
--- What the bytes of a tenant tell of it besides its id: its procedures and its entries.
+-- What the bytes of a tenant say of it besides its id: its procedures and its entries.
 abbrev pub Contents : Type 0
 Contents = List (List ℕ) × Entries
 
 abbrev pub encoded_contents : ℕ → Contents → List ℕ
-encoded_contents tenant contents = four_bytes tenant ++ encoded_procedures contents.0 ++ encoded_entries contents.1
+encoded_contents tenant contents = u32_bytes tenant ++ encoded_procedures contents.0 ++ encoded_entries contents.1
 
 abbrev pub AreContents : Contents → Type 0
 AreContents contents = AreProcedures contents.0 × IsSizedMap contents.1
 
--- The parts of these tenants, with what their bytes tell.
+-- The parts of these tenants, with what their bytes say.
 abbrev pub ArePartsOf : List TenantId → List TenantState → Type 0
 ArePartsOf tenants parts =
     (map (λ part. part.tenant) parts ≡ map (λ tenant. tenant.0) tenants)

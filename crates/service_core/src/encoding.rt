@@ -1,7 +1,7 @@
 //! The canonical encoding of a state, piece by piece into a sink.
 
 ghost use Rattle.std.specs.Prelude.{◌≡◌, ◌≤◌, ◌<◌, ◌^◌, ◌++◌, ℕ, length, map, OnOk, flat_map, All};
-ghost use Rattle.service_core.specs.Words.{four_bytes, eight_bytes};
+ghost use Rattle.service_core.specs.Words.{u32_bytes, u64_bytes};
 ghost use Rattle.service_core.specs.Sinks.{Feeds};
 ghost use Rattle.service_core.specs.Encoding.{length_prefixed, encoded_reply, encoded_procedures, encoded_entries, encoded_tenant};
 
@@ -15,17 +15,17 @@ use tenant_maps::{MapPort, TenantMap};
 const ENTRIES_IN_PIECE: usize = 16;
 
 /// A number in four bytes.
-#[tactic(auto, unfolding(crate::specs::Words::four_bytes))]
+#[tactic(auto, unfolding(crate::specs::Words::u32_bytes))]
 pub(crate) fn put_u32<S: Sink>(sink: &mut S, number: u32) -> Result<(), S::Fault>
-    ensures { OnOk result (Feeds S.holds sink.old sink.new (four_bytes number)) }
+    ensures { OnOk result (Feeds S.holds sink.old sink.new (u32_bytes number)) }
 {
     sink.emit(&number.to_be_bytes())
 }
 
 /// A number in eight bytes.
-#[tactic(auto, unfolding(crate::specs::Words::eight_bytes))]
+#[tactic(auto, unfolding(crate::specs::Words::u64_bytes))]
 pub(crate) fn put_u64<S: Sink>(sink: &mut S, number: u64) -> Result<(), S::Fault>
-    ensures { OnOk result (Feeds S.holds sink.old sink.new (eight_bytes number)) }
+    ensures { OnOk result (Feeds S.holds sink.old sink.new (u64_bytes number)) }
 {
     sink.emit(&number.to_be_bytes())
 }

@@ -20,7 +20,7 @@ pub fn a_step_has_one_outcome()
 {}
 
 /// Every procedure of a state that the service reaches is code that the verifier accepts, and every
-/// kept reply is one to a client of its tenant.
+/// last reply is one to a client of its tenant.
 pub fn states_are_sound()
     ensures first { (config : Configuration) → IsSound (genesis_of config) }
     ensures next { (state : Service) (request : Option Request) (after : Service) (outcome : Outcome) →
@@ -43,7 +43,7 @@ pub fn installed_procedures_cannot_go_wrong()
         Serves config requests after outcomes → NoneGoesWrong after }
 {}
 
-/// A state's bytes tell the state: two states that the service reaches under one configuration are
+/// A state's bytes determine the state: two states that the service reaches under one configuration are
 /// equal where their bytes are.
 pub fn equal_bytes_are_equal_states()
     ensures { (state other : Service) → IsBounded state → IsBounded other → IsSound state → IsSound other →

@@ -117,7 +117,7 @@ fn install(
 }
 
 /// The result of an installation.
-#[tactic(auto, unfolding(crate::specs::Words::four_bytes))]
+#[tactic(auto, unfolding(crate::specs::Words::u32_bytes))]
 fn installed(alloc: Global, id: u32) -> Result<Vec<u8>, AllocError>
     ensures value { IfOk result (λ bytes. bytes.items ≡ installed id) }
     ensures short { IfOk result (λ bytes. length bytes.items ≤ 265) }
@@ -152,7 +152,7 @@ fn call(
 }
 
 /// The result of a call.
-#[tactic(auto, unfolding(crate::specs::Words::eight_bytes))]
+#[tactic(auto, unfolding(crate::specs::Words::u64_bytes))]
 fn returned(alloc: Global, finished: &Finished) -> Result<Vec<u8>, AllocError>
     ensures value { IfOk result (λ bytes. bytes.items ≡ called finished.now.result finished.now.out.items) }
     ensures short { IfOk result (λ bytes. length bytes.items ≤ 265) }

@@ -3,7 +3,7 @@
 use host_types::{Reply, SeqNo};
 
 /// What came of a request. `number` is the state's new number. There is no reply to the null request,
-/// nor to a request whose time is below its client's last; `kept` tells that the reply was there
+/// nor to a request whose time is below its client's last; `kept` says that the reply was there
 /// before, and then it has its own number.
 #[derive(Debug, Drop)]
 pub struct Outcome {

@@ -2,7 +2,7 @@
 
 ghost use Rattle.std.specs.Prelude.{◌≡◌, ◌<◌, ◌≤◌, ◌^◌, ◌++◌, ◌∷◌, [], length, flat_map, All, IfOk};
 ghost use Rattle.host_types.specs.Configuration.{IsConfiguration};
-ghost use Rattle.service_core.specs.Words.{four_bytes, eight_bytes};
+ghost use Rattle.service_core.specs.Words.{u32_bytes, u64_bytes};
 ghost use Rattle.service_core.specs.Encoding.{length_prefixed, encoded_reply, encoded_replies};
 ghost use Rattle.service_core.specs.Bounded.{IsBoundedReply};
 ghost use Rattle.service_core.specs.Readings.{Reads, in_turn, AreBoundedReplies, AreLastReplies};
@@ -25,7 +25,7 @@ const MAX_RESULT: u32 = 265;
 
 /// A number in four bytes.
 pub(crate) fn read_u32(bytes: &[u8]) -> Result<(u32, &[u8]), StateFault>
-    ensures { Reads (λ x. (x.0, x.1.now)) four_bytes (λ n. n < 2 ^ 32) bytes.now result }
+    ensures { Reads (λ x. (x.0, x.1.now)) u32_bytes (λ n. n < 2 ^ 32) bytes.now result }
 {
     if bytes.len() < 4 {
         return Err(StateFault::BadState);
@@ -37,7 +37,7 @@ pub(crate) fn read_u32(bytes: &[u8]) -> Result<(u32, &[u8]), StateFault>
 
 /// A number in eight bytes.
 fn read_u64(bytes: &[u8]) -> Result<(u64, &[u8]), StateFault>
-    ensures { Reads (λ x. (x.0, x.1.now)) eight_bytes (λ n. n < 2 ^ 64) bytes.now result }
+    ensures { Reads (λ x. (x.0, x.1.now)) u64_bytes (λ n. n < 2 ^ 64) bytes.now result }
 {
     if bytes.len() < 8 {
         return Err(StateFault::BadState);
@@ -51,7 +51,7 @@ fn read_u64(bytes: &[u8]) -> Result<(u64, &[u8]), StateFault>
 
 /// A count in four bytes, at most this one.
 pub(crate) fn read_count(limit: u32, bytes: &[u8]) -> Result<(u32, &[u8]), StateFault>
-    ensures { Reads (λ x. (x.0, x.1.now)) four_bytes (λ n. n ≤ limit) bytes.now result }
+    ensures { Reads (λ x. (x.0, x.1.now)) u32_bytes (λ n. n ≤ limit) bytes.now result }
 {
     let (count, rest) = read_u32(bytes)?;
     if count > limit {
@@ -75,7 +75,7 @@ pub(crate) fn read_length_prefixed(limit: u32, bytes: &[u8]) -> Result<(&[u8], &
 
 /// The version and the state's number.
 pub(crate) fn read_head(bytes: &[u8]) -> Result<(u64, &[u8]), StateFault>
-    ensures { Reads (λ x. (x.0, x.1.now)) (λ n. 1 ∷ [] ++ eight_bytes n) (λ n. n < 2 ^ 48) bytes.now result }
+    ensures { Reads (λ x. (x.0, x.1.now)) (λ n. 1 ∷ [] ++ u64_bytes n) (λ n. n < 2 ^ 48) bytes.now result }
 {
     let Some((version, rest)) = bytes.split_first() else {
         return Err(StateFault::BadState);
@@ -132,7 +132,7 @@ fn read_replies_of(
 }
 
 /// A count and so many replies.
-fn read_counted_replies(
+fn read_reply_list(
     alloc: Global,
     taken: u64,
     bytes: &[u8],
@@ -153,7 +153,7 @@ pub(crate) fn read_replies<'a>(
     ensures read { Reads (λ x. (x.0.items, x.1.now)) encoded_replies (AreLastReplies config.now.clients taken) bytes.now result }
     ensures legal { IfOk result (λ x. IsConfiguration config.now) }
 {
-    let (replies, rest) = read_counted_replies(alloc, taken, bytes)?;
+    let (replies, rest) = read_reply_list(alloc, taken, bytes)?;
     let ids = config.client_ids();
     if !are_in_turn(ids.as_slice(), &replies) {
         return Err(StateFault::BadState);

@@ -6,7 +6,7 @@ ghost use Rattle.std.specs.Option.{option_copied, option_map};
 ghost use Rattle.std.specs.Arc.{arc_value};
 ghost use Rattle.sha2.specs.Sha256.{sha256};
 ghost use Rattle.host_types.specs.Configuration.{entry_of};
-ghost use Rattle.service_core.specs.Words.{four_bytes};
+ghost use Rattle.service_core.specs.Words.{u32_bytes};
 ghost use Rattle.service_core.specs.Decoding.{Encodes};
 ghost use Rattle.service_core.specs.declared.state_fault.StateFault.TheVariants.{BadState};
 ghost use Rattle.service_core.specs.TenantStates.{Service, genesis_of, tenant_index, client_index, last_reply_of};
@@ -45,7 +45,7 @@ impl Model for State {
     ghost use Rattle.std.specs.Arc.{arc_value};
     ghost use Rattle.host_types.specs.Configuration.{tenants_of};
     ghost use Rattle.service_core.specs.TenantStates.{Service};
-    ghost use Rattle.service_core.specs.Codes.{service_code};
+    ghost use Rattle.service_core.specs.Equality.{service_code};
 
     ghost Value = { Service };
 
@@ -144,7 +144,7 @@ impl State {
         self.config.client(client).is_some()
     }
 
-    /// How many requests were taken, null ones counted.
+    /// How many requests were taken, null ones included.
     pub fn number(&self) -> SeqNo
         ensures { result.0 ≡ self.now.number }
     {
@@ -242,7 +242,7 @@ fn tenant_index(tenants: &[TenantPart], tenant: TenantId) -> Option<usize>
 /// Puts the tenants' parts into a sink, after their count.
 fn put_tenants<S: Sink>(sink: &mut S, tenants: &[TenantPart]) -> Result<(), S::Fault>
     requires { length tenants.now ≤ 8 }
-    ensures { OnOk result (Feeds S.holds sink.old sink.new (four_bytes (length tenants.now) ++ flat_map encoded_tenant tenants.now)) }
+    ensures { OnOk result (Feeds S.holds sink.old sink.new (u32_bytes (length tenants.now) ++ flat_map encoded_tenant tenants.now)) }
 {
     put_u32(sink, tenants.len() as u32)?;
     for tenant in tenants {

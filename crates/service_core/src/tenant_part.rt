@@ -27,7 +27,7 @@ pub(crate) struct TenantPart {
 impl Model for TenantPart {
     ghost use Rattle.std.specs.Prelude.{◌≤◌, map, length, All};
     ghost use Rattle.service_core.specs.TenantStates.{TenantState, replies_of};
-    ghost use Rattle.service_core.specs.Codes.{tenant_code};
+    ghost use Rattle.service_core.specs.Equality.{tenant_code};
 
     ghost Value = { TenantState };
 

@@ -4,7 +4,7 @@ ghost use Rattle.std.specs.Prelude.{◌≡◌, ◌≢◌, ◌≤◌, ◌++◌, �
 ghost use Rattle.std.specs.FinMap as finite;
 ghost use Rattle.bpf_model.specs.declared.fault.VerifyFault.TheVariants as faults;
 ghost use Rattle.service_core.specs.declared.state_fault.StateFault.TheVariants.{BadState, Memory};
-ghost use Rattle.service_core.specs.Words.{four_bytes};
+ghost use Rattle.service_core.specs.Words.{u32_bytes};
 ghost use Rattle.host_types.specs.Configuration.{tenants_of, entry_of};
 ghost use Rattle.service_core.specs.TenantStates.{replies_of};
 ghost use Rattle.service_core.specs.Encoding.{length_prefixed, encoded_procedures, encoded_entries, encoded_tenant};
@@ -120,7 +120,7 @@ fn read_entries(alloc: Global, bytes: &[u8]) -> Result<(TenantMap, &[u8]), State
     read_entries_of(alloc, count, rest)
 }
 
-/// What the bytes of the tenant with this id tell of it besides the id.
+/// What the bytes of the tenant with this id say of it besides the id.
 fn read_contents(
     alloc: Global,
     tenant: u32,
@@ -154,16 +154,16 @@ fn replies_of_tenant(
     tenant: TenantId,
     replies: &[Reply],
 ) -> Result<Vec<Reply>, AllocError>
-    ensures { IfOk result (λ kept. kept.items ≡ replies_to_tenant config.now.clients tenant.0 replies.now) }
+    ensures { IfOk result (λ last_replies. last_replies.items ≡ replies_to_tenant config.now.clients tenant.0 replies.now) }
 {
-    let mut kept = Vec::new(alloc);
+    let mut last_replies = Vec::new(alloc);
     for reply in replies {
         if is_client_of(config, tenant, reply.client) {
             let copy = copy_of(alloc, reply)?;
-            kept.push(copy)?;
+            last_replies.push(copy)?;
         }
     }
-    Ok(kept)
+    Ok(last_replies)
 }
 
 /// The part of this tenant, with the replies to its clients.
@@ -180,8 +180,8 @@ fn read_part<'a>(
     ensures replies { IfOk result (λ x. x.0.last_replies ≡ replies_of (replies_to_tenant config.now.clients tenant.0 replies.now)) }
 {
     let (procedures, entries, rest) = read_contents(alloc, tenant.0, bytes)?;
-    let kept = replies_of_tenant(alloc, config, tenant, replies)?;
-    let part = TenantPart::with(alloc, tenant, procedures, entries, kept);
+    let last_replies = replies_of_tenant(alloc, config, tenant, replies)?;
+    let part = TenantPart::with(alloc, tenant, procedures, entries, last_replies);
     Ok((part, rest))
 }
 
@@ -215,7 +215,7 @@ pub(crate) fn read_tenants<'a>(
     bytes: &'a [u8],
 ) -> Result<(Vec<TenantPart>, &'a [u8]), StateFault>
     requires { All (λ reply. length reply.result ≤ 265) replies.now }
-    ensures read { Reads (λ x. (x.0.items, x.1.now)) (λ parts. four_bytes (length parts) ++ flat_map encoded_tenant parts)
+    ensures read { Reads (λ x. (x.0.items, x.1.now)) (λ parts. u32_bytes (length parts) ++ flat_map encoded_tenant parts)
         (ArePartsOf (tenants_of config.now.clients)) bytes.now result }
     ensures replies { IfOk result (λ x. HaveReplies config.now.clients replies.now x.0.items) }
 {

@@ -1,9 +1,9 @@
 use Rattle.std.proofs.Common.{◌++◌, length, take}
 use Rattle.std.specs.Prelude.{flat_map}
-use Rattle.service_core.specs.Words.{four_bytes}
+use Rattle.service_core.specs.Words.{u32_bytes}
 use Rattle.service_core.specs.Sinks.{Feeds}
 use Rattle.service_core.specs.Encoding.{length_prefixed}
 use Rattle.service_core.proofs.encoding.put_procedures.Given as goal
 
 abbrev pub invariant-loop-procedure : goal.invariant-loop-procedure
-invariant-loop-procedure g l = Feeds g.S.Sink.holds l.fn.sink l.sink (four_bytes (length l.procedures) ++ flat_map (λ p. length_prefixed p.bytes) (take l.procedure-index l.procedures))
+invariant-loop-procedure g l = Feeds g.S.Sink.holds l.fn.sink l.sink (u32_bytes (length l.procedures) ++ flat_map (λ p. length_prefixed p.bytes) (take l.procedure-index l.procedures))

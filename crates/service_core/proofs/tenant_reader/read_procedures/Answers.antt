@@ -1,10 +1,10 @@
 use Rattle.std.proofs.Common.{arith}
 use Rattle.service_core.specs.Encoding.{length_prefixed}
 use Rattle.service_core.proofs.Codes.{IsShortCode}
-use Rattle.service_core.proofs.Encoded.{counted}
+use Rattle.service_core.proofs.Encoded.{length_prefixed_list}
 use Rattle.service_core.proofs.tenant_reader.read_procedures.Goals as goal
 
 pub returns : goal.returns
 returns c =
     let here = c.in_ok-count.ensures in
-    counted _ length_prefixed IsShortCode 64 c.in_ok-count.count c.args.bytes.now c.in_ok-count.rest.now c.read_procedures_of.result (omega arith) here.0 here.1 c.read_procedures_of.ensures
+    length_prefixed_list _ length_prefixed IsShortCode 64 c.in_ok-count.count c.args.bytes.now c.in_ok-count.rest.now c.read_procedures_of.result (omega arith) here.0 here.1 c.read_procedures_of.ensures

@@ -4,7 +4,7 @@ use Rattle.host_types.specs.declared.TenantId.{TenantId}
 use Rattle.host_types.specs.Configuration.{tenants_of}
 use Rattle.service_core.specs.Encoding.{encoded_tenant}
 use Rattle.service_core.specs.Readings.{Reads, ArePartsOf}
-use Rattle.service_core.proofs.Parts.{counted_parts, other_count}
+use Rattle.service_core.proofs.Parts.{length_prefixed_parts, other_count}
 use Rattle.service_core.proofs.tenant_reader.read_tenants.Goals as goal
 
 pub returns-then-count-ids-clause-read : goal.returns-then-count-ids-clause-read
@@ -17,5 +17,5 @@ pub returns-clause-read : goal.returns-clause-read
 returns-clause-read c =
     let here = c.in_ok-count.ensures in
     let ids : c.as_slice-ids.result.now ≡ tenants_of c.args.config.now.clients = c.as_slice-ids.ensures.value ∙ c.tenant_ids-all.ensures.value in
-    counted_parts _ (tenants_of c.args.config.now.clients) c.in_ok-count.count c.args.bytes.now c.in_ok-count.rest.now c.read_parts.result here.0 (c.if-count-ids.false ∙ ap length ids) here.1
+    length_prefixed_parts _ (tenants_of c.args.config.now.clients) c.in_ok-count.count c.args.bytes.now c.in_ok-count.rest.now c.read_parts.result here.0 (c.if-count-ids.false ∙ ap length ids) here.1
     (subst (λ (us : List TenantId). Reads _ (flat_map encoded_tenant) (ArePartsOf us) c.in_ok-count.rest.now c.read_parts.result) ids c.read_parts.ensures.read)

@@ -6,7 +6,7 @@ use Rattle.std.proofs.lemmas.List.{nil_from_length}
 use Rattle.std.proofs.lemmas.Result.{err_from_is_err_and}
 use Rattle.host_types.specs.declared.request.Reply.{Reply}
 use Rattle.host_types.specs.Configuration.{Configuration, IsConfiguration, tenants_of}
-use Rattle.service_core.specs.Words.{four_bytes}
+use Rattle.service_core.specs.Words.{u32_bytes}
 use Rattle.service_core.specs.TenantStates.{TenantState}
 use Rattle.service_core.specs.Encoding.{encoded_replies, encoded_tenant}
 use Rattle.service_core.specs.Readings.{Fails, AreLastReplies, ArePartsOf, HaveReplies}
@@ -15,7 +15,7 @@ use Rattle.service_core.proofs.StateRead.{begins_replies, begins_parts, ends, is
 use Rattle.service_core.proofs.state.State.from_bytes.Goals as goal
 
 abbrev text_of : List TenantState → List ℕ
-text_of parts = four_bytes (length parts) ++ flat_map encoded_tenant parts
+text_of parts = u32_bytes (length parts) ++ flat_map encoded_tenant parts
 
 pub returns-in_err-replies-clause-none : goal.returns-in_err-replies-clause-none
 returns-in_err-replies-clause-none c =
