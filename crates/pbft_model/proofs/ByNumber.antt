@@ -20,7 +20,7 @@ use Rattle.pbft_model.specs.Core.{Core, held_with, is_named, is_known, is_prepar
 use Rattle.pbft_model.specs.Acts.{Act, Destination, Send, Execute, Install}
 use Rattle.pbft_model.specs.Rules.{MayExecute, MaySay, reply_in}
 use Rattle.pbft_model.specs.Histories.{Family, IsCorrect, IsUnforged, IsEarlier, IsIn, HasExecuted, HasTaken, IsHistory, core_after}
-use Rattle.pbft_model.specs.Agreement.{IsTaken, IsHashed, IsHonest, entry_digest, IsAsked, requests_in, ServesFirst, reached_by, greatest_reached, HoldsState, IsServed, IsKeptAt, AgreesOn, AgreesByNumber}
+use Rattle.pbft_model.specs.Agreement.{IsTaken, IsHashed, IsHonest, entry_digest, IsAsked, requests_in, ServesFirst, reached_by, greatest_reached, HoldsState, IsServed, IsLastReplyAt, AgreesOn, AgreesByNumber}
 use Rattle.pbft_model.proofs.Counting.{quorum_has}
 use Rattle.pbft_model.proofs.Stages.{by_is}
 use Rattle.pbft_model.proofs.Found.{no_some}
@@ -32,7 +32,7 @@ use Rattle.pbft_model.proofs.Executing.{executes_alike}
 use Rattle.pbft_model.proofs.Origins.{Origin, IsFirst, ByExecution, ByInstallation, origin_at, origin_later, executed_up}
 use Rattle.pbft_model.proofs.Holdings.{from_find, taken_opened, held_taken, just_taken}
 use Rattle.pbft_model.proofs.Texts.{same_request_text}
-use Rattle.pbft_model.proofs.Fitting.{Fits, fits_at, held_opened}
+use Rattle.pbft_model.proofs.Fitting.{IsInStep, in_step_at, held_opened}
 
 -- ---- lists that a function lists
 
@@ -131,8 +131,8 @@ module _ (c : Setup) (family : Family) (h : IsHonest c family) where
   history : (i : ℕ) → IsCorrect c family.faulty i → (acts : List Act) → IsEarlier acts (family.acts i) → IsHistory c i (family.signer i) acts
   history i correct acts at = history_at c i (family.signer i) acts (family.acts i) at (u.histories i correct)
 
-  fits : (i : ℕ) → IsCorrect c family.faulty i → (acts : List Act) → IsEarlier acts (family.acts i) → Fits c (core_at c family i acts)
-  fits i correct acts at = fits_at c i (family.signer i) h.configuration acts (history i correct acts at)
+  fits : (i : ℕ) → IsCorrect c family.faulty i → (acts : List Act) → IsEarlier acts (family.acts i) → IsInStep c (core_at c family i acts)
+  fits i correct acts at = in_step_at c i (family.signer i) h.configuration acts (history i correct acts at)
 
   -- ---- requests
 
@@ -505,9 +505,9 @@ module _ (c : Setup) (family : Family) (h : IsHonest c family) where
         serves = subst (λ (es : List Entry). Serves c.config (requests_in es) w.service (r.0 ++ w.outcome ∷ [])) (ap (listed entry) is ∙ sym (take_listed entry greatest number within)) r.1;
       }
 
-  is_kept : (i : ℕ) (b : ReplyBody) (early : List Act) → IsCorrect c family.faulty i → IsEarlier early (family.acts i) → last_reply_of (core_at c family i early).service b.client.0 ≡ Some (reply_in b)
-      → IsKeptAt c entries (core_at c family i early).executed b
-  is_kept i b early correct at e =
+  is_last_reply : (i : ℕ) (b : ReplyBody) (early : List Act) → IsCorrect c family.faulty i → IsEarlier early (family.acts i) → last_reply_of (core_at c family i early).service b.client.0 ≡ Some (reply_in b)
+      → IsLastReplyAt c entries (core_at c family i early).executed b
+  is_last_reply i b early correct at e =
       let s = core_at c family i early in
       let fit = fits i correct early at in
       let bounds : IsBoundedReply s.service.number b.client.0 (reply_in b) = subst (λ (o : Option Reply). IfSome o (IsBoundedReply s.service.number b.client.0)) e (last_bounded s.service fit.sound.bounded b.client.0) in
@@ -541,17 +541,17 @@ module _ (c : Setup) (family : Family) (h : IsHonest c family) where
     | inr (inr from) ↦ no_some reply (sym from.reply ∙ e)
   ]
 
-  reply_kept : (i : ℕ) (to : Destination) (m : Signed Body) (b : ReplyBody) (early : List Act) → IsCorrect c family.faulty i → IsEarlier (Send to m ∷ early) (family.acts i) → m.body ≡ bodies.Reply b
-      → IsKeptAt c entries (core_at c family i early).executed b
-  reply_kept i to m b early correct point e =
+  sent_reply_is_last : (i : ℕ) (to : Destination) (m : Signed Body) (b : ReplyBody) (early : List Act) → IsCorrect c family.faulty i → IsEarlier (Send to m ∷ early) (family.acts i) → m.body ≡ bodies.Reply b
+      → IsLastReplyAt c entries (core_at c family i early).executed b
+  sent_reply_is_last i to m b early correct point e =
       let s = core_at c family i early in
       let at = before (Send to m) early (family.acts i) point in
       let says : MaySay c i s (bodies.Reply b) = subst (λ (x : Body). MaySay c i s x) e ((history i correct (Send to m ∷ early) point).1.says) in
       elim says.answers [
-        | inl due ↦ is_kept i b early correct at (due_is_last i correct early at (reply_in b) due)
+        | inl due ↦ is_last_reply i b early correct at (due_is_last i correct early at (reply_in b) due)
         | inr last ↦
             let own = own_reply s.service (fits i correct early at).sound.bounded last.0 (reply_in b) last.1 in
-            is_kept i b early correct at (ap (last_reply_of s.service) own ∙ last.1)
+            is_last_reply i b early correct at (ap (last_reply_of s.service) own ∙ last.1)
       ]
 
   pub agrees : AgreesByNumber c family
@@ -562,6 +562,6 @@ module _ (c : Setup) (family : Family) (h : IsHonest c family) where
       asked = all_listed (IsAsked c) entry greatest (λ n lt. let chosen = (choose n).1 lt in subst (IsAsked c) (sym chosen.1) (entry_asked (suc n) chosen.0));
       states = holds_state;
       executed = is_served;
-      replies = reply_kept;
+      replies = sent_reply_is_last;
     },
   )

@@ -163,17 +163,17 @@ module _ (c : Setup) (family : Family) (u : IsUnforged c family) where
   low_at i low correct x y h k below =
       holds_on c i (family.signer i) (λ s. low ≤ s.low) (λ s a reached ok is. let up = low_up c i s a reached ok in omega arith) x y h (history_at c i (family.signer i) y (family.acts i) k (u.histories i correct)) below
 
-  -- A ViewChange for a higher view was said after the Commit, and tells of it.
-  told : (i : ℕ) (x : Fields) (v : ViewChange) → IsCorrect c family.faulty i → CommittedTo c family u i x → Said c family i (bodies.ViewChange v) → x.view < v.view.0
+  -- A ViewChange for a higher view was said after the Commit, and complete of it.
+  shows_commit : (i : ℕ) (x : Fields) (v : ViewChange) → IsCorrect c family.faulty i → CommittedTo c family u i x → Said c family i (bodies.ViewChange v) → x.view < v.view.0
       → (x.number ≤ v.low.0) ⊎ ((y : Certificate) × IsIn y v.certificates × (y.pre_prepare.body.number.0 ≡ x.number) × (x.view ≤ y.pre_prepare.body.view.0))
-  told i x v correct (b, w, is) w' higher = elim (two_said c family u i (bodies.Commit b) (bodies.ViewChange v) w w') [
+  shows_commit i x v correct (b, w, is) w' higher = elim (two_said c family u i (bodies.Commit b) (bodies.ViewChange v) w w') [
     | inl same ↦ absurd cc
     | inr (inl h) ↦
         let s = core_at c family i w'.early in
-        let tells = w'.says.tells_all in
+        let complete = w'.says.reports_all in
         elim (remembers_leaving c x s (remembers_at i x correct b w is w'.early h (before (Send w'.to w'.message) w'.early (family.acts i) w'.point))) [
-          | inl below ↦ inl (subst (λ (l : ℕ). x.number ≤ l) (sym (ap (λ (z : ViewChange). z.low.0) tells)) below)
-          | inr k ↦ inr (k.0, subst (λ (xs : List Certificate). IsIn k.0 xs) (sym (ap (λ (z : ViewChange). z.certificates) tells)) (at_in (kept_on_leaving c s) (x.number ∷ []) k.0 k.1), k.2, k.3)
+          | inl below ↦ inl (subst (λ (l : ℕ). x.number ≤ l) (sym (ap (λ (z : ViewChange). z.low.0) complete)) below)
+          | inr k ↦ inr (k.0, subst (λ (xs : List Certificate). IsIn k.0 xs) (sym (ap (λ (z : ViewChange). z.certificates) complete)) (at_in (kept_on_leaving c s) (x.number ∷ []) k.0 k.1), k.2, k.3)
         ]
     | inr (inr h) ↦
         let left : v.view.0 ≤ (core_at c family i (Send w'.to w'.message ∷ w'.early)).view = subst (λ (s : Core). v.view.0 ≤ s.view) (sym (core_then c family u i (bodies.ViewChange v) w')) (omega arith) in
@@ -220,7 +220,7 @@ module _ (c : Setup) (family : Family) (u : IsUnforged c family) where
       let v = in_any (is_by w.0 (λ v. true)) n.changes w.3 in
       let view = (for_view n v.0 valid v.1).1 in
       let said_it = change_said c family u w.0 v.0.body correct (signed_real bodies.ViewChange w.0 (λ v. true) v.0 v.2 ((real v.0 v.1).own) correct) in
-      elim (told w.0 x v.0.body correct (k.commit w.0 correct w.2) said_it (omega arith)) [
+      elim (shows_commit w.0 x v.0.body correct (k.commit w.0 correct w.2) said_it (omega arith)) [
         | inl below ↦
             let low = greatest_above v.0.body.low.0 (map (λ (m : Signed ViewChange). m.body.low.0) n.changes) (in_map (λ (m : Signed ViewChange). m.body.low.0) n.changes v.0 v.1) in
             absurd (omega arith)

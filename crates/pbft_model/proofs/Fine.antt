@@ -10,7 +10,7 @@ use Rattle.pbft_model.specs.Setup.{Setup, primary, span, view_limit, number_limi
 use Rattle.pbft_model.specs.Tables.{Table, at, vote_key, number_key, first_in, entries_in}
 use Rattle.pbft_model.specs.Certificates.{Fields, of_pre_prepare, same_fields, is_by, voted, some_by, is_stable, has_quorum}
 use Rattle.pbft_model.specs.Validity.{is_valid_new_view}
-use Rattle.pbft_model.specs.Core.{Core, floor_in, inside, is_placed, is_known, is_committed, is_prepared, held_with, next_number, pre_prepare_at, prepared_at, if_passes, is_new, is_proposed}
+use Rattle.pbft_model.specs.Core.{Core, floor_in, inside, has_position, is_known, is_committed, is_prepared, held_with, next_number, pre_prepare_at, prepared_at, if_passes, is_new, is_proposed}
 use Rattle.pbft_model.specs.Acts.{Act, Destination, All, with_body, is_awaited}
 use Rattle.pbft_model.specs.Rules.{Allowed, MaySay, IsInside, view_change_of, new_view_of, wants_view}
 use Rattle.pbft_model.specs.Duties.{Duty, Executing, WornOut, or_else, when, say, first_for, change_to, due_on_timeout, due_reply, due_checkpoint, reply_body, answer_again, answer_to_request, pass_on, supply, answer_fetched, answer_to_fetch, enter_by, install_read, install_from, on_taken, due_answer, due_supply, due_enter, due_install, may_rise, rise_with, rise_among, due_rise, leads, propose, due_propose, among, agree, prepare_for, due_prepare, commit_to, commit_for, due_commit, execute_at, due_execute, higher_changes, least_view, join, due_join, due_open, due_fetch_state, is_lacking, ask_for, due_fetch_request, due}
@@ -50,7 +50,7 @@ module _ (c : Setup) (me : ℕ) (s : Core) where
   first_fine duty (n ∷ ns) h = or_fine (duty n) (first_for duty ns) (h n (inl refl)) (first_fine duty ns (λ k is. h k (inr is)))
 
   change_fine : (view : ℕ) → s.view < view → Fine (Some (change_to c me s view))
-  change_fine view higher = say_fine _ (bodies.ViewChange (view_change_of c s view)) (record { higher = higher; tells_all = refl })
+  change_fine view higher = say_fine _ (bodies.ViewChange (view_change_of c s view)) (record { higher = higher; reports_all = refl })
 
   timeout_fine : Fine (due_on_timeout c me s)
   timeout_fine = if_fine s.timed_out (Some (cond (s.view + 1 == view_limit) WornOut (change_to c me s (s.view + 1)))) (λ _. worn (s.view + 1 == view_limit)) where
@@ -178,16 +178,16 @@ module _ (c : Setup) (me : ℕ) (s : Core) where
     -- a PrePrepare recorded for a number of the active view
     recorded_inside : s.active ≡ true → (n : ℕ) (m : Signed PrePrepare) → IsIn n (inside c s) → pre_prepare_at c s s.view n ≡ Some m → IsInside c s m.body.view.0 m.body.number.0 × (voted of_pre_prepare s.pre_prepares (of_pre_prepare m.body) (primary c m.body.view.0) ≡ true) × (m.body.number.0 ≡ n)
     recorded_inside active n m is e =
-        let v = passed (is_by (primary c s.view) (is_placed s.view n)) (at s.pre_prepares (vote_key n s.view (primary c s.view))) m e in
-        let by = by_is (primary c s.view) (is_placed s.view n) m v.1 in
-        let place = and_parts (m.body.view.0 == s.view) (m.body.number.0 == n) by.2 in
-        let view = eqb-true m.body.view.0 s.view place.0 in
-        let number = eqb-true m.body.number.0 n place.1 in
+        let v = passed (is_by (primary c s.view) (has_position s.view n)) (at s.pre_prepares (vote_key n s.view (primary c s.view))) m e in
+        let by = by_is (primary c s.view) (has_position s.view n) m v.1 in
+        let position = and_parts (m.body.view.0 == s.view) (m.body.number.0 == n) by.2 in
+        let view = eqb-true m.body.view.0 s.view position.0 in
+        let number = eqb-true m.body.number.0 n position.1 in
         let w = within n is in
         let low = w.0 in
         let high = w.1 in
         let floor : floor_in s < n = sound.0 (vote_key n s.view (primary c s.view)) m v.0 active refl in
-        let own : is_by (primary c s.view) (λ b. same_fields (of_pre_prepare b) (of_pre_prepare m.body)) m ≡ true = is_by_from (primary c s.view) (is_placed s.view n) (λ b. same_fields (of_pre_prepare b) (of_pre_prepare m.body)) m (λ _. same_self (of_pre_prepare m.body)) v.1 in
+        let own : is_by (primary c s.view) (λ b. same_fields (of_pre_prepare b) (of_pre_prepare m.body)) m ≡ true = is_by_from (primary c s.view) (has_position s.view n) (λ b. same_fields (of_pre_prepare b) (of_pre_prepare m.body)) m (λ _. same_self (of_pre_prepare m.body)) v.1 in
         let here : voted of_pre_prepare s.pre_prepares (record { view = s.view; number = n; digest = m.body.digest.0 }) (primary c s.view) ≡ true =
         subst (λ (o : Option (Signed PrePrepare)). some_by (primary c s.view) (λ b. same_fields (of_pre_prepare b) (record { view = s.view; number = n; digest = m.body.digest.0 })) o ≡ true) (sym v.0)
         (subst (λ (x : Fields). is_by (primary c s.view) (λ b. same_fields (of_pre_prepare b) x) m ≡ true) (λ i. record { view = view i; number = number i; digest = m.body.digest.0 }) own) in (
@@ -227,11 +227,11 @@ module _ (c : Setup) (me : ℕ) (s : Core) where
       executed : (a : Act) → Fulfils c s (Some (Executing n m.body.digest.0)) a → Allowed c me s a
       executed a (t, o, step, is) =
           let w = passed (λ p. is_committed c s (of_pre_prepare p.body)) (pre_prepare_at c s s.view n) m e in
-          let v = passed (is_by (primary c s.view) (is_placed s.view n)) (at s.pre_prepares (vote_key n s.view (primary c s.view))) m w.0 in
-          let by = by_is (primary c s.view) (is_placed s.view n) m v.1 in
-          let place = and_parts (m.body.view.0 == s.view) (m.body.number.0 == n) by.2 in
-          let view = eqb-true m.body.view.0 s.view place.0 in
-          let number = eqb-true m.body.number.0 n place.1 in
+          let v = passed (is_by (primary c s.view) (has_position s.view n)) (at s.pre_prepares (vote_key n s.view (primary c s.view))) m w.0 in
+          let by = by_is (primary c s.view) (has_position s.view n) m v.1 in
+          let position = and_parts (m.body.view.0 == s.view) (m.body.number.0 == n) by.2 in
+          let view = eqb-true m.body.view.0 s.view position.0 in
+          let number = eqb-true m.body.number.0 n position.1 in
           subst (λ (x : Act). Allowed c me s x) (sym is)
           (record { active = active; next = next; step = step; committed = subst (λ (x : Fields). is_committed c s x ≡ true) (λ i. record { view = view i; number = number i; digest = m.body.digest.0 }) w.1 })
 

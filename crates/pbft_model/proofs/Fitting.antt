@@ -29,13 +29,13 @@ pub record RequestInRange (m : Signed RequestBody) : Type 0 where
   pub time : m.body.time < 2 ^ 64
 
 -- The state is bounded and sound, under the configuration, and has taken as many requests as were executed.
-pub record Fits (c : Setup) (s : Core) : Type 0 where
+pub record IsInStep (c : Setup) (s : Core) : Type 0 where
   pub sound : IsSound s.service
   pub config_is : s.service.config ≡ c.config
   pub number_is : s.service.number ≡ s.executed
 
-fits_keeps : (c : Setup) (s t : Core) → Keeps s t → Fits c s → Fits c t
-fits_keeps c s t k h = record {
+in_step_keeps : (c : Setup) (s t : Core) → Keeps s t → IsInStep c s → IsInStep c t
+in_step_keeps c s t k h = record {
   sound = subst IsSound (sym k.service) h.sound;
   config_is = ap (λ (x : Service). x.config) k.service ∙ h.config_is;
   number_is = ap (λ (x : Service). x.number) k.service ∙ h.number_is ∙ sym k.number;
@@ -102,17 +102,17 @@ module _ (c : Setup) (me : ℕ) (signer : SigningState) (configuration : IsConfi
         | inr below ↦ subst (λ (n : ℕ). n < number_limit) number below
       ]
 
-  fits_after : (acts : List Act) (a : Act) → IsHistory c me signer acts → Allowed c me (core_after c signer acts) a → Fits c (core_after c signer acts) → Fits c (after c (core_after c signer acts) a)
-  fits_after acts (Take m r) is ok h = let k = recorded_keeps c (core_after c signer acts) m m.body in
-      fits_keeps c (core_after c signer acts) _ (record { number = k.number; service = k.service; reply = k.reply; checkpoint = k.checkpoint }) h
-  fits_after acts Timeout is ok h = record { sound = h.sound; config_is = h.config_is; number_is = h.number_is }
-  fits_after acts (Send to m) is ok h = let k = said_keeps c (core_after c signer acts) m m.body in
-      fits_keeps c (core_after c signer acts) _ (record { number = k.number; service = k.service; reply = k.reply; checkpoint = k.checkpoint }) h
-  fits_after acts (Relay to m) is ok h = record { sound = h.sound; config_is = h.config_is; number_is = h.number_is }
-  fits_after acts (Enter m) is ok h = let k = left_keeps c (core_after c signer acts) m.body.view.0 in
-      fits_keeps c (core_after c signer acts) _ (record { number = k.number; service = k.service; reply = k.reply; checkpoint = k.checkpoint }) h
-  fits_after acts (Rise n d) is ok h = record { sound = h.sound; config_is = h.config_is; number_is = h.number_is }
-  fits_after acts (Execute n d t o) is ok h =
+  in_step_after : (acts : List Act) (a : Act) → IsHistory c me signer acts → Allowed c me (core_after c signer acts) a → IsInStep c (core_after c signer acts) → IsInStep c (after c (core_after c signer acts) a)
+  in_step_after acts (Take m r) is ok h = let k = recorded_keeps c (core_after c signer acts) m m.body in
+      in_step_keeps c (core_after c signer acts) _ (record { number = k.number; service = k.service; reply = k.reply; checkpoint = k.checkpoint }) h
+  in_step_after acts Timeout is ok h = record { sound = h.sound; config_is = h.config_is; number_is = h.number_is }
+  in_step_after acts (Send to m) is ok h = let k = said_keeps c (core_after c signer acts) m m.body in
+      in_step_keeps c (core_after c signer acts) _ (record { number = k.number; service = k.service; reply = k.reply; checkpoint = k.checkpoint }) h
+  in_step_after acts (Relay to m) is ok h = record { sound = h.sound; config_is = h.config_is; number_is = h.number_is }
+  in_step_after acts (Enter m) is ok h = let k = left_keeps c (core_after c signer acts) m.body.view.0 in
+      in_step_keeps c (core_after c signer acts) _ (record { number = k.number; service = k.service; reply = k.reply; checkpoint = k.checkpoint }) h
+  in_step_after acts (Rise n d) is ok h = record { sound = h.sound; config_is = h.config_is; number_is = h.number_is }
+  in_step_after acts (Execute n d t o) is ok h =
       let s = core_after c signer acts in
       let x : Fields = record { view = s.view; number = n; digest = d } in
       let next : n ≡ s.executed + 1 = ok.next in
@@ -128,12 +128,12 @@ module _ (c : Setup) (me : ℕ) (signer : SigningState) (configuration : IsConfi
         config_is = moved.0 ∙ h.config_is;
         number_is = omega arith;
       }
-  fits_after acts (Install n b t) is ok h = record { sound = ok.reads.sound; config_is = ok.reads.config_is; number_is = ok.reads.number_is }
+  in_step_after acts (Install n b t) is ok h = record { sound = ok.reads.sound; config_is = ok.reads.config_is; number_is = ok.reads.number_is }
 
-  pub fits_at : (acts : List Act) → IsHistory c me signer acts → Fits c (core_after c signer acts)
-  fits_at [] is = record {
+  pub in_step_at : (acts : List Act) → IsHistory c me signer acts → IsInStep c (core_after c signer acts)
+  in_step_at [] is = record {
     sound = record { bounded = genesis_bounded c.config configuration; sound = genesis_sound c.config };
     config_is = refl;
     number_is = refl;
   }
-  fits_at (a ∷ acts) is = fits_after acts a is.0 is.1 (fits_at acts is.0)
+  in_step_at (a ∷ acts) is = in_step_after acts a is.0 is.1 (in_step_at acts is.0)

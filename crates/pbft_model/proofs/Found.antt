@@ -61,7 +61,7 @@ kept_add {X} true t k q x y e = cases (is_some (at t k)) refl where
   cases false f = other_entry t k q x (λ same. absurd (true≢false (sym (ap is_some (subst (λ (z : Key). at t z ≡ Some y) same e)) ∙ f))) ∙ e
 kept_add false t k q x y e = e
 
--- what stands at the key of a value that was admitted
+-- what is at the key of a value that was admitted
 pub at_added : {X : Type 0} (t : Table X) (k : Key) (x : X) → (y : X) × (at (add_if true k x t) k ≡ Some y) × ((y ≡ x) ⊎ (at t k ≡ Some y))
 at_added {X} t k x = cases (at t k) refl where
   cases : (o : Option X) → at t k ≡ o → (y : X) × (at (add_if true k x t) k ≡ Some y) × ((y ≡ x) ⊎ (at t k ≡ Some y))

@@ -5,7 +5,7 @@ use Rattle.pbft_model.specs.Setup.{Setup}
 use Rattle.pbft_model.specs.Core.{Core}
 use Rattle.pbft_model.specs.Acts.{Act, after}
 use Rattle.pbft_model.specs.Duties.{Duty, Do, Executing, WornOut, due}
-use Rattle.pbft_model.specs.Rows.{Row, Input, Halt, Exhausted, Worn, Fulfils, HasLeaves, Follows, Begins, GoesOn, HaltsBy, IsNext, Lacks, all_outputs, all_done, all_leaves, leaves_for}
+use Rattle.pbft_model.specs.Rows.{Row, Input, Halt, Exhausted, Worn, Fulfils, HasLeaves, Follows, Begins, Continues, HaltsBy, IsNext, Lacks, all_outputs, all_done, all_leaves, leaves_for}
 use Rattle.pbft_model.proofs.Unique.{one_act, one_beginning}
 
 module _ (c : Setup) (me : ℕ) where
@@ -21,7 +21,7 @@ module _ (c : Setup) (me : ℕ) where
       ⊎ (((a : Act) × Follows c me (after c s first) (acts ++ a ∷ []) (after c t a))
       ⊎ ((halt : Halt) × HaltsBy c me s input halt))
 
-  pub what_comes : (s : Core) (input : Input) (first : Act) (acts : List Act) (t : Core) → Begins c input first → Follows c me (after c s first) acts t → GoesOn c me t → Outcome s input first acts t
+  pub what_comes : (s : Core) (input : Input) (first : Act) (acts : List Act) (t : Core) → Begins c input first → Follows c me (after c s first) acts t → Continues c me t → Outcome s input first acts t
   what_comes s input first acts t begins follows (inl rests) =
       inl (
         record { input = input; outputs = all_outputs acts; done = all_done c acts; leaves = all_leaves acts },

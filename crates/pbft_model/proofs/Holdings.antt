@@ -156,20 +156,20 @@ module _ (c : Setup) (me : ℕ) (signer : SigningState) (all : List Act) (is : I
   abbrev pub IsOwnOrInRange : Signed Commit → Type 0
   IsOwnOrInRange m = (m.id ≡ me) ⊎ (m.body.number.0 < number_limit)
 
-  abbrev InRange : Table (Signed Commit) → Type 0
-  InRange t = (q : Key) (m : Signed Commit) → at t q ≡ Some m → IsOwnOrInRange m
+  abbrev AreOwnOrInRange : Table (Signed Commit) → Type 0
+  AreOwnOrInRange t = (q : Key) (m : Signed Commit) → at t q ≡ Some m → IsOwnOrInRange m
 
-  kept_in_range : (test : Key → Bool) (t : Table (Signed Commit)) → InRange t → InRange (keep test t)
+  kept_in_range : (test : Key → Bool) (t : Table (Signed Commit)) → AreOwnOrInRange t → AreOwnOrInRange (keep test t)
   kept_in_range test t h q m e = h q m ((found_keep test t q m e).1)
 
-  added_in_range : (s : Core) (m : Signed Commit) (b : Bool) → IsOwnOrInRange m → InRange s.commits → (q : Key) (p : Signed Commit)
+  added_in_range : (s : Core) (m : Signed Commit) (b : Bool) → IsOwnOrInRange m → AreOwnOrInRange s.commits → (q : Key) (p : Signed Commit)
       → at (add_if b (vote_key m.body.number.0 m.body.view.0 m.id) m s.commits) q ≡ Some p → IsOwnOrInRange p
   added_in_range s m b own h q p e = elim (found_add b s.commits (vote_key m.body.number.0 m.body.view.0 m.id) q m p e) [
     | inl w ↦ subst IsOwnOrInRange w.1 own
     | inr old ↦ h q p old
   ]
 
-  said_in_range : (s : Core) (m : Signed Body) (b : Body) → m.id ≡ me → InRange s.commits → InRange (said c s m b).commits
+  said_in_range : (s : Core) (m : Signed Body) (b : Body) → m.id ≡ me → AreOwnOrInRange s.commits → AreOwnOrInRange (said c s m b).commits
   said_in_range s m (bodies.Request b) own h = h
   said_in_range s m (bodies.PrePrepare b) own h = h
   said_in_range s m (bodies.Prepare b) own h = h
@@ -177,12 +177,12 @@ module _ (c : Setup) (me : ℕ) (signer : SigningState) (all : List Act) (is : I
   said_in_range s m (bodies.Reply b) own h = h
   said_in_range s m (bodies.Checkpoint b) own h = h
   said_in_range s m (bodies.ViewChange b) own h = h
-  said_in_range s m (bodies.NewView b) own h = kept_in_range _ (left_if_above c s b.view.0).commits (subst InRange (sym (left_commits c s b.view.0)) h)
+  said_in_range s m (bodies.NewView b) own h = kept_in_range _ (left_if_above c s b.view.0).commits (subst AreOwnOrInRange (sym (left_commits c s b.view.0)) h)
   said_in_range s m (bodies.Fetch (fetches.Request d)) own h = h
   said_in_range s m (bodies.Fetch (fetches.State n)) own h = h
   said_in_range s m (bodies.Snapshot b) own h = h
 
-  recorded_in_range : (s : Core) (m : Signed Body) (b : Body) → BodyWellFormed b → InRange s.commits → InRange (recorded c s m b).commits
+  recorded_in_range : (s : Core) (m : Signed Body) (b : Body) → BodyWellFormed b → AreOwnOrInRange s.commits → AreOwnOrInRange (recorded c s m b).commits
   recorded_in_range s m (bodies.Request b) fits h = h
   recorded_in_range s m (bodies.PrePrepare b) fits h = h
   recorded_in_range s m (bodies.Prepare b) fits h = h
@@ -194,18 +194,18 @@ module _ (c : Setup) (me : ℕ) (signer : SigningState) (all : List Act) (is : I
   recorded_in_range s m (bodies.Fetch b) fits h = h
   recorded_in_range s m (bodies.Snapshot b) fits h = h
 
-  commits_after : (s : Core) (a : Act) → Allowed c me s a → InRange s.commits → InRange (after c s a).commits
+  commits_after : (s : Core) (a : Act) → Allowed c me s a → AreOwnOrInRange s.commits → AreOwnOrInRange (after c s a).commits
   commits_after s (Take m r) ok h = recorded_in_range s m m.body ok.opened.encodes.well_formed.well_formed h
   commits_after s Timeout ok h = h
   commits_after s (Send to m) ok h = said_in_range s m m.body (ap (λ (x : Signed Body). x.id) ok.signed) h
   commits_after s (Relay to m) ok h = h
-  commits_after s (Enter m) ok h = kept_in_range _ (left_if_above c s m.body.view.0).commits (subst InRange (sym (left_commits c s m.body.view.0)) h)
+  commits_after s (Enter m) ok h = kept_in_range _ (left_if_above c s m.body.view.0).commits (subst AreOwnOrInRange (sym (left_commits c s m.body.view.0)) h)
   commits_after s (Rise n d) ok h = kept_in_range (is_above n) s.commits h
   commits_after s (Execute n d t o) ok h = h
   commits_after s (Install n b t) ok h = kept_in_range (is_above n) s.commits h
 
   -- a recorded Commit of another has a number below the limit
-  pub commits_in_range : (acts : List Act) → IsEarlier acts all → InRange (core_after c signer acts).commits
+  pub commits_in_range : (acts : List Act) → IsEarlier acts all → AreOwnOrInRange (core_after c signer acts).commits
   commits_in_range [] at = λ q m e. no_some m e
   commits_in_range (a ∷ acts) at =
       commits_after (core_after c signer acts) a ((history_at c me signer (a ∷ acts) all at is).1) (commits_in_range acts (before a acts all at))

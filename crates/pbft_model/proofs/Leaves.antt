@@ -65,7 +65,7 @@ pub signer_begins : (c : Setup) (s : Core) (input : Input) (a : Act) → Begins 
 signer_begins c s (Received m) a (reading, may, is) = ap (λ (x : Act). (after c s x).signer) is ∙ recorded_signer c s m m.body
 signer_begins c s TimedOut a is = ap (λ (x : Act). (after c s x).signer) is
 
--- the signer after rows has used the leaves that they tell
+-- the signer after rows has used the leaves that they report
 pub signer_rows : (c : Setup) (me : ℕ) (s t : Core) (rows : List Row) → IsLawfulFrom c me s rows t → t.signer ≡ signer_after s.signer (leaves_in rows)
 signer_rows c me s t [] same = ap (λ (x : Core). x.signer) same ∙ none_taken s.signer
 signer_rows c me s t (row ∷ rows) (u, next, rest) =

@@ -24,7 +24,7 @@ pub mod Fitting
 pub mod Stepping
 pub mod ByNumber
 pub mod Reactions
-pub mod Telling
+pub mod Reporting
 pub mod OverJournals
 pub mod Leaves
 pub mod Steady

@@ -126,10 +126,10 @@ kept_with c s view (n ∷ ns) inside higher h = cases (prepared_at c s n) refl (
   cases None e rest = rest
   cases (Some m) e rest =
       let is = prepared_is c s n m e in
-      let place = inside n (inl refl) in
+      let between = inside n (inl refl) in
       let number = is.1 in
-      let low = place.0 in
-      let high = place.1 in
+      let low = between.0 in
+      let high = between.1 in
       let view_is = is.0 in (
         is_sorted-put (slice_cmp nat_cmp) nat_list_cmp_total (number_key n) (certificate_of c s m) (with_certificates c s ns s.kept) rest.0,
         λ d within. elim (from_put (number_key n) (certificate_of c s m) (with_certificates c s ns s.kept) d within) [

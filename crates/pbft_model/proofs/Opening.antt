@@ -103,7 +103,7 @@ new_view_made c me s leads own e valid =
     let is_me : primary c s.view ≡ me = eqb-true _ _ leads in
     let below : me < replicas c = omega arith in
     let ms = chosen_changes c me s in
-    let counted = chosen_count c me s below own e in
+    let chosen = chosen_count c me s below own e in
     let found : (i : ℕ) → is_chosen c me s i ≡ true → (m : Signed ViewChange) × (change_of s i ≡ Some m) × (is_by i (λ v. true) m ≡ true)
     = λ i t. let w = wants_is s i (chosen_wants c me s i own t) in (w.0, w.1, is_by_from i (λ v. v.view.0 == s.view) (λ v. true) w.0 (λ _. refl) w.2) in
     let long = length_gathered (is_chosen c me s) (change_of s) (replicas c) (λ i t. let w = found i t in (w.0, w.1)) in

@@ -10,12 +10,12 @@ use Rattle.pbft_model.specs.Core.{Core, start_of}
 use Rattle.pbft_model.specs.Acts.{Act, Take, Timeout, Send, Relay, Enter, Rise, Execute, Install}
 use Rattle.pbft_model.specs.Rows.{Row, Output, Done, Executed, Installed, IsLawfulFrom, done_of, result_of}
 use Rattle.pbft_model.specs.Histories.{core_after, IsHistory, IsEarlier, IsIn, HasTaken, HasSigned, HasExecuted, Family, IsCorrect, IsUnforged}
-use Rattle.pbft_model.specs.Agreement.{IsTaken, IsHashed, IsHonest, ServesFirst, reached_by, greatest_reached, HoldsState, IsServed, IsKeptAt, AgreesOn}
+use Rattle.pbft_model.specs.Agreement.{IsTaken, IsHashed, IsHonest, ServesFirst, reached_by, greatest_reached, HoldsState, IsServed, IsLastReplyAt, AgreesOn}
 use Rattle.pbft_model.specs.Journals.{Journals, HasReceived, HasGiven, HasDone, RunsTo, greatest_in, ComesTo, IsReceived, IsHashedIn, IsHonestFamily, reached_in, greatest_among, IsAccountedFor, IsInstalledFrom, AgreesOver, Agrees}
 use Rattle.pbft_model.proofs.Events.{now, earlier_trans, history_at, holds_on}
 use Rattle.pbft_model.proofs.Origins.{executed_up}
 use Rattle.pbft_model.proofs.ByNumber.{agrees}
-use Rattle.pbft_model.proofs.Telling.{pushed, acts_from, earlier_from, core_from, history_from, taken_from, given_act, sends, given_from, done_from, executed_from, Parted, parted, one_core, number_from, one_row_more}
+use Rattle.pbft_model.proofs.Reporting.{pushed, acts_from, earlier_from, core_from, history_from, taken_from, given_act, sends, given_from, done_from, executed_from, Parted, parted, one_core, number_from, one_row_more}
 
 module _ (c : Setup) (j : Journals) (h : IsHonestFamily c j) where
   -- ---- the family of histories
@@ -32,28 +32,28 @@ module _ (c : Setup) (j : Journals) (h : IsHonestFamily c j) where
   family = record { faulty = j.faulty; signer = j.signer; acts = λ i. pick i (nat_lt i (replicas c)) (j.faulty i) refl refl }
 
   -- a correct replica's acts are those of its journal
-  record Told (i : ℕ) (acts : List Act) : Type 0 where
+  record Reported (i : ℕ) (acts : List Act) : Type 0 where
     last : Core
     lawful : ComesTo c j i (j.rows i) last
     is : acts ≡ acts_from c i (j.signer i) [] (j.rows i) (start i) last lawful
 
-  told_by : (i : ℕ) (a b : Bool) (e : nat_lt i (replicas c) ≡ a) (f : j.faulty i ≡ b) → IsCorrect c j.faulty i → Told i (pick i a b e f)
-  told_by i true false e f correct = let w = h.lawful i (ltb-true i (replicas c) e, f) in record { last = w.0; lawful = w.1; is = refl }
-  told_by i true true e f correct = absurd (true≢false (sym f ∙ correct.1))
-  told_by i false b e f correct = absurd (true≢false (sym (lt-ltb i (replicas c) correct.0) ∙ e))
+  reported_by : (i : ℕ) (a b : Bool) (e : nat_lt i (replicas c) ≡ a) (f : j.faulty i ≡ b) → IsCorrect c j.faulty i → Reported i (pick i a b e f)
+  reported_by i true false e f correct = let w = h.lawful i (ltb-true i (replicas c) e, f) in record { last = w.0; lawful = w.1; is = refl }
+  reported_by i true true e f correct = absurd (true≢false (sym f ∙ correct.1))
+  reported_by i false b e f correct = absurd (true≢false (sym (lt-ltb i (replicas c) correct.0) ∙ e))
 
-  told : (i : ℕ) → IsCorrect c j.faulty i → Told i (family.acts i)
-  told i correct = told_by i (nat_lt i (replicas c)) (j.faulty i) refl refl correct
+  reported : (i : ℕ) → IsCorrect c j.faulty i → Reported i (family.acts i)
+  reported i correct = reported_by i (nat_lt i (replicas c)) (j.faulty i) refl refl correct
 
-  abbrev acts_of : (i : ℕ) → Told i (family.acts i) → List Act
+  abbrev acts_of : (i : ℕ) → Reported i (family.acts i) → List Act
   acts_of i w = acts_from c i (j.signer i) [] (j.rows i) (start i) w.last w.lawful
 
   histories : (i : ℕ) → IsCorrect c j.faulty i → IsHistory c i (j.signer i) (family.acts i)
-  histories i correct = let w = told i correct in
+  histories i correct = let w = reported i correct in
       subst (λ (acts : List Act). IsHistory c i (j.signer i) acts) (sym w.is) (history_from c i (j.signer i) [] (j.rows i) (start i) w.last w.lawful refl tt)
 
   received : (i : ℕ) → IsCorrect c j.faulty i → (m : Signed Body) → HasTaken m (family.acts i) → HasReceived m (j.rows i)
-  received i correct m taken = let w = told i correct in
+  received i correct m taken = let w = reported i correct in
       elim (taken_from c i (j.signer i) m [] (j.rows i) (start i) w.last w.lawful (subst (λ (acts : List Act). HasTaken m acts) w.is taken)) [ inl none ↦ absurd none | inr is ↦ is ]
 
   unforged : IsUnforged c family
@@ -62,7 +62,7 @@ module _ (c : Setup) (j : Journals) (h : IsHonestFamily c j) where
     histories = histories;
     real = λ i correct m p taken within role right.
         let given = h.real i correct m p (received i correct m taken) within role right in
-        let w = told p.id right in
+        let w = reported p.id right in
         subst (λ (acts : List Act). HasSigned (part_of p) acts) (sym w.is)
         (given_from c p.id (j.signer p.id) (part_of p) [] (j.rows p.id) (start p.id) w.last w.lawful given);
   }
@@ -75,7 +75,7 @@ module _ (c : Setup) (j : Journals) (h : IsHonestFamily c j) where
   hashed text (inr (inl (m, taken, is))) = inr (inl (m, received_by (as_message bodies.Request m) taken, is))
   hashed text (inr (inr (inl (m, taken, is)))) = inr (inr (inl (m, received_by (as_message bodies.Snapshot m) taken, is)))
   hashed text (inr (inr (inr (i, number, digest, done, is)))) =
-      let w = told i done.correct in
+      let w = reported i done.correct in
       elim (executed_from c i (j.signer i) number digest done.service done.outcome done.early [] (j.rows i) (start i) w.last w.lawful
       (subst (λ (acts : List Act). IsEarlier (Execute number digest done.service done.outcome ∷ done.early) acts) w.is done.point)) [
         | inl none ↦ absurd (nothing done.early none)
@@ -95,7 +95,7 @@ module _ (c : Setup) (j : Journals) (h : IsHonestFamily c j) where
 
   number_is : (i : ℕ) (correct : IsCorrect c j.faulty i) → (core_after c (j.signer i) (family.acts i)).executed ≡ greatest_in (j.rows i)
   number_is i correct =
-      let w = told i correct in
+      let w = reported i correct in
       let last : core_after c (j.signer i) (family.acts i) ≡ w.last = ap (core_after c (j.signer i)) w.is ∙ core_from c i (j.signer i) [] (j.rows i) (start i) w.last w.lawful refl in
       let number = number_from c i (j.signer i) [] (j.rows i) (start i) w.last w.lawful refl tt in
       ap (λ (s : Core). s.executed) last ∙ number ∙ from_zero (greatest_in (j.rows i)) where
@@ -125,7 +125,7 @@ module _ (c : Setup) (j : Journals) (h : IsHonestFamily c j) where
       core_is : core_after c (j.signer i) acts ≡ s
 
     ending : (i : ℕ) → IsCorrect c j.faulty i → (rows rest : List Row) → j.rows i ≡ rows ++ rest → (s : Core) → ComesTo c j i rows s → Ending i rows s
-    ending i correct rows rest is s comes = at (told i correct).last (told i correct).lawful (told i correct).is (j.rows i) is where
+    ending i correct rows rest is s comes = at (reported i correct).last (reported i correct).lawful (reported i correct).is (j.rows i) is where
       at : (last : Core) (w : ComesTo c j i (j.rows i) last) → family.acts i ≡ acts_from c i (j.signer i) [] (j.rows i) (start i) last w → (all : List Row) → all ≡ rows ++ rest → Ending i rows s
       at last w same all e =
           let P : List Row → Type 0 = λ rs. (v : IsLawfulFrom c i (start i) rs last) → family.acts i ≡ acts_from c i (j.signer i) [] rs (start i) last v → Ending i rows s in
@@ -164,7 +164,7 @@ module _ (c : Setup) (j : Journals) (h : IsHonestFamily c j) where
 
     accounted : (i number : ℕ) (digest result : List ℕ) → IsCorrect c j.faulty i → HasDone (Executed number digest result) (j.rows i) → IsAccountedFor c entries number digest result
     accounted i number digest result correct done =
-        let w = told i correct in
+        let w = reported i correct in
         let a = done_from c i (j.signer i) (Executed number digest result) [] (j.rows i) (start i) w.last w.lawful done in
         let e = executed_act number digest result a.0 a.3 in
         let point : IsEarlier (Execute number digest e.0 e.1 ∷ a.1) (family.acts i) =
@@ -203,7 +203,7 @@ module _ (c : Setup) (j : Journals) (h : IsHonestFamily c j) where
 
     installed_from : (i number : ℕ) (digest : List ℕ) → IsCorrect c j.faulty i → HasDone (Installed number digest) (j.rows i) → IsInstalledFrom c entries number digest
     installed_from i number digest correct done =
-        let w = told i correct in
+        let w = reported i correct in
         let a = done_from c i (j.signer i) (Installed number digest) [] (j.rows i) (start i) w.last w.lawful done in
         let e = installed_act number digest a.0 a.3 in
         let point : IsEarlier (Install number e.0 e.1 ∷ a.1) (family.acts i) =
@@ -220,10 +220,10 @@ module _ (c : Setup) (j : Journals) (h : IsHonestFamily c j) where
 
     replied : (i : ℕ) (rows rest : List Row) (row : Row) (output : Output) (b : ReplyBody) → IsCorrect c j.faulty i → j.rows i ≡ rows ++ row ∷ rest
         → IsIn output row.outputs → output.own ≡ true → output.message.body ≡ bodies.Reply b
-        → (number : ℕ) × (number ≤ greatest_in (rows ++ row ∷ [])) × IsKeptAt c entries number b
-    replied i rows rest row output b correct is within own body_is = at (told i correct).last (told i correct).lawful (told i correct).is where
+        → (number : ℕ) × (number ≤ greatest_in (rows ++ row ∷ [])) × IsLastReplyAt c entries number b
+    replied i rows rest row output b correct is within own body_is = at (reported i correct).last (reported i correct).lawful (reported i correct).is where
       Goal : Type 0
-      Goal = (number : ℕ) × (number ≤ greatest_in (rows ++ row ∷ [])) × IsKeptAt c entries number b
+      Goal = (number : ℕ) × (number ≤ greatest_in (rows ++ row ∷ [])) × IsLastReplyAt c entries number b
 
       here : (last : Core) (v : IsLawfulFrom c i (start i) (rows ++ row ∷ rest) last) → family.acts i ≡ acts_from c i (j.signer i) [] (rows ++ row ∷ rest) (start i) last v → Goal
       here last v same =

@@ -12,7 +12,7 @@ use Rattle.pbft_model.specs.Setup.{Setup, primary, replicas, signer_after, is_le
 use Rattle.pbft_model.specs.Tables.{Key, Table, at, entries_in, keep, number_key, vote_key, checkpoint_key, change_key, add_if, is_above}
 use Rattle.pbft_model.specs.Certificates.{Fields, of_pre_prepare, is_by}
 use Rattle.pbft_model.specs.Validity.{is_valid, is_valid_new_view}
-use Rattle.pbft_model.specs.Core.{Core, is_placed, is_prepared, pre_prepare_at, prepared_at, certificate_of, is_matching, with_certificate, with_certificates, inside}
+use Rattle.pbft_model.specs.Core.{Core, has_position, is_prepared, pre_prepare_at, prepared_at, certificate_of, is_matching, with_certificate, with_certificates, inside}
 use Rattle.pbft_model.specs.Acts.{Act, Destination, Take, Timeout, Send, Relay, Enter, Rise, Execute, Install, after, said, recorded, entered, opened_by, with_list, left_for, left_if_above, add_pre_prepares, add_checkpoints, add_change, with_body}
 use Rattle.pbft_model.specs.Rules.{Allowed, MaySay, MaySend, view_change_of, signed_list, new_view_of}
 use Rattle.pbft_model.specs.Histories.{core_after, IsEarlier, IsIn, HasSigned, Family, IsCorrect, IsReal, IsUnforged, signed_in, listed_in}
@@ -113,7 +113,7 @@ module _ (c : Setup) (family : Family) where
   real_made s h n m e =
       let found = (passed (λ p. is_prepared c s (of_pre_prepare p.body)) (pre_prepare_at c s s.view n) m e).0 in
       record {
-        pre_prepare = h.0 (vote_key n s.view (primary c s.view)) m ((passed (is_by (primary c s.view) (is_placed s.view n)) (at s.pre_prepares (vote_key n s.view (primary c s.view))) m found).0);
+        pre_prepare = h.0 (vote_key n s.view (primary c s.view)) m ((passed (is_by (primary c s.view) (has_position s.view n)) (at s.pre_prepares (vote_key n s.view (primary c s.view))) m found).0);
         prepares = λ p is.
             let w = from_gathered (is_least (2 * c.config.f) (is_matching c s (of_pre_prepare m.body))) (λ i. at s.prepares (vote_key m.body.number.0 m.body.view.0 i)) (replicas c) p is in
             h.1 (vote_key m.body.number.0 m.body.view.0 w.0) p w.2;
@@ -158,21 +158,21 @@ module _ (c : Setup) (family : Family) where
   real_said : (s : Core) (m : Signed Body) (b : Body) → m.body ≡ b → IsReal c family (part_of m)
       → ((n : NewView) → b ≡ bodies.NewView n → (p : Signed PrePrepare) → IsIn p n.pre_prepares → RealAs bodies.PrePrepare p)
       → ((v : ViewChange) → b ≡ bodies.ViewChange v → v ≡ view_change_of c s v.view.0) → RealCore s → RealCore (said c s m b)
-  real_said s m (bodies.Request b) e real listed told h = h
-  real_said s m (bodies.PrePrepare b) e real listed told h =
+  real_said s m (bodies.Request b) e real listed complete h = h
+  real_said s m (bodies.PrePrepare b) e real listed complete h =
       (added bodies.PrePrepare _ (vote_key b.number.0 b.view.0 m.id) (with_body m b) s.pre_prepares (part_as m (bodies.PrePrepare b) e real) h.0, h.1, h.2, h.3, h.4, h.5, h.6)
-  real_said s m (bodies.Prepare b) e real listed told h =
+  real_said s m (bodies.Prepare b) e real listed complete h =
       (h.0, added bodies.Prepare _ (vote_key b.number.0 b.view.0 m.id) (with_body m b) s.prepares (part_as m (bodies.Prepare b) e real) h.1, h.2, h.3, h.4, h.5, h.6)
-  real_said s m (bodies.Commit b) e real listed told h =
+  real_said s m (bodies.Commit b) e real listed complete h =
       (h.0, h.1, added bodies.Commit _ (vote_key b.number.0 b.view.0 m.id) (with_body m b) s.commits (part_as m (bodies.Commit b) e real) h.2, h.3, h.4, h.5, h.6)
-  real_said s m (bodies.Reply b) e real listed told h = h
-  real_said s m (bodies.Checkpoint b) e real listed told h =
+  real_said s m (bodies.Reply b) e real listed complete h = h
+  real_said s m (bodies.Checkpoint b) e real listed complete h =
       (h.0, h.1, h.2, added bodies.Checkpoint _ (checkpoint_key b.number.0 m.id) (with_body m b) s.checkpoints (part_as m (bodies.Checkpoint b) e real) h.3, h.4, h.5, h.6)
-  real_said s m (bodies.ViewChange b) e real listed told h =
+  real_said s m (bodies.ViewChange b) e real listed complete h =
       let k = real_left s b.view.0 h in
       let own : RealChange (with_body m b) = record {
         own = part_as m (bodies.ViewChange b) e real;
-        certificates = λ x is. real_with s h (inside c s) x (subst (λ (xs : List Certificate). IsIn x xs) (ap (λ v. v.certificates) (told b refl)) is);
+        certificates = λ x is. real_with s h (inside c s) x (subst (λ (xs : List Certificate). IsIn x xs) (ap (λ v. v.certificates) (complete b refl)) is);
       } in
       (k.0, k.1, k.2, k.3, k.4, (λ q y is. change_added own (left_for c s b.view.0).changes k.5 q y is), k.6) where
         change_added : RealChange (with_body m b) → (t : Table (Signed ViewChange)) → ((q : Key) (y : Signed ViewChange) → at t q ≡ Some y → RealChange y) → (q : Key) (y : Signed ViewChange)
@@ -181,10 +181,10 @@ module _ (c : Setup) (family : Family) where
           | inl w ↦ subst (λ (z : Signed ViewChange). RealChange z) w.1 own
           | inr was ↦ old q y was
         ]
-  real_said s m (bodies.NewView b) e real listed told h = real_entered s b h (listed b refl)
-  real_said s m (bodies.Fetch (fetches.Request d)) e real listed told h = h
-  real_said s m (bodies.Fetch (fetches.State n)) e real listed told h = h
-  real_said s m (bodies.Snapshot b) e real listed told h = h
+  real_said s m (bodies.NewView b) e real listed complete h = real_entered s b h (listed b refl)
+  real_said s m (bodies.Fetch (fetches.Request d)) e real listed complete h = h
+  real_said s m (bodies.Fetch (fetches.State n)) e real listed complete h = h
+  real_said s m (bodies.Snapshot b) e real listed complete h = h
 
   real_recorded : (s : Core) (m : Signed Body) (b : Body) (reading : Option Service) → m.body ≡ b → RealMessage m → RealCore s
       → RealCore (record (recorded c s m b) { taken = Some m; reading = reading; is_fresh = true; timed_out = false })
@@ -273,8 +273,8 @@ module _ (c : Setup) (family : Family) where
   opens : (me : ℕ) (s : Core) (b : Body) (n : NewView) → MaySay c me s b → b ≡ bodies.NewView n → n ≡ new_view_of c me s
   opens me s b n says e = (subst (λ (x : Body). MaySay c me s x) e says).is
 
-  tells : (me : ℕ) (s : Core) (b : Body) (v : ViewChange) → MaySay c me s b → b ≡ bodies.ViewChange v → v ≡ view_change_of c s v.view.0
-  tells me s b v says e = (subst (λ (x : Body). MaySay c me s x) e says).tells_all
+  says_view_change : (me : ℕ) (s : Core) (b : Body) (v : ViewChange) → MaySay c me s b → b ≡ bodies.ViewChange v → v ≡ view_change_of c s v.view.0
+  says_view_change me s b v says e = (subst (λ (x : Body). MaySay c me s x) e says).reports_all
 
   real_sent : (me : ℕ) (to : Destination) (m : Signed Body) (early : List Act) (s : Core) → IsEarlier (Send to m ∷ early) (family.acts me) → MaySend c me s m → RealCore s → RealCore (after c s (Send to m))
   real_sent me to m early s is ok h =
@@ -282,7 +282,7 @@ module _ (c : Setup) (family : Family) where
       (λ n e p within. own_real me to m early is (part_of (as_message bodies.PrePrepare p))
       (inr (in_map (λ p. part_of (as_message bodies.PrePrepare p)) (listed_in m.body) p (subst (λ (b : Body). IsIn p (listed_in b)) (sym e) within)))
       (listed_by me _ s.signer p (subst (λ (ps : List (Signed PrePrepare)). IsIn p ps) (ap (λ v. v.pre_prepares) (opens me s m.body n ok.says e)) within)))
-      (λ v e. tells me s m.body v ok.says e) h
+      (λ v e. says_view_change me s m.body v ok.says e) h
 
   real_discarded : (s : Core) (n : ℕ) → RealCore s → RealTable bodies.PrePrepare (keep (is_above n) s.pre_prepares) × RealTable bodies.Prepare (keep (is_above n) s.prepares) × RealTable bodies.Commit (keep (is_above n) s.commits)
       × RealTable bodies.Checkpoint (keep (is_above n) s.checkpoints)

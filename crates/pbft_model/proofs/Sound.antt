@@ -100,7 +100,7 @@ module _ (c : Setup) where
   sound_said me s m (bodies.Checkpoint b) says h = h
   sound_said me s m (bodies.ViewChange b) says h =
       let l = left_sound s b.view.0 says.higher h in
-      let own : is_valid c b ≡ true = subst (λ (v : ViewChange). is_valid c v ≡ true) (sym says.tells_all) (view_change_made c s b.view.0 says.higher h.3 h.4) in (
+      let own : is_valid c b ≡ true = subst (λ (v : ViewChange). is_valid c v ≡ true) (sym says.reports_all) (view_change_made c s b.view.0 says.higher h.3 h.4) in (
         l.0,
         l.1,
         (λ q p e. elim (found_add (true && is_awaited (left_for c s b.view.0) b.view.0) (left_for c s b.view.0).changes (change_key b.view.0 m.id) q (with_body m b) p e) [

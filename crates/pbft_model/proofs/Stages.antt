@@ -8,7 +8,7 @@ use Rattle.pbft_codec.specs.declared.body.Body.TheVariants as bodies
 use Rattle.pbft_model.specs.Setup.{Setup, primary, replicas, span, count, numbers_from, is_replica}
 use Rattle.pbft_model.specs.Tables.{Table, at, with_entry, number_key, vote_key, first_in}
 use Rattle.pbft_model.specs.Certificates.{Fields, of_pre_prepare, of_prepare, same_fields, is_by, some_by, voted, certified}
-use Rattle.pbft_model.specs.Core.{Core, is_certified, is_prepared, is_known, is_placed, pre_prepare_at, prepared_at, certificate_of, with_certificate, with_certificates, kept_on_leaving, inside}
+use Rattle.pbft_model.specs.Core.{Core, is_certified, is_prepared, is_known, has_position, pre_prepare_at, prepared_at, certificate_of, with_certificate, with_certificates, kept_on_leaving, inside}
 use Rattle.pbft_model.specs.Acts.{Act, Take, Timeout, Send, Relay, Enter, Rise, Execute, Install, after, said, acted, signed_once_more, entered, left_for, is_awaited}
 use Rattle.pbft_model.specs.Rules.{Allowed, MaySay}
 use Rattle.pbft_model.specs.Duties.{among}
@@ -161,7 +161,7 @@ proposed_keeps c n s t calm h = let low = calm.3 in elim (cases_lt t.low n) [
   | inr below ↦ inl below
 ]
 
--- the PrePrepare recorded at a place has this digest
+-- the PrePrepare recorded for a view and number has this digest
 abbrev pub Holds : ℕ → ℕ → ℕ → List ℕ → Core → Type 0
 Holds n view leader digest s = (n ≤ s.low) ⊎ ((m : Signed PrePrepare) × (at s.pre_prepares (vote_key n view leader) ≡ Some m) × (m.body.digest.0 ≡ digest))
 
@@ -190,20 +190,20 @@ pub prepared_is : (c : Setup) (s : Core) (n : ℕ) (m : Signed PrePrepare) → p
     → (m.body.view.0 ≡ s.view) × (m.body.number.0 ≡ n) × (is_prepared c s (of_pre_prepare m.body) ≡ true) × (m.role ≡ Replica) × (m.id ≡ primary c s.view)
 prepared_is c s n m e =
     let w = passed (λ p. is_prepared c s (of_pre_prepare p.body)) (pre_prepare_at c s s.view n) m e in
-    let v = passed (is_by (primary c s.view) (is_placed s.view n)) (at s.pre_prepares (vote_key n s.view (primary c s.view))) m w.0 in
-    let by = by_is (primary c s.view) (is_placed s.view n) m v.1 in
-    let place = and_parts (m.body.view.0 == s.view) (m.body.number.0 == n) by.2 in
-    (eqb-true _ _ place.0, eqb-true _ _ place.1, w.1, by.0, by.1)
+    let v = passed (is_by (primary c s.view) (has_position s.view n)) (at s.pre_prepares (vote_key n s.view (primary c s.view))) m w.0 in
+    let by = by_is (primary c s.view) (has_position s.view n) m v.1 in
+    let position = and_parts (m.body.view.0 == s.view) (m.body.number.0 == n) by.2 in
+    (eqb-true _ _ position.0, eqb-true _ _ position.1, w.1, by.0, by.1)
 
 pub prepared_from : (c : Setup) (s : Core) (x : Fields) → x.view ≡ s.view → is_certified c s x ≡ true → is_known c s x.digest ≡ true → (m : Signed PrePrepare) × (prepared_at c s x.number ≡ Some m) × (of_pre_prepare m.body ≡ x)
 prepared_from c s x view e known =
     let w = voted_is of_pre_prepare s.pre_prepares x (primary c x.view) ((and_parts _ _ e).0) in
     let by = by_is (primary c x.view) (λ b. same_fields (of_pre_prepare b) x) w.0 w.2 in
     let same = fields_are (of_pre_prepare w.0.body) x by.2 in
-    let placed : is_by (primary c x.view) (is_placed x.view x.number) w.0 ≡ true =
-    is_by_from (primary c x.view) (λ b. same_fields (of_pre_prepare b) x) (is_placed x.view x.number) w.0
+    let at_position : is_by (primary c x.view) (has_position x.view x.number) w.0 ≡ true =
+    is_by_from (primary c x.view) (λ b. same_fields (of_pre_prepare b) x) (has_position x.view x.number) w.0
     (λ _. and_from _ _ (eq-eqb _ _ (ap (λ (y : Fields). y.view) same)) (eq-eqb _ _ (ap (λ (y : Fields). y.number) same))) w.2 in
-    let found : pre_prepare_at c s x.view x.number ≡ Some w.0 = passes (is_by (primary c x.view) (is_placed x.view x.number)) (at s.pre_prepares (vote_key x.number x.view (primary c x.view))) w.0 w.1 placed in
+    let found : pre_prepare_at c s x.view x.number ≡ Some w.0 = passes (is_by (primary c x.view) (has_position x.view x.number)) (at s.pre_prepares (vote_key x.number x.view (primary c x.view))) w.0 w.1 at_position in
     let found' : pre_prepare_at c s s.view x.number ≡ Some w.0 = subst (λ (v : ℕ). pre_prepare_at c s v x.number ≡ Some w.0) view found in
     let prepared : is_prepared c s (of_pre_prepare w.0.body) ≡ true = subst (λ (y : Fields). is_prepared c s y ≡ true) (sym same) (and_from _ _ e known) in
     (w.0, passes (λ p. is_prepared c s (of_pre_prepare p.body)) (pre_prepare_at c s s.view x.number) w.0 found' prepared, same)

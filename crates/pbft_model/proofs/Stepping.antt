@@ -20,17 +20,17 @@ use Rattle.pbft_model.specs.Setup.{Setup, null_digest, request_in}
 use Rattle.pbft_model.specs.Core.{Core, start_of, held_with, is_named, request_of}
 use Rattle.pbft_model.specs.Acts.{Act, Take, Timeout, Send, Relay, Enter, Rise, Execute, Install, after}
 use Rattle.pbft_model.specs.Duties.{Duty, Do, Executing, WornOut, due}
-use Rattle.pbft_model.specs.Rows.{Row, Input, Fulfils, Follows, Begins, IsLawfulFrom, Lacks, Exhausted, Worn, leaves_for, GoesOn}
+use Rattle.pbft_model.specs.Rows.{Row, Input, Fulfils, Follows, Begins, IsLawfulFrom, Lacks, Exhausted, Worn, leaves_for, Continues}
 use Rattle.pbft_model.specs.Rules.{Allowed}
 use Rattle.pbft_model.specs.Histories.{core_after, IsHistory, HasTaken, IsIn}
 use Rattle.pbft_model.specs.Received.{TakesBytes, ReceivesBytes}
 use Rattle.pbft_model.proofs.Events.{now}
 use Rattle.pbft_model.proofs.Origins.{recorded_keeps, said_keeps, left_keeps}
 use Rattle.pbft_model.proofs.Holdings.{from_find, just_taken, held_taken}
-use Rattle.pbft_model.proofs.Fitting.{held_opened, fits_at}
+use Rattle.pbft_model.proofs.Fitting.{held_opened, in_step_at}
 use Rattle.pbft_model.proofs.Rowed.{begun}
 use Rattle.pbft_model.proofs.Leaves.{signer_by, signer_begins}
-use Rattle.pbft_model.proofs.Telling.{pushed, taken_before, acts_from, core_from, history_from, core_follows, history_follows, reactions, begins_take, taken_from}
+use Rattle.pbft_model.proofs.Reporting.{pushed, taken_before, acts_from, core_from, history_from, core_follows, history_follows, reactions, begins_take, taken_from}
 
 abbrev AreBytes : List ℕ → Type 0
 AreBytes bytes = All (λ byte. byte < 256) bytes
@@ -120,7 +120,7 @@ module _ (c : Setup) (me : ℕ) (signer : SigningState) (configuration : IsConfi
       → (service : Service) × (outcome : Outcome) × IsStep (core_after c signer acts).service (request_of c (core_after c signer acts) digest) service outcome
   service_steps acts is bytes digest =
       let s = core_after c signer acts in
-      let fits = fits_at c me signer configuration acts is in
+      let fits = in_step_at c me signer configuration acts is in
       step_exists s.service (request_of c s digest) fits.sound.bounded.same_tenants fits.sound.sound (maps_at acts is bytes)
       (subst (λ (config : Configuration). IfSome (request_of c s digest) (CanAsk config)) (sym fits.config_is) (asked acts is bytes digest))
 
@@ -134,9 +134,9 @@ module _ (c : Setup) (me : ℕ) (signer : SigningState) (configuration : IsConfi
 
   -- ---- what is due is done, or halts the replica
 
-  pub goes_on : (acts : List Act) → IsHistory c me signer acts → TakesBytes acts → (let s = core_after c signer acts in s.signer.next_leaf ≤ leaf_count s.signer) → GoesOn c me (core_after c signer acts)
-  goes_on acts is bytes spare = cases (due c me (core_after c signer acts)) refl where
-    cases : (d : Option Duty) → due c me (core_after c signer acts) ≡ d → GoesOn c me (core_after c signer acts)
+  pub continues : (acts : List Act) → IsHistory c me signer acts → TakesBytes acts → (let s = core_after c signer acts in s.signer.next_leaf ≤ leaf_count s.signer) → Continues c me (core_after c signer acts)
+  continues acts is bytes spare = cases (due c me (core_after c signer acts)) refl where
+    cases : (d : Option Duty) → due c me (core_after c signer acts) ≡ d → Continues c me (core_after c signer acts)
     cases None e = inl e
     cases (Some (Do a)) e = elim (cases_lt (leaf_count (core_after c signer acts).signer) ((core_after c signer acts).signer.next_leaf + leaves_for a)) [
       | inl few ↦ inr (inr (Exhausted, subst (λ (d : Option Duty). Lacks (core_after c signer acts) d Exhausted) (sym e) few))
@@ -164,10 +164,10 @@ module _ (c : Setup) (me : ℕ) (signer : SigningState) (configuration : IsConfi
   spares_rows (row ∷ rows) s t spare (u, next, rest) =
       spares_rows rows u t (spares_follows next.acts (after c s next.first) u (spares_begins s row.input next.first next.begins spare) next.reacts.follows) rest
 
-  pub row_goes_on : Spares signer → (rows : List Row) (s : Core) → IsLawfulFrom c me (start_of c signer) rows s → (input : Input) → ReceivesBytes rows input
-      → (first : Act) → Begins c input first → (acts : List Act) (t : Core) → Follows c me (after c s first) acts t → GoesOn c me t
-  row_goes_on spare rows s lawful input bytes first begins acts t follows =
-      subst (GoesOn c me) comes (goes_on all is given (subst (λ (x : Core). Spares x.signer) (sym comes) last)) where
+  pub row_continues : Spares signer → (rows : List Row) (s : Core) → IsLawfulFrom c me (start_of c signer) rows s → (input : Input) → ReceivesBytes rows input
+      → (first : Act) → Begins c input first → (acts : List Act) (t : Core) → Follows c me (after c s first) acts t → Continues c me t
+  row_continues spare rows s lawful input bytes first begins acts t follows =
+      subst (Continues c me) comes (continues all is given (subst (λ (x : Core). Spares x.signer) (sym comes) last)) where
         early : List Act
         early = acts_from c me signer [] rows (start_of c signer) s lawful
 

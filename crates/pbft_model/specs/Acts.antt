@@ -210,7 +210,7 @@ said c s m (bodies.NewView b) =
 said c s m (bodies.Fetch b) = asked s b
 said c s m (bodies.Snapshot b) = s
 
--- an act was done: what is judged as a message comes is judged no more
+-- an act was done: what is asked as a message comes is asked no more
 abbrev pub acted : Core → Core
 acted s = record s { is_fresh = false; timed_out = false }
 

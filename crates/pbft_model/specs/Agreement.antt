@@ -80,7 +80,7 @@ pub record IsServed (c : Setup) (entries : List (Option (Signed RequestBody))) (
   pub serves : ServesFirst c entries number state (earlier ++ outcome ∷ [])
 
 -- A reply is the last one to its client after this number of entries.
-pub record IsKeptAt (c : Setup) (entries : List (Option (Signed RequestBody))) (number : ℕ) (b : ReplyBody) : Type 0 where
+pub record IsLastReplyAt (c : Setup) (entries : List (Option (Signed RequestBody))) (number : ℕ) (b : ReplyBody) : Type 0 where
   pub not_zero : 1 ≤ number
   pub within : number ≤ length entries
   pub state : Service
@@ -97,7 +97,7 @@ pub record AgreesOn (c : Setup) (family : Family) (entries : List (Option (Signe
       → HoldsState c entries (core_after c (family.signer i) acts)
   pub executed : (i number : ℕ) (digest : List ℕ) (w : HasExecuted c family i number digest) → IsServed c entries number digest w.service w.outcome
   pub replies : (i : ℕ) (to : Destination) (m : Signed Body) (b : ReplyBody) (early : List Act) → IsCorrect c family.faulty i
-      → IsEarlier (Send to m ∷ early) (family.acts i) → m.body ≡ bodies.Reply b → IsKeptAt c entries (core_after c (family.signer i) early).executed b
+      → IsEarlier (Send to m ∷ early) (family.acts i) → m.body ≡ bodies.Reply b → IsLastReplyAt c entries (core_after c (family.signer i) early).executed b
 
 abbrev pub AgreesByNumber : Setup → Family → Type 0
 AgreesByNumber c family = (entries : List (Option (Signed RequestBody))) × AgreesOn c family entries

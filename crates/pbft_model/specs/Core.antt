@@ -138,13 +138,13 @@ abbrev pub if_passes : {X : Type 0} → (X → Bool) → Option X → Option X
 if_passes test None = None
 if_passes test (Some x) = if test x then Some x else None
 
-abbrev pub is_placed : ℕ → ℕ → PrePrepare → Bool
-is_placed view number p = p.view.0 == view && p.number.0 == number
+abbrev pub has_position : ℕ → ℕ → PrePrepare → Bool
+has_position view number p = p.view.0 == view && p.number.0 == number
 
 -- the PrePrepare of the view's primary for a number
 abbrev pub pre_prepare_at : Setup → Core → ℕ → ℕ → Option (Signed PrePrepare)
 pre_prepare_at c s view number =
-    if_passes (is_by (primary c view) (is_placed view number)) (at s.pre_prepares (vote_key number view (primary c view)))
+    if_passes (is_by (primary c view) (has_position view number)) (at s.pre_prepares (vote_key number view (primary c view)))
 
 abbrev pub is_certified : Setup → Core → Fields → Bool
 is_certified c s x = certified c (voted of_pre_prepare s.pre_prepares x) (voted of_prepare s.prepares x) x.view

@@ -12,7 +12,7 @@ use Rattle.pbft_model.specs.Histories.{Family}
 use Rattle.pbft_model.specs.Journals.{Journals}
 use Rattle.pbft_model.specs.Worked.{the_client, the_request, the_outcome, after_request, fresh, own, a_pre_prepare, a_prepare, a_commit, reply_in_view_0}
 
--- f = 1, one client, and a hash that tells the empty string, a request's bytes and a state's bytes apart by their first byte.
+-- f = 1, one client, and a hash that distinguishes the empty string, a request's bytes and a state's bytes by their first byte.
 -- Whatever secrets the signers have, the keys are theirs.
 abbrev pub tree_id : ℕ → List ℕ
 tree_id n = n ∷ replicate 15 0

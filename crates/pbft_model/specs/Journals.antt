@@ -1,5 +1,5 @@
 -- Statement: agreement over journals: what an honest family of journals is, and how one list of requests accounts for
--- all that its rows tell.
+-- all that its rows report.
 use Rattle.std.specs.Prelude.{◌≡◌, ◌⊎◌, ℕ, zero, suc, ◌-◌, ◌≤◌, ◌++◌, max, if◌then◌else◌, true, Bool, List, [], ◌∷◌, length, map, slice_get, Option, Some}
 use Rattle.std.specs.List.{AllByRecursion, flat_map}
 use Rattle.pbft_model.specs.Words.{SigningState, Signed, Body, RequestBody, ReplyBody, Snapshot, Replica, Part, IsConfiguration, as_message, part_of, messages_in, signed_text}
@@ -11,7 +11,7 @@ use Rattle.pbft_model.specs.Core.{Core, start_of}
 use Rattle.pbft_model.specs.Acts.{Act, Execute}
 use Rattle.pbft_model.specs.Rows.{Row, Received, Output, Done, Executed, Installed, IsNext, IsLawfulFrom, IsListed, result_of}
 use Rattle.pbft_model.specs.Histories.{IsIn, IsCorrect, signed_in}
-use Rattle.pbft_model.specs.Agreement.{entry_digest, IsAsked, ServesFirst, HoldsState, IsKeptAt}
+use Rattle.pbft_model.specs.Agreement.{entry_digest, IsAsked, ServesFirst, HoldsState, IsLastReplyAt}
 
 -- Who is faulty, the signer that each replica began with, and its rows, the oldest first.
 pub record Journals : Type 0 where
@@ -19,7 +19,7 @@ pub record Journals : Type 0 where
   pub signer : ℕ → SigningState
   pub rows : ℕ → List Row
 
--- ---- what rows tell
+-- ---- what rows report
 
 -- A message was received.
 abbrev pub HasReceived : Signed Body → List Row → Type 0
@@ -114,7 +114,7 @@ pub record IsInstalledFrom (c : Setup) (entries : List (Option (Signed RequestBo
   pub digest_is : digest ≡ c.hash (encoded state)
 
 -- One list of requests, as long as the greatest number reached, accounts for all that the journals of correct replicas
--- tell: every state after a row, every execution, every installation and every reply.
+-- report: every state after a row, every execution, every installation and every reply.
 pub record AgreesOver (c : Setup) (j : Journals) (entries : List (Option (Signed RequestBody))) : Type 0 where
   pub as_long : length entries ≡ greatest_among j (replicas c)
   pub asked : AllByRecursion (IsAsked c) entries
@@ -126,7 +126,7 @@ pub record AgreesOver (c : Setup) (j : Journals) (entries : List (Option (Signed
       → IsInstalledFrom c entries number digest
   pub replies : (i : ℕ) (rows rest : List Row) (row : Row) (output : Output) (b : ReplyBody) → IsCorrect c j.faulty i → j.rows i ≡ rows ++ row ∷ rest
       → IsIn output row.outputs → output.own ≡ true → output.message.body ≡ bodies.Reply b
-      → (number : ℕ) × (number ≤ greatest_in (rows ++ row ∷ [])) × IsKeptAt c entries number b
+      → (number : ℕ) × (number ≤ greatest_in (rows ++ row ∷ [])) × IsLastReplyAt c entries number b
 
 abbrev pub Agrees : Setup → Journals → Type 0
 Agrees c j = (entries : List (Option (Signed RequestBody))) × AgreesOver c j entries

@@ -148,8 +148,8 @@ Lacks s (Some (Do a)) Worn = ⊥
 Lacks s (Some (Executing number digest)) halt = ⊥
 
 -- Nothing is due; or an act does what is due, and has its leaves; or what is due halts the replica.
-abbrev pub GoesOn : Setup → ℕ → Core → Type 0
-GoesOn c me s =
+abbrev pub Continues : Setup → ℕ → Core → Type 0
+Continues c me s =
     (due c me s ≡ None)
     ⊎ (((a : Act) × Fulfils c s (due c me s) a × HasLeaves s a)
     ⊎ ((halt : Halt) × Lacks s (due c me s) halt))

@@ -117,10 +117,10 @@ pub record MayCheckpoint (c : Setup) (s : Core) (b : Checkpoint) : Type 0 where
   pub number_is : b.number.0 ≡ s.executed
   pub digest_is : b.digest.0 ≡ c.hash (encoded s.service)
 
--- A ViewChange leaves the view for a higher one, and tells all.
+-- A ViewChange leaves the view for a higher one, and reports all.
 pub record MayChange (c : Setup) (s : Core) (b : ViewChange) : Type 0 where
   pub higher : s.view < b.view.0
-  pub tells_all : b ≡ view_change_of c s b.view.0
+  pub reports_all : b ≡ view_change_of c s b.view.0
 
 -- The primary of the view that it changes to opens it, by a valid NewView.
 pub record MayOpen (c : Setup) (me : ℕ) (s : Core) (b : NewView) : Type 0 where

@@ -15,7 +15,7 @@ use Rattle.pbft_model.specs.Acts.{Act, Rise, Install, Take, Timeout, Send, Enter
 use Rattle.pbft_model.specs.Rules.{pre_prepare_of}
 use Rattle.pbft_model.specs.Rows.{Reacts}
 
--- f = 1, k = 2, and a hash that tells nothing from something
+-- f = 1, k = 2, and a hash that distinguishes nothing from something
 abbrev pub toy_hash : List ℕ → List ℕ
 toy_hash [] = 0 ∷ []
 toy_hash (x ∷ xs) = 1 ∷ []
@@ -51,8 +51,8 @@ Works c me s ((first ∷ acts) ∷ rest) = Reacts c me (after c s first) acts (t
 abbrev pub the_request : Signed RequestBody
 the_request = record { role = Client; id = 100; body = record { time = 1; op = 7 ∷ [] }; sig = [] }
 
-abbrev pub at_place : ℕ → ℕ → List ℕ → Fields
-at_place view number digest = record { view = view; number = number; digest = digest }
+abbrev pub fields_at : ℕ → ℕ → List ℕ → Fields
+fields_at view number digest = record { view = view; number = number; digest = digest }
 
 abbrev pub from_replica : ℕ → Body → Signed Body
 from_replica id body = record { role = Replica; id = id; body = body; sig = [] }
@@ -135,7 +135,7 @@ typed id body = record { role = Replica; id = id; body = body; sig = [] }
 -- what replica 1 prepared at 2 in view 0: the PrePrepare, and the two Prepares of least signers, its own among them
 abbrev pub prepared_at_two : SigningState → Certificate
 prepared_at_two signer = record {
-  pre_prepare = typed 0 (pre_prepare_of (at_place 0 2 (1 ∷ [])));
+  pre_prepare = typed 0 (pre_prepare_of (fields_at 0 2 (1 ∷ [])));
   prepares = signed_by bodies.Prepare signer 1 (record { view = record { 0 = 0 }; number = record { 0 = 2 }; digest = record { 0 = 1 ∷ [] } })
       ∷ typed 2 (record { view = record { 0 = 0 }; number = record { 0 = 2 }; digest = record { 0 = 1 ∷ [] } })
       ∷ [];
@@ -153,8 +153,8 @@ abbrev pub own_new_view : SigningState → NewView
 own_new_view signer = record {
   view = record { 0 = 1 };
   changes = signed_by bodies.ViewChange (signer_after signer 2) 1 (own_view_change signer) ∷ typed 2 empty_view_change ∷ typed 3 empty_view_change ∷ [];
-  pre_prepares = signed_by bodies.PrePrepare (signer_after signer 3) 1 (pre_prepare_of (at_place 1 1 (0 ∷ [])))
-      ∷ signed_by bodies.PrePrepare (signer_after signer 4) 1 (pre_prepare_of (at_place 1 2 (1 ∷ [])))
+  pre_prepares = signed_by bodies.PrePrepare (signer_after signer 3) 1 (pre_prepare_of (fields_at 1 1 (0 ∷ [])))
+      ∷ signed_by bodies.PrePrepare (signer_after signer 4) 1 (pre_prepare_of (fields_at 1 2 (1 ∷ [])))
       ∷ [];
 }
 
@@ -182,14 +182,14 @@ others_new_view = record {
     low = record { 0 = 0 };
     checkpoints = [];
     certificates = record {
-      pre_prepare = typed 0 (pre_prepare_of (at_place 0 2 (1 ∷ [])));
+      pre_prepare = typed 0 (pre_prepare_of (fields_at 0 2 (1 ∷ [])));
       prepares = typed 1 (record { view = record { 0 = 0 }; number = record { 0 = 2 }; digest = record { 0 = 1 ∷ [] } })
           ∷ typed 2 (record { view = record { 0 = 0 }; number = record { 0 = 2 }; digest = record { 0 = 1 ∷ [] } })
           ∷ [];
     } ∷ [];
   })
       ∷ typed 2 empty_view_change ∷ typed 3 empty_view_change ∷ [];
-  pre_prepares = typed 1 (pre_prepare_of (at_place 1 1 (0 ∷ []))) ∷ typed 1 (pre_prepare_of (at_place 1 2 (1 ∷ []))) ∷ [];
+  pre_prepares = typed 1 (pre_prepare_of (fields_at 1 1 (0 ∷ []))) ∷ typed 1 (pre_prepare_of (fields_at 1 2 (1 ∷ []))) ∷ [];
 }
 
 abbrev pub joining_view : List ℕ → List ℕ → List (List Act)

@@ -15,7 +15,7 @@ ghost use Rattle.pbft_model.specs.Journals.{Journals, HasDone, HasGiven, IsHones
 ghost use Rattle.pbft_model.specs.Core.{Core, request_of, start_of};
 ghost use Rattle.pbft_model.specs.Duties.{Executing, due, NothingBefore};
 ghost use Rattle.pbft_model.specs.Received.{TakesBytes, ReceivesBytes};
-ghost use Rattle.pbft_model.specs.Rows.{HasLeaves, Row, Input, TimedOut, Halt, Exhausted, Worn, HaltsBy, Begins, Follows, Executed, Fulfils, GoesOn, IsLawfulFrom, IsNext, FollowsWithout, RepliesAlone, leaves_in};
+ghost use Rattle.pbft_model.specs.Rows.{HasLeaves, Row, Input, TimedOut, Halt, Exhausted, Worn, HaltsBy, Begins, Follows, Executed, Fulfils, Continues, IsLawfulFrom, IsNext, FollowsWithout, RepliesAlone, leaves_in};
 ghost use Rattle.pbft_model.specs.Rules.{Allowed};
 ghost use Rattle.pbft_model.specs.Sequential.{Service, Outcome, IsStep};
 ghost use Rattle.host_types.specs.Configuration.{IsConfiguration};
@@ -43,7 +43,7 @@ pub fn agreement_by_number()
 {}
 
 /// Agreement over journals: one list of requests accounts for all that the rows of an honest family
-/// tell, with no other premise.
+/// report, with no other premise.
 pub fn agreement()
     ensures { (c : Setup) (journals : Journals) → IsHonestFamily c journals → Agrees c journals }
 {}
@@ -88,10 +88,10 @@ pub fn an_execution_has_a_step()
 /// journal, if the rows' messages and the input's came so.
 pub fn a_duty_is_done_or_halts()
     ensures acts { (c : Setup) (me : ℕ) (signer : SigningState) → IsConfiguration c.config → (acts : List Act) → IsHistory c me signer acts → TakesBytes acts
-        → (core_after c signer acts).signer.next_leaf ≤ leaf_count (core_after c signer acts).signer → GoesOn c me (core_after c signer acts) }
+        → (core_after c signer acts).signer.next_leaf ≤ leaf_count (core_after c signer acts).signer → Continues c me (core_after c signer acts) }
     ensures rows { (c : Setup) (me : ℕ) (signer : SigningState) → IsConfiguration c.config → signer.next_leaf ≤ leaf_count signer
         → (rows : List Row) (s : Core) → IsLawfulFrom c me (start_of c signer) rows s → (input : Input) → ReceivesBytes rows input
-        → (first : Act) → Begins c input first → (acts : List Act) (t : Core) → Follows c me (after c s first) acts t → GoesOn c me t }
+        → (first : Act) → Begins c input first → (acts : List Act) (t : Core) → Follows c me (after c s first) acts t → Continues c me t }
 {}
 
 /// What is due comes to an end: whatever act does it, less is left to do.
@@ -107,7 +107,7 @@ pub fn a_journal_is_a_history()
 {}
 
 /// A lawful journal with the next row of its core is lawful. The core that it comes to is one, and its
-/// signer has used as many leaves as the rows tell.
+/// signer has used as many leaves as the rows report.
 pub fn a_journal_grows()
     ensures row { (c : Setup) (me : ℕ) (s t u : Core) (rows : List Row) (row : Row) → IsLawfulFrom c me s rows t → IsNext c me t row u
         → IsLawfulFrom c me s (rows ++ row ∷ []) u }
@@ -143,10 +143,10 @@ pub fn a_row_is_unique()
         → (row ≡ row') × (t ≡ t') }
 {}
 
-/// Where an input leads to from which a replica goes on, there is the input's row, or one act more, or the
+/// Where an input leads to from which a replica continues, there is the input's row, or one act more, or the
 /// input halts the replica.
 pub fn an_input_gives_a_row_or_a_halt()
-    ensures { (c : Setup) (me : ℕ) (s : Core) (input : Input) (first : Act) (acts : List Act) (t : Core) → Begins c input first → Follows c me (after c s first) acts t → GoesOn c me t
+    ensures { (c : Setup) (me : ℕ) (s : Core) (input : Input) (first : Act) (acts : List Act) (t : Core) → Begins c input first → Follows c me (after c s first) acts t → Continues c me t
         → ((row : Row) × (row.input ≡ input) × IsNext c me s row t)
         ⊎ (((a : Act) × Follows c me (after c s first) (acts ++ a ∷ []) (after c t a))
         ⊎ ((halt : Halt) × HaltsBy c me s input halt)) }
@@ -163,7 +163,7 @@ pub fn a_row_is_no_halt()
 pub fn timeouts_halt_a_replica()
     ensures exhausted { (id secret : List ℕ) → HaltsBy toy 1 (start_of toy (record (fresh id secret) { next_leaf = 32 })) TimedOut Exhausted }
     ensures worn { (id secret : List ℕ) → HaltsBy toy 1 (record (start_of toy (record (fresh id secret) { next_leaf = 32 })) { view = 4_294_967_295 }) TimedOut Worn }
-    ensures goes_on { (id secret : List ℕ) → Works toy 1 (start_of toy (record (fresh id secret) { next_leaf = 31 })) (timing_out id secret) }
+    ensures continues { (id secret : List ℕ) → Works toy 1 (start_of toy (record (fresh id secret) { next_leaf = 31 })) (timing_out id secret) }
 {}
 
 /// A worked history: a request through a backup up to its reply.

@@ -9,5 +9,5 @@ pub returns : goal.returns
 returns k = record {
   exhausted = λ id secret. record { first = Timeout; acts = []; last = after toy (start_of toy (record (fresh id secret) { next_leaf = 32 })) Timeout; begins = refl; follows = refl; lacks = omega arith };
   worn = λ id secret. record { first = Timeout; acts = []; last = after toy (record (start_of toy (record (fresh id secret) { next_leaf = 32 })) { view = 4_294_967_295 }) Timeout; begins = refl; follows = refl; lacks = tt };
-  goes_on = λ id secret. (record { follows = (refl, omega arith, refl); rests = refl }, tt);
+  continues = λ id secret. (record { follows = (refl, omega arith, refl); rests = refl }, tt);
 }
