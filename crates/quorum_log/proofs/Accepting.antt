@@ -10,7 +10,7 @@ use Rattle.pbft_model.specs.Words.{Signed}
 use Rattle.pbft_model.specs.Tables.{Key, vote_key, add_if}
 use Rattle.seal.specs.Opening.{CheckedMessage}
 use Rattle.seal.specs.declared.vote.VoteKind.{VoteKind}
-use Rattle.quorum_log.specs.declared.place.Place.{Place}
+use Rattle.quorum_log.specs.declared.view_slots.ViewSlots.{ViewSlots}
 use Rattle.quorum_log.specs.declared.slot.Slot.{Slot}
 use Rattle.quorum_log.specs.Slots.{empty_slot, with_vote}
 use Rattle.quorum_log.specs.Windows.{HasSlotAt, HaveSameWindows, slots_at, slot_of, vote_by, vote_at_key, keys_by_number}
@@ -21,25 +21,25 @@ use Rattle.quorum_log.proofs.Tables.{added_table, same_table, same_key, is_equal
 
 -- ---- the slot itself, and the others
 
-pub slot_here : (low number view : ℕ) (s : Slot) (ps news : List Place) → low < number → HasSlotAt (number - low - 1) view s ps news → slot_of low news number view ≡ s
-slot_here low number view s ps news lt h = ap (λ b. cond b (slots_at news (number - low - 1) view) empty_slot) (lt-ltb low number lt) ∙ h.here
+pub slot_here : (low number view : ℕ) (s : Slot) (numbers news : List ViewSlots) → low < number → HasSlotAt (number - low - 1) view s numbers news → slot_of low news number view ≡ s
+slot_here low number view s numbers news lt h = ap (λ b. cond b (slots_at news (number - low - 1) view) empty_slot) (lt-ltb low number lt) ∙ h.here
 
-pub slot_was : (low number view : ℕ) (ps : List Place) → low < number → slot_of low ps number view ≡ slots_at ps (number - low - 1) view
-slot_was low number view ps lt = ap (λ b. cond b (slots_at ps (number - low - 1) view) empty_slot) (lt-ltb low number lt)
+pub slot_was : (low number view : ℕ) (numbers : List ViewSlots) → low < number → slot_of low numbers number view ≡ slots_at numbers (number - low - 1) view
+slot_was low number view numbers lt = ap (λ b. cond b (slots_at numbers (number - low - 1) view) empty_slot) (lt-ltb low number lt)
 
 apart_index : (low number n view v : ℕ) → low < number → low < n → (n ≢ number) ⊎ (v ≢ view) → (n - low - 1 ≢ number - low - 1) ⊎ (v ≢ view)
 apart_index low number n view v lt below (inl ne) = inl (λ is. ne (omega (arith, is, lt, below)))
 apart_index low number n view v lt below (inr ne) = inr ne
 
-pub slot_apart : (low number view : ℕ) (s : Slot) (ps news : List Place) → low < number → HasSlotAt (number - low - 1) view s ps news → (n v : ℕ) → (n ≢ number) ⊎ (v ≢ view) → (low < n) ⊎ (n ≤ low) → slot_of low news n v ≡ slot_of low ps n v
-slot_apart low number view s ps news lt h n v apart (inl below) =
+pub slot_apart : (low number view : ℕ) (s : Slot) (numbers news : List ViewSlots) → low < number → HasSlotAt (number - low - 1) view s numbers news → (n v : ℕ) → (n ≢ number) ⊎ (v ≢ view) → (low < n) ⊎ (n ≤ low) → slot_of low news n v ≡ slot_of low numbers n v
+slot_apart low number view s numbers news lt h n v apart (inl below) =
     ap (λ b. cond b (slots_at news (n - low - 1) v) empty_slot) (lt-ltb low n below) ∙ h.elsewhere (n - low - 1) v (apart_index low number n view v lt below apart)
-    ∙ sym (ap (λ b. cond b (slots_at ps (n - low - 1) v) empty_slot) (lt-ltb low n below))
-slot_apart low number view s ps news lt h n v apart (inr le) =
-    ap (λ b. cond b (slots_at news (n - low - 1) v) empty_slot) (le-ltb low n le) ∙ sym (ap (λ b. cond b (slots_at ps (n - low - 1) v) empty_slot) (le-ltb low n le))
+    ∙ sym (ap (λ b. cond b (slots_at numbers (n - low - 1) v) empty_slot) (lt-ltb low n below))
+slot_apart low number view s numbers news lt h n v apart (inr le) =
+    ap (λ b. cond b (slots_at news (n - low - 1) v) empty_slot) (le-ltb low n le) ∙ sym (ap (λ b. cond b (slots_at numbers (n - low - 1) v) empty_slot) (le-ltb low n le))
 
-pub vote_key_at : (kind : VoteKind) (low : ℕ) (ps : List Place) (number view s : ℕ) (slot : Slot) → s < 10 → slot_of low ps number view ≡ slot → vote_at_key kind low ps (vote_key number view s) ≡ vote_by kind s slot
-vote_key_at kind low ps number view s slot lt e = ap (λ b. cond b (vote_by kind s (slot_of low ps number view)) None) (lt-ltb s 10 lt) ∙ ap (vote_by kind s) e
+pub vote_key_at : (kind : VoteKind) (low : ℕ) (numbers : List ViewSlots) (number view s : ℕ) (slot : Slot) → s < 10 → slot_of low numbers number view ≡ slot → vote_at_key kind low numbers (vote_key number view s) ≡ vote_by kind s slot
+vote_key_at kind low numbers number view s slot lt e = ap (λ b. cond b (vote_by kind s (slot_of low numbers number view)) None) (lt-ltb s 10 lt) ∙ ap (vote_by kind s) e
 
 -- ---- keys
 
@@ -63,7 +63,7 @@ pub data AtKey (number view signer : ℕ) (q : Key) : Type 0 where
   here : q ≡ vote_key number view signer → AtKey number view signer q
   other_signer : (s : ℕ) → q ≡ vote_key number view s → s ≢ signer → AtKey number view signer q
   other_slot : (n v s : ℕ) → q ≡ vote_key n v s → (n ≢ number) ⊎ (v ≢ view) → AtKey number view signer q
-  no_vote : q ≢ vote_key number view signer → ((kind : VoteKind) (low : ℕ) (ps : List Place) → vote_at_key kind low ps q ≡ None) → AtKey number view signer q
+  no_vote : q ≢ vote_key number view signer → ((kind : VoteKind) (low : ℕ) (numbers : List ViewSlots) → vote_at_key kind low numbers q ≡ None) → AtKey number view signer q
 
 key_cases : (number view signer n v s : ℕ) → (n ≡ number) ⊎ (n ≢ number) → (v ≡ view) ⊎ (v ≢ view) → (s ≡ signer) ⊎ (s ≢ signer) → AtKey number view signer (n ∷ v ∷ s ∷ [])
 key_cases number view signer n v s (inr ne) f g = other_slot n v s refl (inl ne)
@@ -72,11 +72,11 @@ key_cases number view signer n v s (inl e) (inl f) (inr ne) = other_signer s (λ
 key_cases number view signer n v s (inl e) (inl f) (inl g) = here (λ i. e i ∷ f i ∷ g i ∷ [])
 
 pub at_key : (number view signer : ℕ) (q : Key) → AtKey number view signer q
-at_key number view signer [] = no_vote (λ e. absurd cc) (λ kind low ps. refl)
-at_key number view signer (n ∷ []) = no_vote (λ e. absurd cc) (λ kind low ps. refl)
-at_key number view signer (n ∷ v ∷ []) = no_vote (λ e. absurd cc) (λ kind low ps. refl)
+at_key number view signer [] = no_vote (λ e. absurd cc) (λ kind low numbers. refl)
+at_key number view signer (n ∷ []) = no_vote (λ e. absurd cc) (λ kind low numbers. refl)
+at_key number view signer (n ∷ v ∷ []) = no_vote (λ e. absurd cc) (λ kind low numbers. refl)
 at_key number view signer (n ∷ v ∷ s ∷ []) = key_cases number view signer n v s (cases_eq n number) (cases_eq v view) (cases_eq s signer)
-at_key number view signer (n ∷ v ∷ s ∷ more ∷ rest) = no_vote (λ e. absurd cc) (λ kind low ps. refl)
+at_key number view signer (n ∷ v ∷ s ∷ more ∷ rest) = no_vote (λ e. absurd cc) (λ kind low numbers. refl)
 
 pub not_tied : (q k : Key) → q ≢ k → eq_by_cmp (slice_cmp nat_cmp) q k ≡ false
 not_tied q k ne = pick (cases_Bool (eq_by_cmp (slice_cmp nat_cmp) q k)) where
@@ -100,52 +100,52 @@ apart_keys n v s number view signer (inr ne) e = ne (view_of n v s number view s
 -- ---- the tables
 
 -- of another kind, the same votes
-votes_of_other : (kind other : VoteKind) (low number view : ℕ) (m : CheckedMessage) (ps news : List Place) → low < number → other ≢ kind
-    → HasSlotAt (number - low - 1) view (with_vote kind m (slots_at ps (number - low - 1) view)) ps news
-    → (n v s : ℕ) → (n ≡ number) ⊎ (n ≢ number) → (v ≡ view) ⊎ (v ≢ view) → vote_by other s (slot_of low news n v) ≡ vote_by other s (slot_of low ps n v)
-votes_of_other kind other low number view m ps news lt ne h n v s (inl e) (inl f) =
+votes_of_other : (kind other : VoteKind) (low number view : ℕ) (m : CheckedMessage) (numbers news : List ViewSlots) → low < number → other ≢ kind
+    → HasSlotAt (number - low - 1) view (with_vote kind m (slots_at numbers (number - low - 1) view)) numbers news
+    → (n v s : ℕ) → (n ≡ number) ⊎ (n ≢ number) → (v ≡ view) ⊎ (v ≢ view) → vote_by other s (slot_of low news n v) ≡ vote_by other s (slot_of low numbers n v)
+votes_of_other kind other low number view m numbers news lt ne h n v s (inl e) (inl f) =
     ap (λ n. vote_by other s (slot_of low news n v)) e ∙ ap (λ v. vote_by other s (slot_of low news number v)) f
-    ∙ ap (vote_by other s) (slot_here low number view (with_vote kind m (slots_at ps (number - low - 1) view)) ps news lt h)
-    ∙ other_kind kind other s m (slots_at ps (number - low - 1) view) ne
-    ∙ sym (ap (λ n. vote_by other s (slot_of low ps n v)) e ∙ ap (λ v. vote_by other s (slot_of low ps number v)) f ∙ ap (vote_by other s) (slot_was low number view ps lt))
-votes_of_other kind other low number view m ps news lt ne h n v s (inr e) f =
-    ap (vote_by other s) (slot_apart low number view (with_vote kind m (slots_at ps (number - low - 1) view)) ps news lt h n v (inl e) (cases_lt low n))
-votes_of_other kind other low number view m ps news lt ne h n v s (inl e) (inr f) =
-    ap (vote_by other s) (slot_apart low number view (with_vote kind m (slots_at ps (number - low - 1) view)) ps news lt h n v (inr f) (cases_lt low n))
+    ∙ ap (vote_by other s) (slot_here low number view (with_vote kind m (slots_at numbers (number - low - 1) view)) numbers news lt h)
+    ∙ other_kind kind other s m (slots_at numbers (number - low - 1) view) ne
+    ∙ sym (ap (λ n. vote_by other s (slot_of low numbers n v)) e ∙ ap (λ v. vote_by other s (slot_of low numbers number v)) f ∙ ap (vote_by other s) (slot_was low number view numbers lt))
+votes_of_other kind other low number view m numbers news lt ne h n v s (inr e) f =
+    ap (vote_by other s) (slot_apart low number view (with_vote kind m (slots_at numbers (number - low - 1) view)) numbers news lt h n v (inl e) (cases_lt low n))
+votes_of_other kind other low number view m numbers news lt ne h n v s (inl e) (inr f) =
+    ap (vote_by other s) (slot_apart low number view (with_vote kind m (slots_at numbers (number - low - 1) view)) numbers news lt h n v (inr f) (cases_lt low n))
 
-keys_of_other : (kind other : VoteKind) (low number view : ℕ) (m : CheckedMessage) (ps news : List Place) → low < number → other ≢ kind
-    → HasSlotAt (number - low - 1) view (with_vote kind m (slots_at ps (number - low - 1) view)) ps news
-    → (q : Key) → vote_at_key other low news q ≡ vote_at_key other low ps q
-keys_of_other kind other low number view m ps news lt ne h [] = refl
-keys_of_other kind other low number view m ps news lt ne h (n ∷ []) = refl
-keys_of_other kind other low number view m ps news lt ne h (n ∷ v ∷ []) = refl
-keys_of_other kind other low number view m ps news lt ne h (n ∷ v ∷ s ∷ []) =
-    ap (λ o. cond (nat_lt s 10) o None) (votes_of_other kind other low number view m ps news lt ne h n v s (cases_eq n number) (cases_eq v view))
-keys_of_other kind other low number view m ps news lt ne h (n ∷ v ∷ s ∷ more ∷ rest) = refl
+keys_of_other : (kind other : VoteKind) (low number view : ℕ) (m : CheckedMessage) (numbers news : List ViewSlots) → low < number → other ≢ kind
+    → HasSlotAt (number - low - 1) view (with_vote kind m (slots_at numbers (number - low - 1) view)) numbers news
+    → (q : Key) → vote_at_key other low news q ≡ vote_at_key other low numbers q
+keys_of_other kind other low number view m numbers news lt ne h [] = refl
+keys_of_other kind other low number view m numbers news lt ne h (n ∷ []) = refl
+keys_of_other kind other low number view m numbers news lt ne h (n ∷ v ∷ []) = refl
+keys_of_other kind other low number view m numbers news lt ne h (n ∷ v ∷ s ∷ []) =
+    ap (λ o. cond (nat_lt s 10) o None) (votes_of_other kind other low number view m numbers news lt ne h n v s (cases_eq n number) (cases_eq v view))
+keys_of_other kind other low number view m numbers news lt ne h (n ∷ v ∷ s ∷ more ∷ rest) = refl
 
-pub table_of_other : {B : Type 0} (pick : Signed Body → Body → Option (Signed B)) (kind other : VoteKind) (low number view : ℕ) (m : CheckedMessage) (ps news : List Place) → low < number → other ≢ kind
-    → HasSlotAt (number - low - 1) view (with_vote kind m (slots_at ps (number - low - 1) view)) ps news
-    → table_of pick other low news ≡ table_of pick other low ps
-table_of_other pick kind other low number view m ps news lt ne h =
-    same_table (λ q. read_by pick (vote_at_key other low ps q)) (λ q. read_by pick (vote_at_key other low news q)) (keys_by_number low ps) (keys_by_number low news)
-    (covers_table pick other low ps) (covers_table pick other low news) (λ q. ap (read_by pick) (keys_of_other kind other low number view m ps news lt ne h q))
+pub table_of_other : {B : Type 0} (pick : Signed Body → Body → Option (Signed B)) (kind other : VoteKind) (low number view : ℕ) (m : CheckedMessage) (numbers news : List ViewSlots) → low < number → other ≢ kind
+    → HasSlotAt (number - low - 1) view (with_vote kind m (slots_at numbers (number - low - 1) view)) numbers news
+    → table_of pick other low news ≡ table_of pick other low numbers
+table_of_other pick kind other low number view m numbers news lt ne h =
+    same_table (λ q. read_by pick (vote_at_key other low numbers q)) (λ q. read_by pick (vote_at_key other low news q)) (keys_by_number low numbers) (keys_by_number low news)
+    (covers_table pick other low numbers) (covers_table pick other low news) (λ q. ap (read_by pick) (keys_of_other kind other low number view m numbers news lt ne h q))
 
 -- the same window has the same votes
-same_slot : (low : ℕ) (ps news : List Place) → HaveSameWindows ps news → (n v : ℕ) → (low < n) ⊎ (n ≤ low) → slot_of low news n v ≡ slot_of low ps n v
-same_slot low ps news h n v (inl lt) = ap (λ s. cond (nat_lt low n) s empty_slot) (h (n - low - 1) v)
-same_slot low ps news h n v (inr le) = ap (λ s. cond (nat_lt low n) s empty_slot) (h (n - low - 1) v)
+same_slot : (low : ℕ) (numbers news : List ViewSlots) → HaveSameWindows numbers news → (n v : ℕ) → (low < n) ⊎ (n ≤ low) → slot_of low news n v ≡ slot_of low numbers n v
+same_slot low numbers news h n v (inl lt) = ap (λ s. cond (nat_lt low n) s empty_slot) (h (n - low - 1) v)
+same_slot low numbers news h n v (inr le) = ap (λ s. cond (nat_lt low n) s empty_slot) (h (n - low - 1) v)
 
-same_keys : (kind : VoteKind) (low : ℕ) (ps news : List Place) → HaveSameWindows ps news → (q : Key) → vote_at_key kind low news q ≡ vote_at_key kind low ps q
-same_keys kind low ps news h [] = refl
-same_keys kind low ps news h (n ∷ []) = refl
-same_keys kind low ps news h (n ∷ v ∷ []) = refl
-same_keys kind low ps news h (n ∷ v ∷ s ∷ []) = ap (λ slot. cond (nat_lt s 10) (vote_by kind s slot) None) (same_slot low ps news h n v (cases_lt low n))
-same_keys kind low ps news h (n ∷ v ∷ s ∷ more ∷ rest) = refl
+same_keys : (kind : VoteKind) (low : ℕ) (numbers news : List ViewSlots) → HaveSameWindows numbers news → (q : Key) → vote_at_key kind low news q ≡ vote_at_key kind low numbers q
+same_keys kind low numbers news h [] = refl
+same_keys kind low numbers news h (n ∷ []) = refl
+same_keys kind low numbers news h (n ∷ v ∷ []) = refl
+same_keys kind low numbers news h (n ∷ v ∷ s ∷ []) = ap (λ slot. cond (nat_lt s 10) (vote_by kind s slot) None) (same_slot low numbers news h n v (cases_lt low n))
+same_keys kind low numbers news h (n ∷ v ∷ s ∷ more ∷ rest) = refl
 
-pub same_table_of : {B : Type 0} (pick : Signed Body → Body → Option (Signed B)) (kind : VoteKind) (low : ℕ) (ps news : List Place) → HaveSameWindows ps news → table_of pick kind low news ≡ table_of pick kind low ps
-same_table_of pick kind low ps news h =
-    same_table (λ q. read_by pick (vote_at_key kind low ps q)) (λ q. read_by pick (vote_at_key kind low news q)) (keys_by_number low ps) (keys_by_number low news)
-    (covers_table pick kind low ps) (covers_table pick kind low news) (λ q. ap (read_by pick) (same_keys kind low ps news h q))
+pub same_table_of : {B : Type 0} (pick : Signed Body → Body → Option (Signed B)) (kind : VoteKind) (low : ℕ) (numbers news : List ViewSlots) → HaveSameWindows numbers news → table_of pick kind low news ≡ table_of pick kind low numbers
+same_table_of pick kind low numbers news h =
+    same_table (λ q. read_by pick (vote_at_key kind low numbers q)) (λ q. read_by pick (vote_at_key kind low news q)) (keys_by_number low numbers) (keys_by_number low news)
+    (covers_table pick kind low numbers) (covers_table pick kind low news) (λ q. ap (read_by pick) (same_keys kind low numbers news h q))
 
 -- of its own kind, one more where there was none
 first_read : {B : Type 0} (pick : Signed Body → Body → Option (Signed B)) (m : CheckedMessage) (x : Signed B) (b : Bool) (own : Option CheckedMessage)
@@ -153,17 +153,17 @@ first_read : {B : Type 0} (pick : Signed Body → Body → Option (Signed B)) (m
 first_read pick m x true own e = e
 first_read pick m x false own e = refl
 
-first_here : {B : Type 0} (pick : Signed Body → Body → Option (Signed B)) (kind : VoteKind) (low number view : ℕ) (m : CheckedMessage) (x : Signed B) (slot : Slot) (ps news : List Place)
-    → m.message.id < 10 → slot_of low ps number view ≡ slot → slot_of low news number view ≡ with_vote kind m slot
+first_here : {B : Type 0} (pick : Signed Body → Body → Option (Signed B)) (kind : VoteKind) (low number view : ℕ) (m : CheckedMessage) (x : Signed B) (slot : Slot) (numbers news : List ViewSlots)
+    → m.message.id < 10 → slot_of low numbers number view ≡ slot → slot_of low news number view ≡ with_vote kind m slot
     → AfterFirst m.message.id m (vote_by kind m.message.id slot) (vote_by kind m.message.id slot) (vote_by kind m.message.id (with_vote kind m slot))
     → pick m.message m.message.body ≡ Some x → is_some (read_by pick (vote_by kind m.message.id slot)) ≡ is_some (vote_by kind m.message.id slot)
     → read_by pick (vote_at_key kind low news (vote_key number view m.message.id))
-    ≡ cond (eq_by_cmp (slice_cmp nat_cmp) (vote_key number view m.message.id) (vote_key number view m.message.id) && not (is_some (read_by pick (vote_at_key kind low ps (vote_key number view m.message.id)))))
-    (Some x) (read_by pick (vote_at_key kind low ps (vote_key number view m.message.id)))
-first_here pick kind low number view m x slot ps news lt was now after is reads =
+    ≡ cond (eq_by_cmp (slice_cmp nat_cmp) (vote_key number view m.message.id) (vote_key number view m.message.id) && not (is_some (read_by pick (vote_at_key kind low numbers (vote_key number view m.message.id)))))
+    (Some x) (read_by pick (vote_at_key kind low numbers (vote_key number view m.message.id)))
+first_here pick kind low number view m x slot numbers news lt was now after is reads =
     let key = vote_key number view m.message.id in
     let own = vote_by kind m.message.id slot in
-    let before = vote_key_at kind low ps number view m.message.id slot lt was in
+    let before = vote_key_at kind low numbers number view m.message.id slot lt was in
     ap (read_by pick) (vote_key_at kind low news number view m.message.id (with_vote kind m slot) lt now ∙ after)
     ∙ first_read pick m x ((m.message.id == m.message.id) && not (is_some own)) own is
     ∙ ap (λ b. cond (b && not (is_some own)) (Some x) (read_by pick own)) (eq-eqb m.message.id m.message.id refl ∙ sym (ties key))
@@ -180,50 +180,50 @@ not_here : {X : Type 0} (b c : Bool) (x : X) (o p : Option X) → b ≡ false �
 not_here true c x o p e is = absurd cc
 not_here false c x o p e is = is
 
-has_first : {B : Type 0} (pick : Signed Body → Body → Option (Signed B)) (kind : VoteKind) (low number view : ℕ) (m : CheckedMessage) (x : Signed B) (ps news : List Place)
-    → low < number → m.message.id < 10 → HasSlotAt (number - low - 1) view (with_vote kind m (slots_at ps (number - low - 1) view)) ps news
-    → ((s : ℕ) → AfterFirst s m (vote_by kind m.message.id (slots_at ps (number - low - 1) view)) (vote_by kind s (slots_at ps (number - low - 1) view)) (vote_by kind s (with_vote kind m (slots_at ps (number - low - 1) view))))
+has_first : {B : Type 0} (pick : Signed Body → Body → Option (Signed B)) (kind : VoteKind) (low number view : ℕ) (m : CheckedMessage) (x : Signed B) (numbers news : List ViewSlots)
+    → low < number → m.message.id < 10 → HasSlotAt (number - low - 1) view (with_vote kind m (slots_at numbers (number - low - 1) view)) numbers news
+    → ((s : ℕ) → AfterFirst s m (vote_by kind m.message.id (slots_at numbers (number - low - 1) view)) (vote_by kind s (slots_at numbers (number - low - 1) view)) (vote_by kind s (with_vote kind m (slots_at numbers (number - low - 1) view))))
     → pick m.message m.message.body ≡ Some x
-    → is_some (read_by pick (vote_by kind m.message.id (slots_at ps (number - low - 1) view))) ≡ is_some (vote_by kind m.message.id (slots_at ps (number - low - 1) view))
+    → is_some (read_by pick (vote_by kind m.message.id (slots_at numbers (number - low - 1) view))) ≡ is_some (vote_by kind m.message.id (slots_at numbers (number - low - 1) view))
     → (q : Key) → AtKey number view m.message.id q
     → read_by pick (vote_at_key kind low news q)
-    ≡ cond (eq_by_cmp (slice_cmp nat_cmp) q (vote_key number view m.message.id) && not (is_some (read_by pick (vote_at_key kind low ps (vote_key number view m.message.id)))))
-    (Some x) (read_by pick (vote_at_key kind low ps q))
-has_first pick kind low number view m x ps news lt id h after is reads q (here e) =
+    ≡ cond (eq_by_cmp (slice_cmp nat_cmp) q (vote_key number view m.message.id) && not (is_some (read_by pick (vote_at_key kind low numbers (vote_key number view m.message.id)))))
+    (Some x) (read_by pick (vote_at_key kind low numbers q))
+has_first pick kind low number view m x numbers news lt id h after is reads q (here e) =
     subst (λ q. read_by pick (vote_at_key kind low news q)
-    ≡ cond (eq_by_cmp (slice_cmp nat_cmp) q (vote_key number view m.message.id) && not (is_some (read_by pick (vote_at_key kind low ps (vote_key number view m.message.id)))))
-    (Some x) (read_by pick (vote_at_key kind low ps q))) (sym e)
-    (first_here pick kind low number view m x (slots_at ps (number - low - 1) view) ps news id (slot_was low number view ps lt)
-    (slot_here low number view (with_vote kind m (slots_at ps (number - low - 1) view)) ps news lt h) (after m.message.id) is reads)
-has_first pick kind low number view m x ps news lt id h after is reads q (other_signer s e ne) =
-    let slot = slots_at ps (number - low - 1) view in
-    not_here (eq_by_cmp (slice_cmp nat_cmp) q (vote_key number view m.message.id)) (not (is_some (read_by pick (vote_at_key kind low ps (vote_key number view m.message.id))))) x
-    (read_by pick (vote_at_key kind low news q)) (read_by pick (vote_at_key kind low ps q))
+    ≡ cond (eq_by_cmp (slice_cmp nat_cmp) q (vote_key number view m.message.id) && not (is_some (read_by pick (vote_at_key kind low numbers (vote_key number view m.message.id)))))
+    (Some x) (read_by pick (vote_at_key kind low numbers q))) (sym e)
+    (first_here pick kind low number view m x (slots_at numbers (number - low - 1) view) numbers news id (slot_was low number view numbers lt)
+    (slot_here low number view (with_vote kind m (slots_at numbers (number - low - 1) view)) numbers news lt h) (after m.message.id) is reads)
+has_first pick kind low number view m x numbers news lt id h after is reads q (other_signer s e ne) =
+    let slot = slots_at numbers (number - low - 1) view in
+    not_here (eq_by_cmp (slice_cmp nat_cmp) q (vote_key number view m.message.id)) (not (is_some (read_by pick (vote_at_key kind low numbers (vote_key number view m.message.id))))) x
+    (read_by pick (vote_at_key kind low news q)) (read_by pick (vote_at_key kind low numbers q))
     (not_tied q (vote_key number view m.message.id) (λ f. ne (signer_of number view s number view m.message.id (sym e ∙ f))))
     (ap (λ q. read_by pick (vote_at_key kind low news q)) e
-    ∙ ap (λ slot. read_by pick (cond (nat_lt s 10) (vote_by kind s slot) None)) (slot_here low number view (with_vote kind m slot) ps news lt h)
+    ∙ ap (λ slot. read_by pick (cond (nat_lt s 10) (vote_by kind s slot) None)) (slot_here low number view (with_vote kind m slot) numbers news lt h)
     ∙ ap (λ o. read_by pick (cond (nat_lt s 10) o None)) (after s ∙ ap (λ b. cond (b && not (is_some (vote_by kind m.message.id slot))) (Some m) (vote_by kind s slot)) (unequal s m.message.id ne))
-    ∙ sym (ap (λ slot. read_by pick (cond (nat_lt s 10) (vote_by kind s slot) None)) (slot_was low number view ps lt))
-    ∙ sym (ap (λ q. read_by pick (vote_at_key kind low ps q)) e))
-has_first pick kind low number view m x ps news lt id h after is reads q (other_slot n v s e apart) =
-    not_here (eq_by_cmp (slice_cmp nat_cmp) q (vote_key number view m.message.id)) (not (is_some (read_by pick (vote_at_key kind low ps (vote_key number view m.message.id))))) x
-    (read_by pick (vote_at_key kind low news q)) (read_by pick (vote_at_key kind low ps q))
+    ∙ sym (ap (λ slot. read_by pick (cond (nat_lt s 10) (vote_by kind s slot) None)) (slot_was low number view numbers lt))
+    ∙ sym (ap (λ q. read_by pick (vote_at_key kind low numbers q)) e))
+has_first pick kind low number view m x numbers news lt id h after is reads q (other_slot n v s e apart) =
+    not_here (eq_by_cmp (slice_cmp nat_cmp) q (vote_key number view m.message.id)) (not (is_some (read_by pick (vote_at_key kind low numbers (vote_key number view m.message.id))))) x
+    (read_by pick (vote_at_key kind low news q)) (read_by pick (vote_at_key kind low numbers q))
     (not_tied q (vote_key number view m.message.id) (λ f. apart_keys n v s number view m.message.id apart (sym e ∙ f)))
     (ap (λ q. read_by pick (vote_at_key kind low news q)) e
     ∙ ap (λ slot. read_by pick (cond (nat_lt s 10) (vote_by kind s slot) None))
-    (slot_apart low number view (with_vote kind m (slots_at ps (number - low - 1) view)) ps news lt h n v apart (cases_lt low n))
-    ∙ sym (ap (λ q. read_by pick (vote_at_key kind low ps q)) e))
-has_first pick kind low number view m x ps news lt id h after is reads q (no_vote ne none) =
-    not_here (eq_by_cmp (slice_cmp nat_cmp) q (vote_key number view m.message.id)) (not (is_some (read_by pick (vote_at_key kind low ps (vote_key number view m.message.id))))) x
-    (read_by pick (vote_at_key kind low news q)) (read_by pick (vote_at_key kind low ps q)) (not_tied q (vote_key number view m.message.id) ne)
-    (ap (read_by pick) (none kind low news) ∙ sym (ap (read_by pick) (none kind low ps)))
+    (slot_apart low number view (with_vote kind m (slots_at numbers (number - low - 1) view)) numbers news lt h n v apart (cases_lt low n))
+    ∙ sym (ap (λ q. read_by pick (vote_at_key kind low numbers q)) e))
+has_first pick kind low number view m x numbers news lt id h after is reads q (no_vote ne none) =
+    not_here (eq_by_cmp (slice_cmp nat_cmp) q (vote_key number view m.message.id)) (not (is_some (read_by pick (vote_at_key kind low numbers (vote_key number view m.message.id))))) x
+    (read_by pick (vote_at_key kind low news q)) (read_by pick (vote_at_key kind low numbers q)) (not_tied q (vote_key number view m.message.id) ne)
+    (ap (read_by pick) (none kind low news) ∙ sym (ap (read_by pick) (none kind low numbers)))
 
-pub table_with : {B : Type 0} (pick : Signed Body → Body → Option (Signed B)) (kind : VoteKind) (low number view : ℕ) (m : CheckedMessage) (x : Signed B) (ps news : List Place)
-    → low < number → m.message.id < 10 → HasSlotAt (number - low - 1) view (with_vote kind m (slots_at ps (number - low - 1) view)) ps news
-    → ((s : ℕ) → AfterFirst s m (vote_by kind m.message.id (slots_at ps (number - low - 1) view)) (vote_by kind s (slots_at ps (number - low - 1) view)) (vote_by kind s (with_vote kind m (slots_at ps (number - low - 1) view))))
+pub table_with : {B : Type 0} (pick : Signed Body → Body → Option (Signed B)) (kind : VoteKind) (low number view : ℕ) (m : CheckedMessage) (x : Signed B) (numbers news : List ViewSlots)
+    → low < number → m.message.id < 10 → HasSlotAt (number - low - 1) view (with_vote kind m (slots_at numbers (number - low - 1) view)) numbers news
+    → ((s : ℕ) → AfterFirst s m (vote_by kind m.message.id (slots_at numbers (number - low - 1) view)) (vote_by kind s (slots_at numbers (number - low - 1) view)) (vote_by kind s (with_vote kind m (slots_at numbers (number - low - 1) view))))
     → pick m.message m.message.body ≡ Some x
-    → is_some (read_by pick (vote_by kind m.message.id (slots_at ps (number - low - 1) view))) ≡ is_some (vote_by kind m.message.id (slots_at ps (number - low - 1) view))
-    → table_of pick kind low news ≡ add_if true (vote_key number view m.message.id) x (table_of pick kind low ps)
-table_with pick kind low number view m x ps news lt id h after is reads =
-    added_table (vote_key number view m.message.id) x (λ q. read_by pick (vote_at_key kind low ps q)) (λ q. read_by pick (vote_at_key kind low news q)) (keys_by_number low ps) (keys_by_number low news)
-    (covers_table pick kind low ps) (covers_table pick kind low news) (λ q. has_first pick kind low number view m x ps news lt id h after is reads q (at_key number view m.message.id q))
+    → is_some (read_by pick (vote_by kind m.message.id (slots_at numbers (number - low - 1) view))) ≡ is_some (vote_by kind m.message.id (slots_at numbers (number - low - 1) view))
+    → table_of pick kind low news ≡ add_if true (vote_key number view m.message.id) x (table_of pick kind low numbers)
+table_with pick kind low number view m x numbers news lt id h after is reads =
+    added_table (vote_key number view m.message.id) x (λ q. read_by pick (vote_at_key kind low numbers q)) (λ q. read_by pick (vote_at_key kind low news q)) (keys_by_number low numbers) (keys_by_number low news)
+    (covers_table pick kind low numbers) (covers_table pick kind low news) (λ q. has_first pick kind low number view m x numbers news lt id h after is reads q (at_key number view m.message.id q))

@@ -14,7 +14,7 @@ use Rattle.pbft_codec.specs.declared.signed.Role.TheVariants.{Replica}
 use Rattle.pbft_model.specs.Words.{Signed, PrePrepare}
 use Rattle.pbft_model.specs.Acts.{with_body}
 use Rattle.pbft_model.specs.Certificates.{Fields, of_pre_prepare, of_prepare, of_commit, same_fields, is_by, some_by, voted, certified, has_quorum}
-use Rattle.pbft_model.specs.Core.{if_passes, is_placed}
+use Rattle.pbft_model.specs.Core.{if_passes, has_position}
 use Rattle.pbft_model.specs.Setup.{Setup, count, is_replica}
 use Rattle.pbft_model.specs.Tables.{at}
 use Rattle.seal.specs.Opening.{CheckedMessage}
@@ -22,9 +22,9 @@ use Rattle.seal.specs.Votes.{vote_in}
 use Rattle.seal.specs.declared.vote.Vote.{Vote}
 use Rattle.seal.specs.declared.vote.VoteKind.{VoteKind}
 use Rattle.seal.specs.declared.vote.VoteKind.TheVariants as kinds
-use Rattle.quorum_log.specs.declared.place.Place.{Place}
+use Rattle.quorum_log.specs.declared.view_slots.ViewSlots.{ViewSlots}
 use Rattle.quorum_log.specs.declared.slot.Slot.{Slot}
-use Rattle.quorum_log.specs.Asking.{Shows}
+use Rattle.quorum_log.specs.Asking.{Represents}
 use Rattle.quorum_log.specs.Ballots.{Ballot, AreListed, AreUnder, digest_in, is_digest, is_for, vote_at, voted_for}
 use Rattle.quorum_log.specs.Log.{KeptLog, Log, certified_at, if_certified, is_certified_in, is_committed_at, is_committed_by, proposal_in}
 use Rattle.quorum_log.specs.Reading.{AreKept, as_pre_prepare, as_prepare, as_commit, log_in, read_by}
@@ -36,12 +36,12 @@ use Rattle.quorum_log.proofs.Counts.{same_count}
 use Rattle.quorum_log.proofs.KindReadings.{kind_of, proposer, voter_listed}
 use Rattle.quorum_log.proofs.Logging.{read_at, vote_is}
 
-pub shows_slot : (c : Configuration) (v : ℕ) (floor : Option SeqNo) (low : ℕ) (ps : List Place) (view number : ℕ) → AreKept c low ps → Shows c (log_in v floor low ps) view number (slot_of low ps number view)
-shows_slot c v floor low ps view number h = record {
+pub represents_slot : (c : Configuration) (v : ℕ) (floor : Option SeqNo) (low : ℕ) (numbers : List ViewSlots) (view number : ℕ) → AreKept c low numbers → Represents c (log_in v floor low numbers) view number (slot_of low numbers number view)
+represents_slot c v floor low numbers view number h = record {
   is = h.slots number view;
-  pre_prepares = λ i lt. read_at as_pre_prepare kinds.PrePrepare low number view i ps lt;
-  prepares = λ i lt. read_at as_prepare kinds.Prepare low number view i ps lt;
-  commits = λ i lt. read_at as_commit kinds.Commit low number view i ps lt;
+  pre_prepares = λ i lt. read_at as_pre_prepare kinds.PrePrepare low number view i numbers lt;
+  prepares = λ i lt. read_at as_prepare kinds.Prepare low number view i numbers lt;
+  commits = λ i lt. read_at as_commit kinds.Commit low number view i numbers lt;
 }
 
 abbrev pub setup : Configuration → (List ℕ → List ℕ) → Setup
@@ -55,7 +55,7 @@ primary_below c view k =
     let below : view % replicas_for c.f < replicas_for c.f = mod-lt view (omega arith) in
     omega (arith, below, k.max_faulty)
 
--- ---- a vote passes the test of its own place
+-- ---- a vote passes the test of its own view and number
 
 all_but_last : (a b d e x : Bool) → a ≡ true → b ≡ true → d ≡ true → e ≡ true → (a && (b && (d && (e && x)))) ≡ x
 all_but_last true true true true x f g h i = refl
@@ -67,14 +67,14 @@ all_but_last true true true false x f g h i = absurd cc
 replica_is : (r : Role) → r ≡ Replica → is_replica r ≡ true
 replica_is r e = ap is_replica e
 
--- the fields of a vote at its place
-record Placed (m : CheckedMessage) (view number : ℕ) (v w : ℕ) : Type 0 where
+-- the fields of a vote at its view and number
+record Positioned (m : CheckedMessage) (view number : ℕ) (v w : ℕ) : Type 0 where
   pub role : is_replica m.message.role ≡ true
   pub view_is : (v == view) ≡ true
   pub number_is : (w == number) ≡ true
 
-placed : (c : Configuration) (view number : ℕ) (m : CheckedMessage) (x : Vote) (h : IsVoteAt c x.kind view number m) → Some x ≡ Some h.vote → Placed m view number x.view.0 x.number.0
-placed c view number m x h e = record {
+positioned : (c : Configuration) (view number : ℕ) (m : CheckedMessage) (x : Vote) (h : IsVoteAt c x.kind view number m) → Some x ≡ Some h.vote → Positioned m view number x.view.0 x.number.0
+positioned c view number m x h e = record {
   role = replica_is m.message.role h.proper.role;
   view_is = eq-eqb x.view.0 view (ap (λ (v : Vote). v.view.0) (vote_is x h.vote e) ∙ h.of_view);
   number_is = eq-eqb x.number.0 number (ap (λ (v : Vote). v.number.0) (vote_is x h.vote e) ∙ h.of_number);
@@ -88,7 +88,7 @@ none_is e = absurd cc
 prepare_voted : (c : Configuration) (view number i : ℕ) (digest : List ℕ) (m : CheckedMessage) → IsVoteAt c kinds.Prepare view number m → m.message.id ≡ i → (body : Body) → m.message.body ≡ body
     → some_by i (λ b. same_fields (of_prepare b) (fields view number digest)) (as_prepare m.message body) ≡ is_digest digest (digest_in body)
 prepare_voted c view number i digest m h id (bodies.Prepare b) e =
-    let p = placed c view number m (record { kind = kinds.Prepare; view = b.view; number = b.number; digest = b.digest; signer = record { 0 = m.message.id } }) h (ap (vote_in m.message.id) (sym e) ∙ h.is) in
+    let p = positioned c view number m (record { kind = kinds.Prepare; view = b.view; number = b.number; digest = b.digest; signer = record { 0 = m.message.id } }) h (ap (vote_in m.message.id) (sym e) ∙ h.is) in
     all_but_last (is_replica m.message.role) (m.message.id == i) (b.view.0 == view) (b.number.0 == number) (bytes_eq b.digest.0 digest) p.role (eq-eqb m.message.id i id) p.view_is p.number_is
 prepare_voted c view number i digest m h id (bodies.PrePrepare b) e = absurd (no (ap kind_of (ap (vote_in m.message.id) (sym e) ∙ h.is) ∙ ap Some h.of_kind)) where
   no : Some kinds.PrePrepare ≡ Some kinds.Prepare → ⊥
@@ -107,7 +107,7 @@ prepare_voted c view number i digest m h id (bodies.Snapshot b) e = absurd (none
 commit_voted : (c : Configuration) (view number i : ℕ) (digest : List ℕ) (m : CheckedMessage) → IsVoteAt c kinds.Commit view number m → m.message.id ≡ i → (body : Body) → m.message.body ≡ body
     → some_by i (λ b. same_fields (of_commit b) (fields view number digest)) (as_commit m.message body) ≡ is_digest digest (digest_in body)
 commit_voted c view number i digest m h id (bodies.Commit b) e =
-    let p = placed c view number m (record { kind = kinds.Commit; view = b.view; number = b.number; digest = b.digest; signer = record { 0 = m.message.id } }) h (ap (vote_in m.message.id) (sym e) ∙ h.is) in
+    let p = positioned c view number m (record { kind = kinds.Commit; view = b.view; number = b.number; digest = b.digest; signer = record { 0 = m.message.id } }) h (ap (vote_in m.message.id) (sym e) ∙ h.is) in
     all_but_last (is_replica m.message.role) (m.message.id == i) (b.view.0 == view) (b.number.0 == number) (bytes_eq b.digest.0 digest) p.role (eq-eqb m.message.id i id) p.view_is p.number_is
 commit_voted c view number i digest m h id (bodies.PrePrepare b) e = absurd (no (ap kind_of (ap (vote_in m.message.id) (sym e) ∙ h.is) ∙ ap Some h.of_kind)) where
   no : Some kinds.PrePrepare ≡ Some kinds.Commit → ⊥
@@ -133,12 +133,12 @@ commits_at : (c : Configuration) (view number i : ℕ) (digest : List ℕ) (o : 
 commits_at c view number i digest None h = refl
 commits_at c view number i digest (Some m) h = let is = h m refl in commit_voted c view number i digest m is.0 is.1 m.message.body refl
 
-pub prepared_by : (c : Configuration) (l : Log) (view number : ℕ) (s : Slot) (digest : List ℕ) → Shows c l view number s → (i : ℕ) → i < 10 → voted of_prepare l.prepares (fields view number digest) i ≡ voted_for digest s.prepares i
+pub prepared_by : (c : Configuration) (l : Log) (view number : ℕ) (s : Slot) (digest : List ℕ) → Represents c l view number s → (i : ℕ) → i < 10 → voted of_prepare l.prepares (fields view number digest) i ≡ voted_for digest s.prepares i
 prepared_by c l view number s digest h i lt =
     ap (some_by i (λ b. same_fields (of_prepare b) (fields view number digest))) (h.prepares i lt)
     ∙ prepares_at c view number i digest (vote_at s.prepares i) (h.is.prepares i)
 
-committed_by : (c : Configuration) (l : Log) (view number : ℕ) (s : Slot) (digest : List ℕ) → Shows c l view number s → (i : ℕ) → i < 10 → voted of_commit l.commits (fields view number digest) i ≡ voted_for digest s.commits i
+committed_by : (c : Configuration) (l : Log) (view number : ℕ) (s : Slot) (digest : List ℕ) → Represents c l view number s → (i : ℕ) → i < 10 → voted of_commit l.commits (fields view number digest) i ≡ voted_for digest s.commits i
 committed_by c l view number s digest h i lt =
     ap (some_by i (λ b. same_fields (of_commit b) (fields view number digest))) (h.commits i lt)
     ∙ commits_at c view number i digest (vote_at s.commits i) (h.is.commits i)
@@ -162,7 +162,7 @@ pub record Proposes (c : Configuration) (view number : ℕ) (m : CheckedMessage)
   pub is : m.message.body ≡ bodies.PrePrepare body
   pub view_is : body.view.0 ≡ view
   pub number_is : body.number.0 ≡ number
-  pub by_primary : is_by (view % replicas_for c.f) (is_placed view number) (with_body m.message body) ≡ true
+  pub by_primary : is_by (view % replicas_for c.f) (has_position view number) (with_body m.message body) ≡ true
 
 four_true : (a b d e : Bool) → a ≡ true → b ≡ true → d ≡ true → e ≡ true → (a && (b && (d && e))) ≡ true
 four_true true true true true f g h i = refl
@@ -200,21 +200,21 @@ proposes c view number m h (bodies.Fetch b) e = absurd (none_is (ap (vote_in m.m
 proposes c view number m h (bodies.Snapshot b) e = absurd (none_is (ap (vote_in m.message.id) (sym e) ∙ h.is))
 
 -- the PrePrepare that the log has
-found_proposal : (c : Configuration) (hash : List ℕ → List ℕ) (l : Log) (view number : ℕ) (s : Slot) → IsConfiguration c → Shows c l view number s → (o : Option CheckedMessage) → s.pre_prepare ≡ o → ((m : CheckedMessage) → o ≡ Some m → IsVoteAt c kinds.PrePrepare view number m)
+found_proposal : (c : Configuration) (hash : List ℕ → List ℕ) (l : Log) (view number : ℕ) (s : Slot) → IsConfiguration c → Represents c l view number s → (o : Option CheckedMessage) → s.pre_prepare ≡ o → ((m : CheckedMessage) → o ≡ Some m → IsVoteAt c kinds.PrePrepare view number m)
     → proposal_in (setup c hash) l view number ≡ read_by as_pre_prepare o
 found_proposal c hash l view number s k h None e is =
     let p = view % replicas_for c.f in
-    ap (if_passes (is_by p (is_placed view number))) (h.pre_prepares p (primary_below c view k) ∙ ap (λ o. read_by as_pre_prepare (if_by p o)) e)
+    ap (if_passes (is_by p (has_position view number))) (h.pre_prepares p (primary_below c view k) ∙ ap (λ o. read_by as_pre_prepare (if_by p o)) e)
 found_proposal c hash l view number s k h (Some m) e is =
     let p = view % replicas_for c.f in
     let x = proposes c view number m (is m refl) m.message.body refl in
-    ap (if_passes (is_by p (is_placed view number))) (h.pre_prepares p (primary_below c view k) ∙ ap (λ o. read_by as_pre_prepare (if_by p o)) e
+    ap (if_passes (is_by p (has_position view number))) (h.pre_prepares p (primary_below c view k) ∙ ap (λ o. read_by as_pre_prepare (if_by p o)) e
     ∙ ap (λ b. read_by as_pre_prepare (cond b (Some m) None)) (eq-eqb m.message.id p (proposer c view number m (is m refl)))
     ∙ ap (as_pre_prepare m.message) x.is)
     ∙ ap (λ b. if b then Some (with_body m.message x.body) else None) x.by_primary
     ∙ sym (ap (as_pre_prepare m.message) x.is)
 
-pub proposal_is : (c : Configuration) (hash : List ℕ → List ℕ) (l : Log) (view number : ℕ) (s : Slot) → IsConfiguration c → Shows c l view number s → proposal_in (setup c hash) l view number ≡ read_by as_pre_prepare s.pre_prepare
+pub proposal_is : (c : Configuration) (hash : List ℕ → List ℕ) (l : Log) (view number : ℕ) (s : Slot) → IsConfiguration c → Represents c l view number s → proposal_in (setup c hash) l view number ≡ read_by as_pre_prepare s.pre_prepare
 proposal_is c hash l view number s k h = found_proposal c hash l view number s k h s.pre_prepare refl h.is.pre_prepare
 
 digest_read : (c : Configuration) (view number : ℕ) (o : Option CheckedMessage) → ((m : CheckedMessage) → o ≡ Some m → IsVoteAt c kinds.PrePrepare view number m) → option_map (λ m. m.body.digest) (read_by as_pre_prepare o) ≡ digest_of_some o
@@ -223,7 +223,7 @@ digest_read c view number (Some m) is =
     let x = proposes c view number m (is m refl) m.message.body refl in
     ap (λ b. option_map (λ m. m.body.digest) (as_pre_prepare m.message b)) x.is ∙ sym (ap digest_in x.is)
 
-pub digest_is : (c : Configuration) (hash : List ℕ → List ℕ) (l : Log) (view number : ℕ) (s : Slot) → IsConfiguration c → Shows c l view number s → digest_here s ≡ option_map (λ m. m.body.digest) (proposal_in (setup c hash) l view number)
+pub digest_is : (c : Configuration) (hash : List ℕ → List ℕ) (l : Log) (view number : ℕ) (s : Slot) → IsConfiguration c → Represents c l view number s → digest_here s ≡ option_map (λ m. m.body.digest) (proposal_in (setup c hash) l view number)
 digest_is c hash l view number s k h = sym (ap (option_map (λ m. m.body.digest)) (proposal_is c hash l view number s k h) ∙ digest_read c view number s.pre_prepare h.is.pre_prepare)
 
 equal_itself : (xs : List ℕ) → bytes_eq xs xs ≡ true
@@ -231,7 +231,7 @@ equal_itself xs = (bytes_eq-Decides xs xs).1 refl
 
 -- ---- certified and committed
 
-is_certified_at : (c : Configuration) (hash : List ℕ → List ℕ) (l : Log) (view number : ℕ) (s : Slot) (digest : List ℕ) → IsConfiguration c → Shows c l view number s
+is_certified_at : (c : Configuration) (hash : List ℕ → List ℕ) (l : Log) (view number : ℕ) (s : Slot) (digest : List ℕ) → IsConfiguration c → Represents c l view number s
     → voted of_pre_prepare l.pre_prepares (fields view number digest) (view % replicas_for c.f) ≡ true
     → is_certified_in (setup c hash) l (fields view number digest) ≡ certified (setup_of c) (λ i. true) (voted_for digest s.prepares) view
 is_certified_at c hash l view number s digest k h proposed =
@@ -240,7 +240,7 @@ is_certified_at c hash l view number s digest k h proposed =
     ∙ ap (nat_le (2 * c.f)) (same_count (λ i. not (i == p) && voted of_prepare l.prepares (fields view number digest) i) (λ i. not (i == p) && voted_for digest s.prepares i) (replicas_for c.f)
     (λ i lt. ap (λ b. not (i == p) && b) (prepared_by c l view number s digest h i (omega (arith, lt, k.max_faulty)))))
 
-quorum_at : (c : Configuration) (hash : List ℕ → List ℕ) (l : Log) (view number : ℕ) (s : Slot) (digest : List ℕ) → IsConfiguration c → Shows c l view number s
+quorum_at : (c : Configuration) (hash : List ℕ → List ℕ) (l : Log) (view number : ℕ) (s : Slot) (digest : List ℕ) → IsConfiguration c → Represents c l view number s
     → has_quorum (setup c hash) (voted of_commit l.commits (fields view number digest)) ≡ has_quorum (setup_of c) (voted_for digest s.commits)
 quorum_at c hash l view number s digest k h =
     ap (nat_le (2 * c.f + 1)) (same_count (voted of_commit l.commits (fields view number digest)) (voted_for digest s.commits) (replicas_for c.f)
@@ -254,7 +254,7 @@ pub record Asked (c : Configuration) (hash : List ℕ → List ℕ) (l : Log) (v
   pub certified_is : is_certified_in (setup c hash) l (of_pre_prepare body) ≡ is_certified_for c view s (Some body.digest)
   pub quorum_is : has_quorum (setup c hash) (voted of_commit l.commits (of_pre_prepare body)) ≡ has_quorum (setup_of c) (voted_for body.digest.0 s.commits)
 
-own_vote : (c : Configuration) (l : Log) (view number : ℕ) (s : Slot) (m : CheckedMessage) → IsConfiguration c → Shows c l view number s → s.pre_prepare ≡ Some m → (h : IsVoteAt c kinds.PrePrepare view number m) → (x : Proposes c view number m)
+own_vote : (c : Configuration) (l : Log) (view number : ℕ) (s : Slot) (m : CheckedMessage) → IsConfiguration c → Represents c l view number s → s.pre_prepare ≡ Some m → (h : IsVoteAt c kinds.PrePrepare view number m) → (x : Proposes c view number m)
     → voted of_pre_prepare l.pre_prepares (fields view number x.body.digest.0) (view % replicas_for c.f) ≡ true
 own_vote c l view number s m k h e is x =
     let p = view % replicas_for c.f in
@@ -265,7 +265,7 @@ own_vote c l view number s m k h e is x =
     (replica_is m.message.role is.proper.role) (eq-eqb m.message.id p (proposer c view number m is)) (eq-eqb x.body.view.0 view x.view_is) (eq-eqb x.body.number.0 number x.number_is)
     ∙ equal_itself x.body.digest.0
 
-pub asked : (c : Configuration) (hash : List ℕ → List ℕ) (l : Log) (view number : ℕ) (s : Slot) (m : CheckedMessage) → IsConfiguration c → Shows c l view number s → s.pre_prepare ≡ Some m → IsVoteAt c kinds.PrePrepare view number m → Asked c hash l view number s m
+pub asked : (c : Configuration) (hash : List ℕ → List ℕ) (l : Log) (view number : ℕ) (s : Slot) (m : CheckedMessage) → IsConfiguration c → Represents c l view number s → s.pre_prepare ≡ Some m → IsVoteAt c kinds.PrePrepare view number m → Asked c hash l view number s m
 asked c hash l view number s m k h e is =
     let x = proposes c view number m is m.message.body refl in
     let f : of_pre_prepare x.body ≡ fields view number x.body.digest.0 = λ i. record { view = x.view_is i; number = x.number_is i; digest = x.body.digest.0 } in
@@ -282,7 +282,7 @@ some_if : {X : Type 0} (b : Bool) (x : X) → is_some (if b then Some x else Non
 some_if true x = refl
 some_if false x = refl
 
-certified_with : (c : Configuration) (hash : List ℕ → List ℕ) (l : Log) (view number : ℕ) (s : Slot) → IsConfiguration c → Shows c l view number s → (o : Option CheckedMessage) → s.pre_prepare ≡ o
+certified_with : (c : Configuration) (hash : List ℕ → List ℕ) (l : Log) (view number : ℕ) (s : Slot) → IsConfiguration c → Represents c l view number s → (o : Option CheckedMessage) → s.pre_prepare ≡ o
     → is_some (if_certified (setup c hash) l (read_by as_pre_prepare o)) ≡ is_certified_for c view s (digest_of_some o)
 certified_with c hash l view number s k h None e = refl
 certified_with c hash l view number s k h (Some m) e =
@@ -291,7 +291,7 @@ certified_with c hash l view number s k h (Some m) e =
     ∙ some_if (is_certified_in (setup c hash) l (of_pre_prepare a.body)) (with_body m.message a.body)
     ∙ a.certified_is ∙ sym (ap (λ b. is_certified_for c view s (digest_in b)) a.is)
 
-pub certified_is : (c : Configuration) (hash : List ℕ → List ℕ) (l : Log) (view number : ℕ) (s : Slot) → IsConfiguration c → Shows c l view number s → is_certified_here c view s ≡ is_some (certified_at (setup c hash) l view number)
+pub certified_is : (c : Configuration) (hash : List ℕ → List ℕ) (l : Log) (view number : ℕ) (s : Slot) → IsConfiguration c → Represents c l view number s → is_certified_here c view s ≡ is_some (certified_at (setup c hash) l view number)
 certified_is c hash l view number s k h =
     sym (ap (λ o. is_some (if_certified (setup c hash) l o)) (proposal_is c hash l view number s k h) ∙ certified_with c hash l view number s k h s.pre_prepare refl)
 
@@ -299,7 +299,7 @@ committed_if : (c : Setup) (l : Log) (b : Bool) (m : Signed PrePrepare) → is_c
 committed_if c l true m = refl
 committed_if c l false m = refl
 
-committed_with : (c : Configuration) (hash : List ℕ → List ℕ) (l : Log) (view number : ℕ) (s : Slot) → IsConfiguration c → Shows c l view number s → (o : Option CheckedMessage) → s.pre_prepare ≡ o
+committed_with : (c : Configuration) (hash : List ℕ → List ℕ) (l : Log) (view number : ℕ) (s : Slot) → IsConfiguration c → Represents c l view number s → (o : Option CheckedMessage) → s.pre_prepare ≡ o
     → is_committed_by (setup c hash) l (if_certified (setup c hash) l (read_by as_pre_prepare o)) ≡ is_committed_for c view s (digest_of_some o)
 committed_with c hash l view number s k h None e = refl
 committed_with c hash l view number s k h (Some m) e =
@@ -310,7 +310,7 @@ committed_with c hash l view number s k h (Some m) e =
     ∙ ap (λ b. is_certified_for c view s (Some a.body.digest) && b) a.quorum_is
     ∙ sym (ap (λ b. is_committed_for c view s (digest_in b)) a.is)
 
-pub committed_is : (c : Configuration) (hash : List ℕ → List ℕ) (l : Log) (view number : ℕ) (s : Slot) → IsConfiguration c → Shows c l view number s → is_committed_here c view s ≡ is_committed_at (setup c hash) l view number
+pub committed_is : (c : Configuration) (hash : List ℕ → List ℕ) (l : Log) (view number : ℕ) (s : Slot) → IsConfiguration c → Represents c l view number s → is_committed_here c view s ≡ is_committed_at (setup c hash) l view number
 committed_is c hash l view number s k h =
     sym (ap (λ o. is_committed_by (setup c hash) l (if_certified (setup c hash) l o)) (proposal_is c hash l view number s k h) ∙ committed_with c hash l view number s k h s.pre_prepare refl)
 
@@ -335,24 +335,24 @@ within_is low span number index (inr f) e = absurd (none_some (sym (ap (λ b. co
   none_some : None ≡ Some index → ⊥
   none_some e = absurd cc
 
-slot_outside : (low : ℕ) (ps : List Place) (view number : ℕ) → (low < number) ⊎ (number ≤ low) → (low + length ps < number) ⊎ (number ≤ low + length ps) → index_in low (length ps) number ≡ None → slot_of low ps number view ≡ empty_slot
-slot_outside low ps view number (inr le) o out = ap (λ b. cond b (slots_at ps (number - low - 1) view) empty_slot) (le-ltb low number le)
-slot_outside low ps view number (inl lt) (inl past) out = slot_was low number view ps lt ∙ beyond ps (number - low - 1) view (omega (arith, past))
-slot_outside low ps view number (inl lt) (inr le) out =
-    absurd (none_some (sym out ∙ ap (λ b. cond (b && nat_le number (low + length ps)) (Some (number - low - 1)) None) (lt-ltb low number lt) ∙ ap (λ b. cond b (Some (number - low - 1)) None) (le-leb number (low + length ps) le))) where
+slot_outside : (low : ℕ) (numbers : List ViewSlots) (view number : ℕ) → (low < number) ⊎ (number ≤ low) → (low + length numbers < number) ⊎ (number ≤ low + length numbers) → index_in low (length numbers) number ≡ None → slot_of low numbers number view ≡ empty_slot
+slot_outside low numbers view number (inr le) o out = ap (λ b. cond b (slots_at numbers (number - low - 1) view) empty_slot) (le-ltb low number le)
+slot_outside low numbers view number (inl lt) (inl past) out = slot_was low number view numbers lt ∙ beyond numbers (number - low - 1) view (omega (arith, past))
+slot_outside low numbers view number (inl lt) (inr le) out =
+    absurd (none_some (sym out ∙ ap (λ b. cond (b && nat_le number (low + length numbers)) (Some (number - low - 1)) None) (lt-ltb low number lt) ∙ ap (λ b. cond b (Some (number - low - 1)) None) (le-leb number (low + length numbers) le))) where
       none_some : None ≡ Some (number - low - 1) → ⊥
       none_some e = absurd cc
 
-pub shows_at : (c : Configuration) (v : ℕ) (floor : Option SeqNo) (low : ℕ) (ps : List Place) (view number index : ℕ) (k : KeptLog) (s : Slot) → AreKept c low ps → ◌≡◌ {A = KeptLog} (record { config = c; log = log_in v floor low ps }) k
-    → index_in low (length ps) number ≡ Some index → s ≡ slots_at ps index view → Shows k.config k.log view number s
-shows_at c v floor low ps view number index k s h viewed at e =
-    subst (λ (k : KeptLog). Shows k.config k.log view number s) viewed
-    (subst (Shows c (log_in v floor low ps) view number) (slot_was low number view ps (within_low low (length ps) number index (cases_Bool (nat_lt low number && nat_le number (low + length ps))) at) ∙ ap (λ i. slots_at ps i view) (within_is low (length ps) number index (cases_Bool (nat_lt low number && nat_le number (low + length ps))) at) ∙ sym e)
-    (shows_slot c v floor low ps view number h))
+pub represents_at : (c : Configuration) (v : ℕ) (floor : Option SeqNo) (low : ℕ) (numbers : List ViewSlots) (view number index : ℕ) (k : KeptLog) (s : Slot) → AreKept c low numbers → ◌≡◌ {A = KeptLog} (record { config = c; log = log_in v floor low numbers }) k
+    → index_in low (length numbers) number ≡ Some index → s ≡ slots_at numbers index view → Represents k.config k.log view number s
+represents_at c v floor low numbers view number index k s h viewed at e =
+    subst (λ (k : KeptLog). Represents k.config k.log view number s) viewed
+    (subst (Represents c (log_in v floor low numbers) view number) (slot_was low number view numbers (within_low low (length numbers) number index (cases_Bool (nat_lt low number && nat_le number (low + length numbers))) at) ∙ ap (λ i. slots_at numbers i view) (within_is low (length numbers) number index (cases_Bool (nat_lt low number && nat_le number (low + length numbers))) at) ∙ sym e)
+    (represents_slot c v floor low numbers view number h))
 
-pub shows_outside : (c : Configuration) (v : ℕ) (floor : Option SeqNo) (low : ℕ) (ps : List Place) (view number : ℕ) (k : KeptLog) (r : Option (Bor Slot)) → AreKept c low ps → ◌≡◌ {A = KeptLog} (record { config = c; log = log_in v floor low ps }) k
-    → index_in low (length ps) number ≡ None → r ≡ None → Shows k.config k.log view number (unwrap_or (option_copied r) empty_slot)
-shows_outside c v floor low ps view number k r h viewed out e =
-    subst (λ (k : KeptLog). Shows k.config k.log view number (unwrap_or (option_copied r) empty_slot)) viewed
-    (subst (Shows c (log_in v floor low ps) view number) (slot_outside low ps view number (cases_lt low number) (cases_lt (low + length ps) number) out ∙ sym (ap (λ o. unwrap_or (option_copied o) empty_slot) e))
-    (shows_slot c v floor low ps view number h))
+pub represents_outside : (c : Configuration) (v : ℕ) (floor : Option SeqNo) (low : ℕ) (numbers : List ViewSlots) (view number : ℕ) (k : KeptLog) (r : Option (Bor Slot)) → AreKept c low numbers → ◌≡◌ {A = KeptLog} (record { config = c; log = log_in v floor low numbers }) k
+    → index_in low (length numbers) number ≡ None → r ≡ None → Represents k.config k.log view number (unwrap_or (option_copied r) empty_slot)
+represents_outside c v floor low numbers view number k r h viewed out e =
+    subst (λ (k : KeptLog). Represents k.config k.log view number (unwrap_or (option_copied r) empty_slot)) viewed
+    (subst (Represents c (log_in v floor low numbers) view number) (slot_outside low numbers view number (cases_lt low number) (cases_lt (low + length numbers) number) out ∙ sym (ap (λ o. unwrap_or (option_copied o) empty_slot) e))
+    (represents_slot c v floor low numbers view number h))

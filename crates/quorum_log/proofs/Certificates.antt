@@ -16,7 +16,7 @@ use Rattle.seal.specs.Opening.{CheckedMessage}
 use Rattle.seal.specs.Parts.{as_message}
 use Rattle.seal.specs.declared.vote.VoteKind.TheVariants as kinds
 use Rattle.quorum_log.specs.declared.slot.Slot.{Slot}
-use Rattle.quorum_log.specs.Asking.{Shows}
+use Rattle.quorum_log.specs.Asking.{Represents}
 use Rattle.quorum_log.specs.Ballots.{digest_in, is_for, least_votes, vote_at, voted_for}
 use Rattle.quorum_log.specs.Log.{Log, backing, certificate_in, checked_certificate, if_certified, is_certified_in, as_checked}
 use Rattle.quorum_log.specs.Reading.{as_pre_prepare, as_prepare, read_by}
@@ -65,7 +65,7 @@ prepare_only c view number digest i o h (inr ne) = ap (λ b. not b && is_for dig
 prepare_only c view number digest i None h (inl e) = ap (λ b. not b && false) (eq-eqb i (view % replicas_for c.f) e)
 prepare_only c view number digest i (Some m) h (inl e) = let is = h m refl in absurd (not_primary c view number m is.0 (is.1 ∙ e))
 
-matching_is : (c : Configuration) (l : Log) (view number : ℕ) (s : Slot) (digest : List ℕ) → Shows c l view number s → (i : ℕ) → i < 10
+matching_is : (c : Configuration) (l : Log) (view number : ℕ) (s : Slot) (digest : List ℕ) → Represents c l view number s → (i : ℕ) → i < 10
     → (not (i == view % replicas_for c.f) && voted of_prepare l.prepares (fields view number digest) i) ≡ voted_for digest s.prepares i
 matching_is c l view number s digest h i lt =
     ap (λ b. not (i == view % replicas_for c.f) && b) (prepared_by c l view number s digest h i lt)
@@ -76,14 +76,14 @@ prepare_read : (c : Configuration) (view number i : ℕ) (o : Option CheckedMess
 prepare_read c view number i None h = refl
 prepare_read c view number i (Some m) h = prepare_is c view number m (h m refl).0 m.message.body refl
 
-one_backing : (c : Configuration) (l : Log) (view number : ℕ) (s : Slot) (digest : List ℕ) → IsConfiguration c → Shows c l view number s → (i : ℕ) → i < 10 → (b d : Bool) → b ≡ d
+one_backing : (c : Configuration) (l : Log) (view number : ℕ) (s : Slot) (digest : List ℕ) → IsConfiguration c → Represents c l view number s → (i : ℕ) → i < 10 → (b d : Bool) → b ≡ d
     → option_map (as_message bodies.Prepare) (cond b (at l.prepares (vote_key number view i)) None) ≡ cond d (option_map (λ m. m.message) (vote_at s.prepares i)) None
 one_backing c l view number s digest k h i lt true d e =
     ap (option_map (as_message bodies.Prepare)) (h.prepares i lt) ∙ prepare_read c view number i (vote_at s.prepares i) (h.is.prepares i)
     ∙ ap (λ d. cond d (option_map (λ m. m.message) (vote_at s.prepares i)) None) e
 one_backing c l view number s digest k h i lt false d e = ap (λ d. cond d (option_map (λ m. m.message) (vote_at s.prepares i)) None) e
 
-backing_is : (c : Configuration) (hash : List ℕ → List ℕ) (l : Log) (view number : ℕ) (s : Slot) (digest : List ℕ) → IsConfiguration c → Shows c l view number s
+backing_is : (c : Configuration) (hash : List ℕ → List ℕ) (l : Log) (view number : ℕ) (s : Slot) (digest : List ℕ) → IsConfiguration c → Represents c l view number s
     → map (as_message bodies.Prepare) (backing (setup c hash) l (fields view number digest)) ≡ least_votes (2 * c.f) digest s.prepares
 backing_is c hash l view number s digest k h =
     let test : ℕ → Bool = λ i. not (i == view % replicas_for c.f) && voted of_prepare l.prepares (fields view number digest) i in
@@ -102,7 +102,7 @@ checked_if : (c : Configuration) (hash : List ℕ → List ℕ) (l : Log) (b : B
 checked_if c hash l true m = refl
 checked_if c hash l false m = refl
 
-same_checked : (c : Configuration) (hash : List ℕ → List ℕ) (l : Log) (view number : ℕ) (s : Slot) (m : CheckedMessage) → IsConfiguration c → Shows c l view number s → IsVoteAt c kinds.PrePrepare view number m → (a : Asked c hash l view number s m)
+same_checked : (c : Configuration) (hash : List ℕ → List ℕ) (l : Log) (view number : ℕ) (s : Slot) (m : CheckedMessage) → IsConfiguration c → Represents c l view number s → IsVoteAt c kinds.PrePrepare view number m → (a : Asked c hash l view number s m)
     → as_checked c (certificate_in (setup c hash) l (with_body m.message a.body)) ≡ certificate_with c s m a.body.digest
 same_checked c hash l view number s m k h is a =
     let prepares = ap (λ f. map (as_message bodies.Prepare) (backing (setup c hash) l f)) a.fields_are ∙ backing_is c hash l view number s a.body.digest.0 k h in
@@ -111,7 +111,7 @@ same_checked c hash l view number s m k h is a =
       prepares = record { config = c; messages = prepares i };
     }
 
-certificate_of : (c : Configuration) (hash : List ℕ → List ℕ) (l : Log) (view number : ℕ) (s : Slot) → IsConfiguration c → Shows c l view number s → (o : Option CheckedMessage) → s.pre_prepare ≡ o
+certificate_of : (c : Configuration) (hash : List ℕ → List ℕ) (l : Log) (view number : ℕ) (s : Slot) → IsConfiguration c → Represents c l view number s → (o : Option CheckedMessage) → s.pre_prepare ≡ o
     → option_map (λ m. as_checked c (certificate_in (setup c hash) l m)) (if_certified (setup c hash) l (read_by as_pre_prepare o)) ≡ cond (is_certified_for c view s (digest_of_some o)) (certificate_for c s o (digest_of_some o)) None
 certificate_of c hash l view number s k h None e = refl
 certificate_of c hash l view number s k h (Some m) e =
@@ -123,6 +123,6 @@ certificate_of c hash l view number s k h (Some m) e =
     ∙ ap (λ x. cond (is_certified_for c view s (Some a.body.digest)) (Some x) None) (same_checked c hash l view number s m k h is a)
     ∙ sym (ap (λ b. cond (is_certified_for c view s (digest_in b)) (certificate_for c s (Some m) (digest_in b)) None) a.is)
 
-pub certificate_is : (c : Configuration) (hash : List ℕ → List ℕ) (l : Log) (view number : ℕ) (s : Slot) → IsConfiguration c → Shows c l view number s → certificate_here c view s ≡ checked_certificate (setup c hash) l view number
+pub certificate_is : (c : Configuration) (hash : List ℕ → List ℕ) (l : Log) (view number : ℕ) (s : Slot) → IsConfiguration c → Represents c l view number s → certificate_here c view s ≡ checked_certificate (setup c hash) l view number
 certificate_is c hash l view number s k h =
     sym (ap (λ o. option_map (λ m. as_checked c (certificate_in (setup c hash) l m)) (if_certified (setup c hash) l o)) (proposal_is c hash l view number s k h) ∙ certificate_of c hash l view number s k h s.pre_prepare refl)

@@ -1,4 +1,4 @@
--- Counts over ten places, and over the replicas of a configuration.
+-- Counts over ten indexes, and over the replicas of a configuration.
 use Rattle.std.proofs.Common.{◌≡◌, ◌≢◌, ℕ, zero, suc, ◌+◌, ◌-◌, ◌*◌, ◌<◌, ◌≤◌, ◌==◌, Bool, true, false, cond, not, ◌&&◌, List, Bor, Option, Some, None, refl, sym, ap, ◌∙◌, arith, ◌⊎◌, inl, inr}
 use Rattle.std.specs.Prelude.{nat_le, nat_lt, is_some, ◌%◌}
 use Rattle.std.proofs.lemmas.Bool.{cases_eq, cases_lt, eq-eqb, ne_eqb, le-leb, leb-true, false_from_ne_true}
@@ -18,7 +18,7 @@ count_up_to test n (suc more) h =
     let next : suc more + n ≡ suc (more + n) = omega arith in
     ap (count test) next ∙ ap (λ (b : Bool). cond b 1 0 + count test (more + n)) (h (more + n) (omega arith)) ∙ omega (arith, count_up_to test n more h)
 
--- of ten places those of the replicas count
+-- of ten indexes those of the replicas count
 pub count_listed : (c : Configuration) (votes : Ballot) (digest : List ℕ) → IsConfiguration c → AreListed c votes → count (voted_for digest votes) 10 ≡ count (voted_for digest votes) (replicas_for c.f)
 count_listed c votes digest k h =
     let sum : 10 ≡ (10 - replicas_for c.f) + replicas_for c.f = omega (arith, k.max_faulty) in
@@ -52,14 +52,14 @@ quorum_is c votes digest hash f n k h is e =
     let more : suc (2 * f) ≡ 2 * c.f + 1 = omega (arith, is) in
     ap (λ (m : ℕ). nat_le m n) more ∙ ap (nat_le (2 * c.f + 1)) (e ∙ count_listed c votes digest k h)
 
-told : (r : Option (Bor CheckedMessage)) (digest : List ℕ) (o : Option CheckedMessage) → option_copied r ≡ cond (is_for digest o) o None → is_some r ≡ is_for digest o
-told None digest None e = refl
-told None digest (Some m) e = step (is_for digest (Some m)) e where
+is_first : (r : Option (Bor CheckedMessage)) (digest : List ℕ) (o : Option CheckedMessage) → option_copied r ≡ cond (is_for digest o) o None → is_some r ≡ is_for digest o
+is_first None digest None e = refl
+is_first None digest (Some m) e = step (is_for digest (Some m)) e where
   step : (b : Bool) → None ≡ cond b (Some m) None → false ≡ b
   step true e = absurd cc
   step false e = refl
-told (Some r) digest None e = absurd cc
-told (Some r) digest (Some m) e = step (is_for digest (Some m)) e where
+is_first (Some r) digest None e = absurd cc
+is_first (Some r) digest (Some m) e = step (is_for digest (Some m)) e where
   step : (b : Bool) → Some r.now ≡ cond b (Some m) None → true ≡ b
   step true e = refl
   step false e = absurd cc
@@ -74,7 +74,7 @@ pub backups_are : (c : Configuration) (votes : Ballot) (digest : List ℕ) (hash
 backups_are c votes digest hash view f n p one r k h is e at found o =
     let below : view % replicas_for c.f < replicas_for c.f = mod-lt view (omega arith) in
     let parts = all_but (voted_for digest votes) (view % replicas_for c.f) (replicas_for c.f) below in
-    let was : one ≡ cond (voted_for digest votes (view % replicas_for c.f)) 1 0 = o ∙ as_digit (is_some r) ∙ ap (λ (b : Bool). cond b 1 0) (told r digest (vote_at votes p) found ∙ ap (voted_for digest votes) at) in
+    let was : one ≡ cond (voted_for digest votes (view % replicas_for c.f)) 1 0 = o ∙ as_digit (is_some r) ∙ ap (λ (b : Bool). cond b 1 0) (is_first r digest (vote_at votes p) found ∙ ap (voted_for digest votes) at) in
     let all : n ≡ count (voted_for digest votes) (replicas_for c.f) = e ∙ count_listed c votes digest k h in
     tests (2 * f + one) n (2 * c.f) (count (λ i. not (i == view % replicas_for c.f) && voted_for digest votes i) (replicas_for c.f)) one (omega (arith, is)) (omega (arith, parts, was, all)) where
       tests : (a b x y one : ℕ) → a ≡ x + one → b ≡ y + one → nat_le a b ≡ nat_le x y

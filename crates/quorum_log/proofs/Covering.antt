@@ -9,7 +9,7 @@ use Rattle.std.proofs.lemmas.Bool.{cases_Bool, cases_eq, cases_lt}
 use Rattle.seal.specs.declared.vote.VoteKind.{VoteKind}
 use Rattle.seal.specs.declared.vote.VoteKind.TheVariants.{PrePrepare, Prepare, Commit}
 use Rattle.pbft_model.specs.Tables.{Key}
-use Rattle.quorum_log.specs.declared.place.Place.{Place}
+use Rattle.quorum_log.specs.declared.view_slots.ViewSlots.{ViewSlots}
 use Rattle.quorum_log.specs.declared.slot.Slot.{Slot}
 use Rattle.quorum_log.specs.Slots.{empty_slot}
 use Rattle.quorum_log.specs.Windows.{is_among, slots_at, slot_of, vote_by, vote_at_key, keys_by_signer, keys_by_view, keys_by_number, Covers}
@@ -81,44 +81,44 @@ index_is low i number e = omega (arith, e)
 first_is : (low number : ℕ) → number ≡ low + 1 + zero → number ≡ low + 1
 first_is low number e = omega (arith, e)
 
-slot_missing : (ps : List Place) (low i number view s : ℕ) → number ≡ low + 1 + i → s < 10 → is_among (number ∷ view ∷ s ∷ []) (keys_by_number low ps) ≡ false → slots_at ps i view ≡ empty_slot
+slot_missing : (numbers : List ViewSlots) (low i number view s : ℕ) → number ≡ low + 1 + i → s < 10 → is_among (number ∷ view ∷ s ∷ []) (keys_by_number low numbers) ≡ false → slots_at numbers i view ≡ empty_slot
 slot_missing [] low i number view s is lt e = refl
-slot_missing (p ∷ ps) low zero number view s is lt e =
+slot_missing (p ∷ numbers) low zero number view s is lt e =
     let at : number ≡ low + 1 = first_is low number is in
     let q : Key = number ∷ view ∷ s ∷ [] in
-    let missed = not_among_left q (keys_by_view (low + 1) (tree.keys p.slots)) (keys_by_number (low + 1) ps) e in
+    let missed = not_among_left q (keys_by_view (low + 1) (tree.keys p.slots)) (keys_by_number (low + 1) numbers) e in
     ap (λ o. unwrap_or o empty_slot) (slot_view view number s p.slots.entries lt (ap (λ n. is_among q (keys_by_view n (tree.keys p.slots))) at ∙ missed))
-slot_missing (p ∷ ps) low (suc i) number view s is lt e =
-    slot_missing ps (low + 1) i number view s (index_is low i number is) lt
-    (not_among_right (number ∷ view ∷ s ∷ []) (keys_by_view (low + 1) (tree.keys p.slots)) (keys_by_number (low + 1) ps) e)
+slot_missing (p ∷ numbers) low (suc i) number view s is lt e =
+    slot_missing numbers (low + 1) i number view s (index_is low i number is) lt
+    (not_among_right (number ∷ view ∷ s ∷ []) (keys_by_view (low + 1) (tree.keys p.slots)) (keys_by_number (low + 1) numbers) e)
 
 pub no_vote : (kind : VoteKind) (signer : ℕ) → vote_by kind signer empty_slot ≡ None
 no_vote PrePrepare signer = refl
 no_vote Prepare signer = nobody 10 signer
 no_vote Commit signer = nobody 10 signer
 
-slot_out : (low : ℕ) (ps : List Place) (number view s : ℕ) → (low < number) ⊎ (number ≤ low) → s < 10 → is_among (number ∷ view ∷ s ∷ []) (keys_by_number low ps) ≡ false → slot_of low ps number view ≡ empty_slot
-slot_out low ps number view s (inl above) lt e =
-    ap (λ b. cond b (slots_at ps (number - low - 1) view) empty_slot) (lt-ltb low number above) ∙ slot_missing ps low (number - low - 1) number view s (omega (arith, above)) lt e
-slot_out low ps number view s (inr under) lt e = ap (λ b. cond b (slots_at ps (number - low - 1) view) empty_slot) (le-ltb low number under)
+slot_out : (low : ℕ) (numbers : List ViewSlots) (number view s : ℕ) → (low < number) ⊎ (number ≤ low) → s < 10 → is_among (number ∷ view ∷ s ∷ []) (keys_by_number low numbers) ≡ false → slot_of low numbers number view ≡ empty_slot
+slot_out low numbers number view s (inl above) lt e =
+    ap (λ b. cond b (slots_at numbers (number - low - 1) view) empty_slot) (lt-ltb low number above) ∙ slot_missing numbers low (number - low - 1) number view s (omega (arith, above)) lt e
+slot_out low numbers number view s (inr under) lt e = ap (λ b. cond b (slots_at numbers (number - low - 1) view) empty_slot) (le-ltb low number under)
 
-vote_out : (kind : VoteKind) (low : ℕ) (ps : List Place) (number view s : ℕ) → is_among (number ∷ view ∷ s ∷ []) (keys_by_number low ps) ≡ false → (s < 10) ⊎ (10 ≤ s) → vote_at_key kind low ps (number ∷ view ∷ s ∷ []) ≡ None
-vote_out kind low ps number view s e (inl lt) =
-    ap (λ b. cond b (vote_by kind s (slot_of low ps number view)) None) (lt-ltb s 10 lt) ∙ ap (vote_by kind s) (slot_out low ps number view s (cases_lt low number) lt e) ∙ no_vote kind s
-vote_out kind low ps number view s e (inr le) = ap (λ b. cond b (vote_by kind s (slot_of low ps number view)) None) (le-ltb s 10 le)
+vote_out : (kind : VoteKind) (low : ℕ) (numbers : List ViewSlots) (number view s : ℕ) → is_among (number ∷ view ∷ s ∷ []) (keys_by_number low numbers) ≡ false → (s < 10) ⊎ (10 ≤ s) → vote_at_key kind low numbers (number ∷ view ∷ s ∷ []) ≡ None
+vote_out kind low numbers number view s e (inl lt) =
+    ap (λ b. cond b (vote_by kind s (slot_of low numbers number view)) None) (lt-ltb s 10 lt) ∙ ap (vote_by kind s) (slot_out low numbers number view s (cases_lt low number) lt e) ∙ no_vote kind s
+vote_out kind low numbers number view s e (inr le) = ap (λ b. cond b (vote_by kind s (slot_of low numbers number view)) None) (le-ltb s 10 le)
 
-pub covers_votes : (kind : VoteKind) (low : ℕ) (ps : List Place) → Covers (vote_at_key kind low ps) (keys_by_number low ps)
-covers_votes kind low ps [] e = refl
-covers_votes kind low ps (number ∷ []) e = refl
-covers_votes kind low ps (number ∷ view ∷ []) e = refl
-covers_votes kind low ps (number ∷ view ∷ signer ∷ []) e = vote_out kind low ps number view signer e (cases_lt signer 10)
-covers_votes kind low ps (number ∷ view ∷ signer ∷ more ∷ rest) e = refl
+pub covers_votes : (kind : VoteKind) (low : ℕ) (numbers : List ViewSlots) → Covers (vote_at_key kind low numbers) (keys_by_number low numbers)
+covers_votes kind low numbers [] e = refl
+covers_votes kind low numbers (number ∷ []) e = refl
+covers_votes kind low numbers (number ∷ view ∷ []) e = refl
+covers_votes kind low numbers (number ∷ view ∷ signer ∷ []) e = vote_out kind low numbers number view signer e (cases_lt signer 10)
+covers_votes kind low numbers (number ∷ view ∷ signer ∷ more ∷ rest) e = refl
 
 covers_read : {B : Type 0} (pick : Signed Body → Body → Option (Signed B)) (value : Key → Option CheckedMessage) (ks : List Key) → Covers value ks → Covers (λ q. read_by pick (value q)) ks
 covers_read pick value ks h q e = ap (read_by pick) (h q e)
 
-pub covers_table : {B : Type 0} (pick : Signed Body → Body → Option (Signed B)) (kind : VoteKind) (low : ℕ) (ps : List Place) → Covers (λ q. read_by pick (vote_at_key kind low ps q)) (keys_by_number low ps)
-covers_table pick kind low ps = covers_read pick (vote_at_key kind low ps) (keys_by_number low ps) (covers_votes kind low ps)
+pub covers_table : {B : Type 0} (pick : Signed Body → Body → Option (Signed B)) (kind : VoteKind) (low : ℕ) (numbers : List ViewSlots) → Covers (λ q. read_by pick (vote_at_key kind low numbers q)) (keys_by_number low numbers)
+covers_table pick kind low numbers = covers_read pick (vote_at_key kind low numbers) (keys_by_number low numbers) (covers_votes kind low numbers)
 
 -- ---- nothing recorded
 
@@ -130,35 +130,35 @@ pub either_empty : (b : Bool) (s : Slot) → s ≡ empty_slot → cond b s empty
 either_empty true s e = e
 either_empty false s e = refl
 
-nothing_at : (kind : VoteKind) (low : ℕ) (ps : List Place) → ((i v : ℕ) → slots_at ps i v ≡ empty_slot) → (q : Key) → vote_at_key kind low ps q ≡ None
-nothing_at kind low ps h [] = refl
-nothing_at kind low ps h (number ∷ []) = refl
-nothing_at kind low ps h (number ∷ view ∷ []) = refl
-nothing_at kind low ps h (number ∷ view ∷ signer ∷ []) =
-    either_none (nat_lt signer 10) (vote_by kind signer (slot_of low ps number view))
-    (ap (vote_by kind signer) (either_empty (nat_lt low number) (slots_at ps (number - low - 1) view) (h (number - low - 1) view)) ∙ no_vote kind signer)
-nothing_at kind low ps h (number ∷ view ∷ signer ∷ more ∷ rest) = refl
+nothing_at : (kind : VoteKind) (low : ℕ) (numbers : List ViewSlots) → ((i v : ℕ) → slots_at numbers i v ≡ empty_slot) → (q : Key) → vote_at_key kind low numbers q ≡ None
+nothing_at kind low numbers h [] = refl
+nothing_at kind low numbers h (number ∷ []) = refl
+nothing_at kind low numbers h (number ∷ view ∷ []) = refl
+nothing_at kind low numbers h (number ∷ view ∷ signer ∷ []) =
+    either_none (nat_lt signer 10) (vote_by kind signer (slot_of low numbers number view))
+    (ap (vote_by kind signer) (either_empty (nat_lt low number) (slots_at numbers (number - low - 1) view) (h (number - low - 1) view)) ∙ no_vote kind signer)
+nothing_at kind low numbers h (number ∷ view ∷ signer ∷ more ∷ rest) = refl
 
-pub empty_table : {B : Type 0} (pick : Signed Body → Body → Option (Signed B)) (kind : VoteKind) (low : ℕ) (ps : List Place) → ((i v : ℕ) → slots_at ps i v ≡ empty_slot) → table_of pick kind low ps ≡ []
-empty_table pick kind low ps h =
-    is_read_off (λ q. read_by pick (vote_at_key kind low ps q)) (keys_by_number low ps) [] (covers_table pick kind low ps) tt
-    (λ q. sym (ap (read_by pick) (nothing_at kind low ps h q)))
+pub empty_table : {B : Type 0} (pick : Signed Body → Body → Option (Signed B)) (kind : VoteKind) (low : ℕ) (numbers : List ViewSlots) → ((i v : ℕ) → slots_at numbers i v ≡ empty_slot) → table_of pick kind low numbers ≡ []
+empty_table pick kind low numbers h =
+    is_read_off (λ q. read_by pick (vote_at_key kind low numbers q)) (keys_by_number low numbers) [] (covers_table pick kind low numbers) tt
+    (λ q. sym (ap (read_by pick) (nothing_at kind low numbers h q)))
 
-pub empty_log : (ps : List Place) → ((i v : ℕ) → slots_at ps i v ≡ empty_slot) → log_in 0 (Some (record { 0 = 0 })) 0 ps ≡ start
-empty_log ps h = λ i. record {
+pub empty_log : (numbers : List ViewSlots) → ((i v : ℕ) → slots_at numbers i v ≡ empty_slot) → log_in 0 (Some (record { 0 = 0 })) 0 numbers ≡ start
+empty_log numbers h = λ i. record {
   view = 0;
   floor = Some 0;
   low = 0;
-  pre_prepares = empty_table as_pre_prepare PrePrepare 0 ps h i;
-  prepares = empty_table as_prepare Prepare 0 ps h i;
-  commits = empty_table as_commit Commit 0 ps h i;
+  pre_prepares = empty_table as_pre_prepare PrePrepare 0 numbers h i;
+  prepares = empty_table as_prepare Prepare 0 numbers h i;
+  commits = empty_table as_commit Commit 0 numbers h i;
 }
 
--- each vote of empty slots stands at its own
-pub empty_kept : (c : Configuration) (ps : List Place) → length ps ≡ 2 * c.k → ((i v : ℕ) → slots_at ps i v ≡ empty_slot) → AreKept c 0 ps
-empty_kept c ps e h = record {
+-- each vote of empty slots is at its own view and number
+pub empty_kept : (c : Configuration) (numbers : List ViewSlots) → length numbers ≡ 2 * c.k → ((i v : ℕ) → slots_at numbers i v ≡ empty_slot) → AreKept c 0 numbers
+empty_kept c numbers e h = record {
   span = e;
-  slots = λ number view. subst (IsSlotAt c view number) (sym (either_empty (nat_lt 0 number) (slots_at ps (number - 0 - 1) view) (h (number - 0 - 1) view))) (slot_none c view number);
+  slots = λ number view. subst (IsSlotAt c view number) (sym (either_empty (nat_lt 0 number) (slots_at numbers (number - 0 - 1) view) (h (number - 0 - 1) view))) (slot_none c view number);
 }
 
 -- ---- numbers go
@@ -166,10 +166,10 @@ empty_kept c ps e h = record {
 further : (low by n : ℕ) → low < by → by < n → (n - by - 1) + (by - low) ≡ n - low - 1
 further low by n lt le = omega (arith, lt, le)
 
-pub slot_kept : (low by : ℕ) (ps news : List Place) → low < by → ((i v : ℕ) → slots_at news i v ≡ slots_at ps (i + (by - low)) v) → (n v : ℕ) → (by < n) ⊎ (n ≤ by) → slot_of by news n v ≡ cond (nat_lt by n) (slot_of low ps n v) empty_slot
-slot_kept low by ps news lt h n v (inl above) =
-    ap (λ b. cond b (slots_at news (n - by - 1) v) empty_slot) (lt-ltb by n above) ∙ h (n - by - 1) v ∙ ap (λ i. slots_at ps i v) (further low by n lt above)
-    ∙ sym (ap (λ b. cond b (slots_at ps (n - low - 1) v) empty_slot) (lt-ltb low n (omega (arith, lt, above))))
-    ∙ sym (ap (λ b. cond b (slot_of low ps n v) empty_slot) (lt-ltb by n above))
-slot_kept low by ps news lt h n v (inr under) =
-    ap (λ b. cond b (slots_at news (n - by - 1) v) empty_slot) (le-ltb by n under) ∙ sym (ap (λ b. cond b (slot_of low ps n v) empty_slot) (le-ltb by n under))
+pub slot_kept : (low by : ℕ) (numbers news : List ViewSlots) → low < by → ((i v : ℕ) → slots_at news i v ≡ slots_at numbers (i + (by - low)) v) → (n v : ℕ) → (by < n) ⊎ (n ≤ by) → slot_of by news n v ≡ cond (nat_lt by n) (slot_of low numbers n v) empty_slot
+slot_kept low by numbers news lt h n v (inl above) =
+    ap (λ b. cond b (slots_at news (n - by - 1) v) empty_slot) (lt-ltb by n above) ∙ h (n - by - 1) v ∙ ap (λ i. slots_at numbers i v) (further low by n lt above)
+    ∙ sym (ap (λ b. cond b (slots_at numbers (n - low - 1) v) empty_slot) (lt-ltb low n (omega (arith, lt, above))))
+    ∙ sym (ap (λ b. cond b (slot_of low numbers n v) empty_slot) (lt-ltb by n above))
+slot_kept low by numbers news lt h n v (inr under) =
+    ap (λ b. cond b (slots_at news (n - by - 1) v) empty_slot) (le-ltb by n under) ∙ sym (ap (λ b. cond b (slot_of low numbers n v) empty_slot) (le-ltb by n under))

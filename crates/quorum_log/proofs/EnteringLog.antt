@@ -19,7 +19,7 @@ use Rattle.seal.specs.Votes.{vote_of, vote_in}
 use Rattle.seal.specs.declared.vote.Vote.{Vote}
 use Rattle.seal.specs.declared.vote.VoteKind.{VoteKind}
 use Rattle.seal.specs.declared.vote.VoteKind.TheVariants as kinds
-use Rattle.quorum_log.specs.declared.place.Place.{Place}
+use Rattle.quorum_log.specs.declared.view_slots.ViewSlots.{ViewSlots}
 use Rattle.quorum_log.specs.declared.slot.Slot.{Slot}
 use Rattle.quorum_log.specs.Entering.{AreEntered, AreProper, IsProper, entered_slot, offered_for}
 use Rattle.quorum_log.specs.Log.{AreProposals, IsProposal, Log, as_pre_prepare, is_within, pre_prepares_in, with_all}
@@ -35,29 +35,29 @@ use Rattle.quorum_log.proofs.Windows.{beyond}
 
 -- ---- the slots
 
-pub inside_slot : (low floor view : ℕ) (ms : List CheckedMessage) (ps news : List Place) (n v : ℕ) → AreEntered (length ps) low floor view ms ps news → low < n → n ≤ low + length ps
-    → slot_of low news n v ≡ entered_slot view (nat_lt floor n) (nat_lt (floor + length ms) n) (offered_for floor ms n) v (slot_of low ps n v)
-inside_slot low floor view ms ps news n v h lt le =
+pub inside_slot : (low floor view : ℕ) (ms : List CheckedMessage) (numbers news : List ViewSlots) (n v : ℕ) → AreEntered (length numbers) low floor view ms numbers news → low < n → n ≤ low + length numbers
+    → slot_of low news n v ≡ entered_slot view (nat_lt floor n) (nat_lt (floor + length ms) n) (offered_for floor ms n) v (slot_of low numbers n v)
+inside_slot low floor view ms numbers news n v h lt le =
     let back : low + 1 + (n - low - 1) ≡ n = omega (arith, lt) in
     slot_was low n v news lt ∙ h.slots (n - low - 1) v (omega (arith, lt, le))
-    ∙ ap (λ m. entered_slot view (nat_lt floor m) (nat_lt (floor + length ms) m) (offered_for floor ms m) v (slots_at ps (n - low - 1) v)) back
-    ∙ sym (ap (entered_slot view (nat_lt floor n) (nat_lt (floor + length ms) n) (offered_for floor ms n) v) (slot_was low n v ps lt))
+    ∙ ap (λ m. entered_slot view (nat_lt floor m) (nat_lt (floor + length ms) m) (offered_for floor ms m) v (slots_at numbers (n - low - 1) v)) back
+    ∙ sym (ap (entered_slot view (nat_lt floor n) (nat_lt (floor + length ms) n) (offered_for floor ms n) v) (slot_was low n v numbers lt))
 
-below_slot : (low : ℕ) (ps : List Place) (n v : ℕ) → n ≤ low → slot_of low ps n v ≡ empty_slot
-below_slot low ps n v le = ap (λ b. cond b (slots_at ps (n - low - 1) v) empty_slot) (le-ltb low n le)
+below_slot : (low : ℕ) (numbers : List ViewSlots) (n v : ℕ) → n ≤ low → slot_of low numbers n v ≡ empty_slot
+below_slot low numbers n v le = ap (λ b. cond b (slots_at numbers (n - low - 1) v) empty_slot) (le-ltb low n le)
 
-past_slot : (low : ℕ) (ps : List Place) (n v : ℕ) → low + length ps < n → slot_of low ps n v ≡ empty_slot
-past_slot low ps n v lt = slot_was low n v ps (omega (arith, lt)) ∙ beyond ps (n - low - 1) v (omega (arith, lt))
+past_slot : (low : ℕ) (numbers : List ViewSlots) (n v : ℕ) → low + length numbers < n → slot_of low numbers n v ≡ empty_slot
+past_slot low numbers n v lt = slot_was low n v numbers (omega (arith, lt)) ∙ beyond numbers (n - low - 1) v (omega (arith, lt))
 
 -- between the marks, or not
-pub data Where (low : ℕ) (ps news : List Place) (n : ℕ) : Type 0 where
-  inside : low < n → n ≤ low + length ps → Where low ps news n
-  outside : (n ≤ low) ⊎ (low + length ps < n) → ((v : ℕ) → slot_of low ps n v ≡ empty_slot) → ((v : ℕ) → slot_of low news n v ≡ empty_slot) → Where low ps news n
+pub data Where (low : ℕ) (numbers news : List ViewSlots) (n : ℕ) : Type 0 where
+  inside : low < n → n ≤ low + length numbers → Where low numbers news n
+  outside : (n ≤ low) ⊎ (low + length numbers < n) → ((v : ℕ) → slot_of low numbers n v ≡ empty_slot) → ((v : ℕ) → slot_of low news n v ≡ empty_slot) → Where low numbers news n
 
-pub where_is : (low : ℕ) (ps news : List Place) (n : ℕ) → length news ≡ length ps → (low < n) ⊎ (n ≤ low) → (low + length ps < n) ⊎ (n ≤ low + length ps) → Where low ps news n
-where_is low ps news n long (inr le) o = outside (inl le) (λ v. below_slot low ps n v le) (λ v. below_slot low news n v le)
-where_is low ps news n long (inl lt) (inl past) = outside (inr past) (λ v. past_slot low ps n v past) (λ v. past_slot low news n v (omega (arith, past, long)))
-where_is low ps news n long (inl lt) (inr le) = inside lt le
+pub where_is : (low : ℕ) (numbers news : List ViewSlots) (n : ℕ) → length news ≡ length numbers → (low < n) ⊎ (n ≤ low) → (low + length numbers < n) ⊎ (n ≤ low + length numbers) → Where low numbers news n
+where_is low numbers news n long (inr le) o = outside (inl le) (λ v. below_slot low numbers n v le) (λ v. below_slot low news n v le)
+where_is low numbers news n long (inl lt) (inl past) = outside (inr past) (λ v. past_slot low numbers n v past) (λ v. past_slot low news n v (omega (arith, past, long)))
+where_is low numbers news n long (inl lt) (inr le) = inside lt le
 
 -- ---- Prepares and Commits
 
@@ -98,35 +98,35 @@ read_if pick true false o = refl
 read_if pick false true o = refl
 read_if pick false false o = refl
 
-stays_at : {B : Type 0} (pick : Signed Body → Body → Option (Signed B)) (kind : VoteKind) (low floor view : ℕ) (ms : List CheckedMessage) (ps news : List Place) → Stays kind → AreEntered (length ps) low floor view ms ps news → (n v s : ℕ) → Where low ps news n
-    → read_by pick (vote_at_key kind low news (vote_key n v s)) ≡ cond (is_of_entered view floor (vote_key n v s)) (read_by pick (vote_at_key kind low ps (vote_key n v s))) None
-stays_at pick kind low floor view ms ps news k h n v s (inside lt le) =
-    ap (λ slot. read_by pick (cond (nat_lt s 10) (vote_by kind s slot) None)) (inside_slot low floor view ms ps news n v h lt le)
-    ∙ ap (λ o. read_by pick (cond (nat_lt s 10) o None)) (k s (slot_of low ps n v) (offered_for floor ms n) (nat_lt view v) (v == view) (nat_lt floor n) (nat_lt (floor + length ms) n))
-    ∙ read_if pick (nat_lt s 10) (nat_lt view v || ((v == view) && nat_lt floor n)) (vote_by kind s (slot_of low ps n v))
-    ∙ ap (λ b. cond (nat_lt view v || (b && nat_lt floor n)) (read_by pick (vote_at_key kind low ps (vote_key n v s))) None) (equal_other v view)
-stays_at pick kind low floor view ms ps news k h n v s (outside o empty empty_now) =
+stays_at : {B : Type 0} (pick : Signed Body → Body → Option (Signed B)) (kind : VoteKind) (low floor view : ℕ) (ms : List CheckedMessage) (numbers news : List ViewSlots) → Stays kind → AreEntered (length numbers) low floor view ms numbers news → (n v s : ℕ) → Where low numbers news n
+    → read_by pick (vote_at_key kind low news (vote_key n v s)) ≡ cond (is_of_entered view floor (vote_key n v s)) (read_by pick (vote_at_key kind low numbers (vote_key n v s))) None
+stays_at pick kind low floor view ms numbers news k h n v s (inside lt le) =
+    ap (λ slot. read_by pick (cond (nat_lt s 10) (vote_by kind s slot) None)) (inside_slot low floor view ms numbers news n v h lt le)
+    ∙ ap (λ o. read_by pick (cond (nat_lt s 10) o None)) (k s (slot_of low numbers n v) (offered_for floor ms n) (nat_lt view v) (v == view) (nat_lt floor n) (nat_lt (floor + length ms) n))
+    ∙ read_if pick (nat_lt s 10) (nat_lt view v || ((v == view) && nat_lt floor n)) (vote_by kind s (slot_of low numbers n v))
+    ∙ ap (λ b. cond (nat_lt view v || (b && nat_lt floor n)) (read_by pick (vote_at_key kind low numbers (vote_key n v s))) None) (equal_other v view)
+stays_at pick kind low floor view ms numbers news k h n v s (outside o empty empty_now) =
     let none = λ (slot : Slot) (e : slot ≡ empty_slot). ap (λ slot. read_by pick (cond (nat_lt s 10) (vote_by kind s slot) None)) e ∙ ap (λ o. read_by pick (cond (nat_lt s 10) o None)) (no_vote kind s) in
     none (slot_of low news n v) (empty_now v) ∙ small_none (nat_lt s 10)
     ∙ none_either (is_of_entered view floor (vote_key n v s))
-    ∙ sym (ap (λ o. cond (is_of_entered view floor (vote_key n v s)) o None) (none (slot_of low ps n v) (empty v) ∙ small_none (nat_lt s 10))) where
+    ∙ sym (ap (λ o. cond (is_of_entered view floor (vote_key n v s)) o None) (none (slot_of low numbers n v) (empty v) ∙ small_none (nat_lt s 10))) where
       small_none : (b : Bool) → read_by pick (cond b None None) ≡ None
       small_none true = refl
       small_none false = refl
 
-stays_key : {B : Type 0} (pick : Signed Body → Body → Option (Signed B)) (kind : VoteKind) (low floor view : ℕ) (ms : List CheckedMessage) (ps news : List Place) → Stays kind → AreEntered (length ps) low floor view ms ps news → (q : Key)
-    → read_by pick (vote_at_key kind low news q) ≡ cond (is_of_entered view floor q) (read_by pick (vote_at_key kind low ps q)) None
-stays_key pick kind low floor view ms ps news k h [] = none_either (is_of_entered view floor [])
-stays_key pick kind low floor view ms ps news k h (n ∷ []) = none_either (is_of_entered view floor (n ∷ []))
-stays_key pick kind low floor view ms ps news k h (n ∷ v ∷ []) = none_either (is_of_entered view floor (n ∷ v ∷ []))
-stays_key pick kind low floor view ms ps news k h (n ∷ v ∷ s ∷ []) = stays_at pick kind low floor view ms ps news k h n v s (where_is low ps news n h.as_long (cases_lt low n) (cases_lt (low + length ps) n))
-stays_key pick kind low floor view ms ps news k h (n ∷ v ∷ s ∷ more ∷ rest) = none_either (is_of_entered view floor (n ∷ v ∷ s ∷ more ∷ rest))
+stays_key : {B : Type 0} (pick : Signed Body → Body → Option (Signed B)) (kind : VoteKind) (low floor view : ℕ) (ms : List CheckedMessage) (numbers news : List ViewSlots) → Stays kind → AreEntered (length numbers) low floor view ms numbers news → (q : Key)
+    → read_by pick (vote_at_key kind low news q) ≡ cond (is_of_entered view floor q) (read_by pick (vote_at_key kind low numbers q)) None
+stays_key pick kind low floor view ms numbers news k h [] = none_either (is_of_entered view floor [])
+stays_key pick kind low floor view ms numbers news k h (n ∷ []) = none_either (is_of_entered view floor (n ∷ []))
+stays_key pick kind low floor view ms numbers news k h (n ∷ v ∷ []) = none_either (is_of_entered view floor (n ∷ v ∷ []))
+stays_key pick kind low floor view ms numbers news k h (n ∷ v ∷ s ∷ []) = stays_at pick kind low floor view ms numbers news k h n v s (where_is low numbers news n h.as_long (cases_lt low n) (cases_lt (low + length numbers) n))
+stays_key pick kind low floor view ms numbers news k h (n ∷ v ∷ s ∷ more ∷ rest) = none_either (is_of_entered view floor (n ∷ v ∷ s ∷ more ∷ rest))
 
-pub stays_table : {B : Type 0} (pick : Signed Body → Body → Option (Signed B)) (kind : VoteKind) (low floor view : ℕ) (ms : List CheckedMessage) (ps news : List Place) → Stays kind → AreEntered (length ps) low floor view ms ps news
-    → table_of pick kind low news ≡ keep (is_of_entered view floor) (table_of pick kind low ps)
-stays_table pick kind low floor view ms ps news k h =
-    kept_table (is_of_entered view floor) (λ q. read_by pick (vote_at_key kind low ps q)) (λ q. read_by pick (vote_at_key kind low news q)) (keys_by_number low ps) (keys_by_number low news)
-    (covers_table pick kind low ps) (covers_table pick kind low news) (stays_key pick kind low floor view ms ps news k h)
+pub stays_table : {B : Type 0} (pick : Signed Body → Body → Option (Signed B)) (kind : VoteKind) (low floor view : ℕ) (ms : List CheckedMessage) (numbers news : List ViewSlots) → Stays kind → AreEntered (length numbers) low floor view ms numbers news
+    → table_of pick kind low news ≡ keep (is_of_entered view floor) (table_of pick kind low numbers)
+stays_table pick kind low floor view ms numbers news k h =
+    kept_table (is_of_entered view floor) (λ q. read_by pick (vote_at_key kind low numbers q)) (λ q. read_by pick (vote_at_key kind low news q)) (keys_by_number low numbers) (keys_by_number low news)
+    (covers_table pick kind low numbers) (covers_table pick kind low news) (stays_key pick kind low floor view ms numbers news k h)
 
 -- ---- the list of PrePrepares
 
@@ -242,13 +242,13 @@ abbrev pub top_of : ℕ → List (Signed Body) → ℕ
 top_of floor xs = floor + length xs
 
 -- what a log has of PrePrepares before the list comes
-abbrev pub Table_before : ℕ → ℕ → ℕ → List Place → Table (Signed PrePrepare)
-Table_before view top low ps = keep (is_of_entered view top) (table_of as_pre_prepare kinds.PrePrepare low ps)
+abbrev pub Table_before : ℕ → ℕ → ℕ → List ViewSlots → Table (Signed PrePrepare)
+Table_before view top low numbers = keep (is_of_entered view top) (table_of as_pre_prepare kinds.PrePrepare low numbers)
 
-pub before_at : (view top low : ℕ) (ps : List Place) (q : Key) → at (Table_before view top low ps) q ≡ cond (is_of_entered view top q) (read_by as_pre_prepare (vote_at_key kinds.PrePrepare low ps q)) None
-before_at view top low ps q =
-    find-where_key by (is_of_entered view top) q (λ x e. ap (is_of_entered view top) (sym (same_key q x e))) (table_of as_pre_prepare kinds.PrePrepare low ps)
-    ∙ ap (λ o. cond (is_of_entered view top q) o None) (found (λ q. read_by as_pre_prepare (vote_at_key kinds.PrePrepare low ps q)) (keys_by_number low ps) q (covers_table as_pre_prepare kinds.PrePrepare low ps))
+pub before_at : (view top low : ℕ) (numbers : List ViewSlots) (q : Key) → at (Table_before view top low numbers) q ≡ cond (is_of_entered view top q) (read_by as_pre_prepare (vote_at_key kinds.PrePrepare low numbers q)) None
+before_at view top low numbers q =
+    find-where_key by (is_of_entered view top) q (λ x e. ap (is_of_entered view top) (sym (same_key q x e))) (table_of as_pre_prepare kinds.PrePrepare low numbers)
+    ∙ ap (λ o. cond (is_of_entered view top q) o None) (found (λ q. read_by as_pre_prepare (vote_at_key kinds.PrePrepare low numbers q)) (keys_by_number low numbers) q (covers_table as_pre_prepare kinds.PrePrepare low numbers))
 
 below_top : (view top n : ℕ) → n ≤ top → (nat_lt view view || ((view == view) && nat_lt top n)) ≡ false
 below_top view top n le = ap (λ b. b || ((view == view) && nat_lt top n)) (le-ltb view view (omega arith)) ∙ ap (λ b. (view == view) && b) (le-ltb top n le) ∙ and_false (view == view) where
@@ -256,9 +256,9 @@ below_top view top n le = ap (λ b. b || ((view == view) && nat_lt top n)) (le-l
   and_false true = refl
   and_false false = refl
 
-pub before_free : (view top low number : ℕ) (ps : List Place) → AreFree view number top (Table_before view top low ps)
-before_free view top low number ps n s le up =
-    before_at view top low ps (vote_key n view s) ∙ ap (λ b. cond b (read_by as_pre_prepare (vote_at_key kinds.PrePrepare low ps (vote_key n view s))) None) (below_top view top n up)
+pub before_free : (view top low number : ℕ) (numbers : List ViewSlots) → AreFree view number top (Table_before view top low numbers)
+before_free view top low number numbers n s le up =
+    before_at view top low numbers (vote_key n view s) ∙ ap (λ b. cond b (read_by as_pre_prepare (vote_at_key kinds.PrePrepare low numbers (vote_key n view s))) None) (below_top view top n up)
 
 -- the slot's PrePrepare
 pub proposal_entered : (s : ℕ) (slot : Slot) (given : Option CheckedMessage) (higher own above top : Bool) → (own ≡ true → above ≡ true → top ≡ false → ⊥)
@@ -374,20 +374,20 @@ entered_kept c view floor n v xs slot false false above top h p k is = slot_none
 same_view : (v view : ℕ) → (v == view) ≡ true → v ≡ view
 same_view v view e = eqb-true v view e
 
-slot_entered_kept : (c : Configuration) (low floor view : ℕ) (xs : List (Signed Body)) (ps news : List Place) (n v : ℕ) → AreKept c low ps → AreProposals view (floor + 1) xs → AreEntered (length ps) low floor view (map (under c) xs) ps news → AreProper (length ps) low floor (map (under c) xs)
-    → Where low ps news n → IsSlotAt c v n (slot_of low news n v)
-slot_entered_kept c low floor view xs ps news n v k h e p (outside o empty empty_now) = subst (IsSlotAt c v n) (sym (empty_now v)) (slot_none c v n)
-slot_entered_kept c low floor view xs ps news n v k h e p (inside lt le) =
+slot_entered_kept : (c : Configuration) (low floor view : ℕ) (xs : List (Signed Body)) (numbers news : List ViewSlots) (n v : ℕ) → AreKept c low numbers → AreProposals view (floor + 1) xs → AreEntered (length numbers) low floor view (map (under c) xs) numbers news → AreProper (length numbers) low floor (map (under c) xs)
+    → Where low numbers news n → IsSlotAt c v n (slot_of low news n v)
+slot_entered_kept c low floor view xs numbers news n v k h e p (outside o empty empty_now) = subst (IsSlotAt c v n) (sym (empty_now v)) (slot_none c v n)
+slot_entered_kept c low floor view xs numbers news n v k h e p (inside lt le) =
     let back : low + 1 + (n - low - 1) ≡ n = omega (arith, lt) in
     let proper = subst (λ m. IsProper (offered_for floor (map (under c) xs) m)) back (p (n - low - 1) (omega (arith, lt, le))) in
-    subst (IsSlotAt c v n) (sym (inside_slot low floor view (map (under c) xs) ps news n v e lt le))
-    (entered_kept c view floor n v xs (slot_of low ps n v) (nat_lt view v) (v == view) (nat_lt floor n) (nat_lt (floor + length (map (under c) xs)) n) h proper (k.slots n v) (same_view v view))
+    subst (IsSlotAt c v n) (sym (inside_slot low floor view (map (under c) xs) numbers news n v e lt le))
+    (entered_kept c view floor n v xs (slot_of low numbers n v) (nat_lt view v) (v == view) (nat_lt floor n) (nat_lt (floor + length (map (under c) xs)) n) h proper (k.slots n v) (same_view v view))
 
-pub entered_are_kept : (c : Configuration) (low floor view : ℕ) (now : SeqNo) (xs : List (Signed Body)) (ps news : List Place) → AreKept c low ps → AreProposals view (floor + 1) xs → AreEntered (length ps) low floor view (map (under c) xs) ps news → AreProper (length ps) low floor (map (under c) xs) → now.0 ≡ low
+pub entered_are_kept : (c : Configuration) (low floor view : ℕ) (now : SeqNo) (xs : List (Signed Body)) (numbers news : List ViewSlots) → AreKept c low numbers → AreProposals view (floor + 1) xs → AreEntered (length numbers) low floor view (map (under c) xs) numbers news → AreProper (length numbers) low floor (map (under c) xs) → now.0 ≡ low
     → AreKept c now.0 news
-entered_are_kept c low floor view now xs ps news k h e p same = subst (λ n. AreKept c n news) (sym same) (record {
+entered_are_kept c low floor view now xs numbers news k h e p same = subst (λ n. AreKept c n news) (sym same) (record {
   span = e.as_long ∙ k.span;
-  slots = λ n v. slot_entered_kept c low floor view xs ps news n v k h e p (where_is low ps news n e.as_long (cases_lt low n) (cases_lt (low + length ps) n));
+  slots = λ n v. slot_entered_kept c low floor view xs numbers news n v k h e p (where_is low numbers news n e.as_long (cases_lt low n) (cases_lt (low + length numbers) n));
 })
 
 -- ---- the table of PrePrepares

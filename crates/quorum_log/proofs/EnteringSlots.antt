@@ -1,4 +1,4 @@
--- Places as a view is entered, one after another.
+-- Slots as a view is entered, one after another.
 use Rattle.std.proofs.Common.{◌≡◌, ◌≢◌, ℕ, zero, suc, ◌+◌, ◌-◌, ◌<◌, ◌≤◌, ◌^◌, Bool, true, false, cond, List, [], ◌∷◌, ◌++◌, length, get_or, min, Option, None, refl, sym, ap, subst, ◌∙◌, arith, ◌⊎◌, inl, inr}
 use Rattle.std.specs.Prelude.{IsSome, nat_lt, slice_get, slice_set}
 use Rattle.std.specs.Option.{unwrap_or}
@@ -9,7 +9,7 @@ use Rattle.std.proofs.lemmas.List.{get_or_append_left, get_or_default, get_or-se
 use Rattle.std.proofs.lemmas.Option.{slice_get_past}
 use Rattle.std.proofs.Math.Seq.{get_or-append_seam}
 use Rattle.seal.specs.Opening.{CheckedMessage}
-use Rattle.quorum_log.specs.declared.place.Place.{Place}
+use Rattle.quorum_log.specs.declared.view_slots.ViewSlots.{ViewSlots}
 use Rattle.quorum_log.specs.Entering.{AreEntered, ArePrepared, AreProper, IsProper, IsReady, entered_slot, given_at, offered_for, open_at}
 use Rattle.quorum_log.specs.Slots.{HaveSameSlots, empty_slot, slot_in}
 use Rattle.quorum_log.specs.Windows.{HaveSameWindows, slots_at}
@@ -17,30 +17,30 @@ use Rattle.quorum_log.proofs.Windows.{same_set, set_other, set_same}
 
 -- ---- the slot at an index
 
-pub slot_open : (ps : List Place) (i v : ℕ) → slots_at ps i v ≡ unwrap_or (open_at ps i v) empty_slot
+pub slot_open : (numbers : List ViewSlots) (i v : ℕ) → slots_at numbers i v ≡ unwrap_or (open_at numbers i v) empty_slot
 slot_open [] i v = refl
-slot_open (p ∷ ps) zero v = refl
-slot_open (p ∷ ps) (suc i) v = slot_open ps i v
+slot_open (p ∷ numbers) zero v = refl
+slot_open (p ∷ numbers) (suc i) v = slot_open numbers i v
 
-open_or : (ps : List Place) (i v : ℕ) (r : Place) → i < length ps → tree.get nat_cmp (get_or ps i r).slots v ≡ open_at ps i v
+open_or : (numbers : List ViewSlots) (i v : ℕ) (r : ViewSlots) → i < length numbers → tree.get nat_cmp (get_or numbers i r).slots v ≡ open_at numbers i v
 open_or [] i v r h = absurd (omega arith)
-open_or (p ∷ ps) zero v r h = refl
-open_or (p ∷ ps) (suc i) v r h = open_or ps i v r (omega arith)
+open_or (p ∷ numbers) zero v r h = refl
+open_or (p ∷ numbers) (suc i) v r h = open_or numbers i v r (omega arith)
 
-pub open_index : (ps : List Place) (i v : ℕ) (r p : Place) → i < length ps → p ≡ get_or ps i r → tree.get nat_cmp p.slots v ≡ open_at ps i v
-open_index ps i v r p h e = ap (λ p. tree.get nat_cmp p.slots v) e ∙ open_or ps i v r h
+pub open_index : (numbers : List ViewSlots) (i v : ℕ) (r p : ViewSlots) → i < length numbers → p ≡ get_or numbers i r → tree.get nat_cmp p.slots v ≡ open_at numbers i v
+open_index numbers i v r p h e = ap (λ p. tree.get nat_cmp p.slots v) e ∙ open_or numbers i v r h
 
-open_same : (ps : List Place) (i v : ℕ) (p : Place) → i < length ps → open_at (slice_set ps i p) i v ≡ tree.get nat_cmp p.slots v
+open_same : (numbers : List ViewSlots) (i v : ℕ) (p : ViewSlots) → i < length numbers → open_at (slice_set numbers i p) i v ≡ tree.get nat_cmp p.slots v
 open_same [] i v p h = absurd (omega arith)
-open_same (x ∷ ps) zero v p h = refl
-open_same (x ∷ ps) (suc i) v p h = open_same ps i v p (omega arith)
+open_same (x ∷ numbers) zero v p h = refl
+open_same (x ∷ numbers) (suc i) v p h = open_same numbers i v p (omega arith)
 
-open_other : (ps : List Place) (i j v : ℕ) (p : Place) → j ≢ i → open_at (slice_set ps i p) j v ≡ open_at ps j v
+open_other : (numbers : List ViewSlots) (i j v : ℕ) (p : ViewSlots) → j ≢ i → open_at (slice_set numbers i p) j v ≡ open_at numbers j v
 open_other [] i j v p h = refl
-open_other (x ∷ ps) zero zero v p h = absurd (h refl)
-open_other (x ∷ ps) zero (suc j) v p h = refl
-open_other (x ∷ ps) (suc i) zero v p h = refl
-open_other (x ∷ ps) (suc i) (suc j) v p h = open_other ps i j v p (λ e. h (ap suc e))
+open_other (x ∷ numbers) zero zero v p h = absurd (h refl)
+open_other (x ∷ numbers) zero (suc j) v p h = refl
+open_other (x ∷ numbers) (suc i) zero v p h = refl
+open_other (x ∷ numbers) (suc i) (suc j) v p h = open_other numbers i j v p (λ e. h (ap suc e))
 
 -- ---- what is offered at the greatest number there is
 
@@ -70,7 +70,7 @@ above_limit a n small = pick (limit n (either_way n (2 ^ 64 - 1))) where
   pick (inl e) = ap (nat_lt a) e
   pick (inr (e, lt)) = lt-ltb a (min n (2 ^ 64 - 1)) (omega (arith, e, small)) ∙ sym (lt-ltb a n (omega (arith, lt, small)))
 
--- ---- one place more is prepared
+-- ---- one number more is prepared
 
 given_before : (given : List (Option CheckedMessage)) (o : Option CheckedMessage) (many i : ℕ) → length given ≡ many → i < many → given_at (given ++ o ∷ []) i ≡ given_at given i
 given_before given o many i e lt = get_or_append_left given (o ∷ []) None i (omega (arith, e, lt))
@@ -88,9 +88,9 @@ longer : (given : List (Option CheckedMessage)) (o : Option CheckedMessage) → 
 longer [] o = refl
 longer (x ∷ given) o = omega (arith, longer given o)
 
-pub prepared_next : (many low floor view : ℕ) (ms : List CheckedMessage) (given : List (Option CheckedMessage)) (ps : List Place) (o : Option CheckedMessage) (p : Place) → ArePrepared many low floor view ms given ps → many < length ps
-    → o ≡ offered_for floor ms (low + 1 + many) → IsProper o → IsReady o (tree.get nat_cmp p.slots view) → ArePrepared (many + 1) low floor view ms (given ++ o ∷ []) (slice_set ps many p)
-prepared_next many low floor view ms given ps o p h lt e proper ready = record {
+pub prepared_next : (many low floor view : ℕ) (ms : List CheckedMessage) (given : List (Option CheckedMessage)) (numbers : List ViewSlots) (o : Option CheckedMessage) (p : ViewSlots) → ArePrepared many low floor view ms given numbers → many < length numbers
+    → o ≡ offered_for floor ms (low + 1 + many) → IsProper o → IsReady o (tree.get nat_cmp p.slots view) → ArePrepared (many + 1) low floor view ms (given ++ o ∷ []) (slice_set numbers many p)
+prepared_next many low floor view ms given numbers o p h lt e proper ready = record {
   as_many = omega (arith, longer given o, h.as_many);
   offered = λ i below. first i (one_more many i below);
   proper = λ i below. second i (one_more many i below);
@@ -107,51 +107,51 @@ prepared_next many low floor view ms given ps o p h lt e proper ready = record {
   second i (inl below) = subst IsProper (sym (given_before given o many i h.as_many below)) (h.proper i below)
   second i (inr is) = subst IsProper (sym (last i is)) proper
 
-  third : (i : ℕ) → (i < many) ⊎ (i ≡ many) → IsReady (given_at (given ++ o ∷ []) i) (open_at (slice_set ps many p) i view)
+  third : (i : ℕ) → (i < many) ⊎ (i ≡ many) → IsReady (given_at (given ++ o ∷ []) i) (open_at (slice_set numbers many p) i view)
   third i (inl below) =
-      subst (λ s. IsReady (given_at (given ++ o ∷ []) i) s) (sym (open_other ps many i view p (λ is. absurd (omega (arith, is, below)))))
-      (subst (λ g. IsReady g (open_at ps i view)) (sym (given_before given o many i h.as_many below)) (h.ready i below))
+      subst (λ s. IsReady (given_at (given ++ o ∷ []) i) s) (sym (open_other numbers many i view p (λ is. absurd (omega (arith, is, below)))))
+      (subst (λ g. IsReady g (open_at numbers i view)) (sym (given_before given o many i h.as_many below)) (h.ready i below))
   third i (inr is) =
-      subst (λ g. IsReady g (open_at (slice_set ps many p) i view)) (sym (last i is))
-      (subst (IsReady o) (sym (ap (λ i. open_at (slice_set ps many p) i view) is ∙ open_same ps many view p lt)) ready)
+      subst (λ g. IsReady g (open_at (slice_set numbers many p) i view)) (sym (last i is))
+      (subst (IsReady o) (sym (ap (λ i. open_at (slice_set numbers many p) i view) is ∙ open_same numbers many view p lt)) ready)
 
-pub prepared_none : (low floor view : ℕ) (ms : List CheckedMessage) (ps : List Place) → ArePrepared 0 low floor view ms [] ps
-prepared_none low floor view ms ps = record {
+pub prepared_none : (low floor view : ℕ) (ms : List CheckedMessage) (numbers : List ViewSlots) → ArePrepared 0 low floor view ms [] numbers
+prepared_none low floor view ms numbers = record {
   as_many = refl;
   offered = λ i lt. absurd (omega (arith, lt));
   proper = λ i lt. absurd (omega (arith, lt));
   ready = λ i lt. absurd (omega (arith, lt));
 }
 
-pub same_then : (old ps : List Place) (i : ℕ) (r was p : Place) → HaveSameWindows old ps → i < length ps → was ≡ get_or ps i r → HaveSameSlots was.slots p.slots → HaveSameWindows old (slice_set ps i p)
-same_then old ps i r was p h lt e same j v = same_set ps i r was p lt e same j v ∙ h j v
+pub same_then : (old numbers : List ViewSlots) (i : ℕ) (r was p : ViewSlots) → HaveSameWindows old numbers → i < length numbers → was ≡ get_or numbers i r → HaveSameSlots was.slots p.slots → HaveSameWindows old (slice_set numbers i p)
+same_then old numbers i r was p h lt e same j v = same_set numbers i r was p lt e same j v ∙ h j v
 
--- ---- one place more is entered
+-- ---- one number more is entered
 
-pub entered_none : (low floor view : ℕ) (ms : List CheckedMessage) (ps : List Place) → AreEntered 0 low floor view ms ps ps
-entered_none low floor view ms ps = record { as_long = refl; slots = λ i v lt. absurd (omega (arith, lt)); others = λ i v le. refl }
+pub entered_none : (low floor view : ℕ) (ms : List CheckedMessage) (numbers : List ViewSlots) → AreEntered 0 low floor view ms numbers numbers
+entered_none low floor view ms numbers = record { as_long = refl; slots = λ i v lt. absurd (omega (arith, lt)); others = λ i v le. refl }
 
-pub entered_next : (many low floor view : ℕ) (ms : List CheckedMessage) (old ps : List Place) (r was p : Place) (above top : Bool) (given : Option CheckedMessage) → AreEntered many low floor view ms old ps → many < length old
-    → was ≡ get_or ps many r → ((v : ℕ) → slot_in p.slots v ≡ entered_slot view above top given v (slot_in was.slots v))
+pub entered_next : (many low floor view : ℕ) (ms : List CheckedMessage) (old numbers : List ViewSlots) (r was p : ViewSlots) (above top : Bool) (given : Option CheckedMessage) → AreEntered many low floor view ms old numbers → many < length old
+    → was ≡ get_or numbers many r → ((v : ℕ) → slot_in p.slots v ≡ entered_slot view above top given v (slot_in was.slots v))
     → above ≡ nat_lt floor (low + 1 + many) → top ≡ nat_lt (floor + length ms) (low + 1 + many) → given ≡ offered_for floor ms (low + 1 + many)
-    → AreEntered (many + 1) low floor view ms old (slice_set ps many p)
-entered_next many low floor view ms old ps r was p above top given h lt e entered a t g = record {
-  as_long = length-set ps many p ∙ h.as_long;
+    → AreEntered (many + 1) low floor view ms old (slice_set numbers many p)
+entered_next many low floor view ms old numbers r was p above top given h lt e entered a t g = record {
+  as_long = length-set numbers many p ∙ h.as_long;
   slots = λ i v below. slot i v (one_more many i below);
-  others = λ i v le. open_other ps many i v p (λ is. absurd (omega (arith, is, le))) ∙ h.others i v (omega (arith, le));
+  others = λ i v le. open_other numbers many i v p (λ is. absurd (omega (arith, is, le))) ∙ h.others i v (omega (arith, le));
 } where
-  within : many < length ps
+  within : many < length numbers
   within = omega (arith, lt, h.as_long)
 
   before : (v : ℕ) → slot_in was.slots v ≡ slots_at old many v
   before v =
-      ap (λ o. unwrap_or o empty_slot) (open_index ps many v r was within e ∙ h.others many v (omega arith)) ∙ sym (slot_open old many v)
+      ap (λ o. unwrap_or o empty_slot) (open_index numbers many v r was within e ∙ h.others many v (omega arith)) ∙ sym (slot_open old many v)
 
   slot : (i v : ℕ) → (i < many) ⊎ (i ≡ many)
-      → slots_at (slice_set ps many p) i v ≡ entered_slot view (nat_lt floor (low + 1 + i)) (nat_lt (floor + length ms) (low + 1 + i)) (offered_for floor ms (low + 1 + i)) v (slots_at old i v)
-  slot i v (inl below) = set_other ps many i v p (λ is. absurd (omega (arith, is, below))) ∙ h.slots i v below
+      → slots_at (slice_set numbers many p) i v ≡ entered_slot view (nat_lt floor (low + 1 + i)) (nat_lt (floor + length ms) (low + 1 + i)) (offered_for floor ms (low + 1 + i)) v (slots_at old i v)
+  slot i v (inl below) = set_other numbers many i v p (λ is. absurd (omega (arith, is, below))) ∙ h.slots i v below
   slot i v (inr is) =
-      ap (λ i. slots_at (slice_set ps many p) i v) is ∙ set_same ps many v p within ∙ entered v ∙ ap (entered_slot view above top given v) (before v)
+      ap (λ i. slots_at (slice_set numbers many p) i v) is ∙ set_same numbers many v p within ∙ entered v ∙ ap (entered_slot view above top given v) (before v)
       ∙ ap (λ b. entered_slot view b top given v (slots_at old many v)) a
       ∙ ap (λ b. entered_slot view (nat_lt floor (low + 1 + many)) b given v (slots_at old many v)) t
       ∙ ap (λ o. entered_slot view (nat_lt floor (low + 1 + many)) (nat_lt (floor + length ms) (low + 1 + many)) o v (slots_at old many v)) g
@@ -172,24 +172,24 @@ left_given given i j o le = get_or-set_other given i j o None (λ is. absurd (om
 
 -- ---- the steps of the loops
 
-own_is : (many low floor view : ℕ) (ms : List CheckedMessage) (given left : List (Option CheckedMessage)) (old : List Place) (o s : Option CheckedMessage) → ArePrepared (length old) low floor view ms given old → many < length old
+own_is : (many low floor view : ℕ) (ms : List CheckedMessage) (given left : List (Option CheckedMessage)) (old : List ViewSlots) (o s : Option CheckedMessage) → ArePrepared (length old) low floor view ms given old → many < length old
     → o ≡ get_or left many s → length left ≡ length given → ((i : ℕ) → many ≤ i → given_at left i ≡ given_at given i) → o ≡ given_at given many
 own_is many low floor view ms given left old o s h lt e long same =
     e ∙ get_or_default left many s None (omega (arith, lt, long, h.as_many)) ∙ same many (omega arith)
 
-pub ready_at : (many low floor view : ℕ) (ms : List CheckedMessage) (given left : List (Option CheckedMessage)) (old ps : List Place) (r p : Place) (o s : Option CheckedMessage) → ArePrepared (length old) low floor view ms given old → AreEntered many low floor view ms old ps → many < length old
-    → o ≡ get_or left many s → length left ≡ length given → ((i : ℕ) → many ≤ i → given_at left i ≡ given_at given i) → p ≡ get_or ps many r → IsReady o (tree.get nat_cmp p.slots view)
-ready_at many low floor view ms given left old ps r p o s h g lt e long same is =
+pub ready_at : (many low floor view : ℕ) (ms : List CheckedMessage) (given left : List (Option CheckedMessage)) (old numbers : List ViewSlots) (r p : ViewSlots) (o s : Option CheckedMessage) → ArePrepared (length old) low floor view ms given old → AreEntered many low floor view ms old numbers → many < length old
+    → o ≡ get_or left many s → length left ≡ length given → ((i : ℕ) → many ≤ i → given_at left i ≡ given_at given i) → p ≡ get_or numbers many r → IsReady o (tree.get nat_cmp p.slots view)
+ready_at many low floor view ms given left old numbers r p o s h g lt e long same is =
     subst (λ q. IsReady q (tree.get nat_cmp p.slots view)) (sym (own_is many low floor view ms given left old o s h lt e long same))
-    (subst (IsReady (given_at given many)) (sym (open_index ps many view r p (omega (arith, lt, g.as_long)) is ∙ g.others many view (omega arith))) (h.ready many lt))
+    (subst (IsReady (given_at given many)) (sym (open_index numbers many view r p (omega (arith, lt, g.as_long)) is ∙ g.others many view (omega arith))) (h.ready many lt))
 
-pub offered_own : (many low floor view : ℕ) (ms : List CheckedMessage) (given left : List (Option CheckedMessage)) (old : List Place) (o s : Option CheckedMessage) → ArePrepared (length old) low floor view ms given old → many < length old
+pub offered_own : (many low floor view : ℕ) (ms : List CheckedMessage) (given left : List (Option CheckedMessage)) (old : List ViewSlots) (o s : Option CheckedMessage) → ArePrepared (length old) low floor view ms given old → many < length old
     → o ≡ get_or left many s → length left ≡ length given → ((i : ℕ) → many ≤ i → given_at left i ≡ given_at given i) → o ≡ offered_for floor ms (low + 1 + many)
 offered_own many low floor view ms given left old o s h lt e long same =
     own_is many low floor view ms given left old o s h lt e long same ∙ h.offered many lt
 
-pub all_proper : (low floor view : ℕ) (ms : List CheckedMessage) (given : List (Option CheckedMessage)) (ps : List Place) → ArePrepared (length ps) low floor view ms given ps → AreProper (length ps) low floor ms
-all_proper low floor view ms given ps h i lt = subst IsProper (h.offered i lt) (h.proper i lt)
+pub all_proper : (low floor view : ℕ) (ms : List CheckedMessage) (given : List (Option CheckedMessage)) (numbers : List ViewSlots) → ArePrepared (length numbers) low floor view ms given numbers → AreProper (length numbers) low floor ms
+all_proper low floor view ms given numbers h i lt = subst IsProper (h.offered i lt) (h.proper i lt)
 
 pub length_left : (given : List (Option CheckedMessage)) (i : ℕ) (o : Option CheckedMessage) → length (slice_set given i o) ≡ length given
 length_left given i o = length-set given i o

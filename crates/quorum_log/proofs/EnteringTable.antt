@@ -14,7 +14,7 @@ use Rattle.pbft_model.specs.Acts.{is_of_entered, with_body}
 use Rattle.pbft_model.specs.Tables.{Key, Table, add_if, at, vote_key}
 use Rattle.seal.specs.Lists.{under}
 use Rattle.seal.specs.declared.vote.VoteKind.TheVariants as kinds
-use Rattle.quorum_log.specs.declared.place.Place.{Place}
+use Rattle.quorum_log.specs.declared.view_slots.ViewSlots.{ViewSlots}
 use Rattle.quorum_log.specs.declared.slot.Slot.{Slot}
 use Rattle.quorum_log.specs.Entering.{AreEntered, AreProper, IsProper, offered_for}
 use Rattle.quorum_log.specs.Log.{AreProposals, IsProposal, KeptLog, Log, as_pre_prepare, entered, is_within, opened, pre_prepares_in, with_all}
@@ -41,8 +41,8 @@ same_if c s m y lt is id (inr ne) =
       none true = refl
       none false = refl
 
-no_read : (low : ℕ) (ps : List Place) (n v s : ℕ) → slot_of low ps n v ≡ empty_slot → read_by as_pre_prepare (vote_at_key kinds.PrePrepare low ps (vote_key n v s)) ≡ None
-no_read low ps n v s e = ap (λ slot. read_by as_pre_prepare (cond (nat_lt s 10) (vote_by kinds.PrePrepare s slot) None)) e ∙ none (nat_lt s 10) where
+no_read : (low : ℕ) (numbers : List ViewSlots) (n v s : ℕ) → slot_of low numbers n v ≡ empty_slot → read_by as_pre_prepare (vote_at_key kinds.PrePrepare low numbers (vote_key n v s)) ≡ None
+no_read low numbers n v s e = ap (λ slot. read_by as_pre_prepare (cond (nat_lt s 10) (vote_by kinds.PrePrepare s slot) None)) e ∙ none (nat_lt s 10) where
   none : (b : Bool) → read_by as_pre_prepare (cond b None None) ≡ None
   none true = refl
   none false = refl
@@ -70,14 +70,14 @@ not_within c l view floor top n (inr past) =
       and_false true = refl
       and_false false = refl
 
-listed_inside : (c : Configuration) (low floor view : ℕ) (xs : List (Signed Body)) (ps news : List Place) (n j s : ℕ) (m : Signed Body) (y : Signed PrePrepare) → AreEntered (length ps) low floor view (map (under c) xs) ps news
-    → low < n → n ≤ low + length ps → n ≡ floor + 1 + j → j < length xs → slice_get xs j ≡ Some m → m.id < 10 → as_pre_prepare m m.body ≡ Some y → y.id ≡ m.id
+listed_inside : (c : Configuration) (low floor view : ℕ) (xs : List (Signed Body)) (numbers news : List ViewSlots) (n j s : ℕ) (m : Signed Body) (y : Signed PrePrepare) → AreEntered (length numbers) low floor view (map (under c) xs) numbers news
+    → low < n → n ≤ low + length numbers → n ≡ floor + 1 + j → j < length xs → slice_get xs j ≡ Some m → m.id < 10 → as_pre_prepare m m.body ≡ Some y → y.id ≡ m.id
     → read_by as_pre_prepare (vote_at_key kinds.PrePrepare low news (vote_key n view s)) ≡ cond (s == y.id) (Some y) None
-listed_inside c low floor view xs ps news n j s m y e lt le number in_list there id is same =
-    let old = slot_of low ps n view in
+listed_inside c low floor view xs numbers news n j s m y e lt le number in_list there id is same =
+    let old = slot_of low numbers n view in
     let given = offered_for floor (map (under c) xs) n in
     let read : Slot → Option (Signed PrePrepare) = λ slot. read_by as_pre_prepare (cond (nat_lt s 10) (vote_by kinds.PrePrepare s slot) None) in
-    ap read (inside_slot low floor view (map (under c) xs) ps news n view e lt le
+    ap read (inside_slot low floor view (map (under c) xs) numbers news n view e lt le
     ∙ ap (λ b. cond b old (cond (view == view) (cond (nat_lt floor n) (cond (nat_lt (floor + length (map (under c) xs)) n) old (record old { pre_prepare = given })) empty_slot) empty_slot)) (le-ltb view view (omega arith))
     ∙ ap (λ b. cond b (cond (nat_lt floor n) (cond (nat_lt (floor + length (map (under c) xs)) n) old (record old { pre_prepare = given })) empty_slot) empty_slot) (eq-eqb view view refl)
     ∙ ap (λ b. cond b (cond (nat_lt (floor + length (map (under c) xs)) n) old (record old { pre_prepare = given })) empty_slot) (lt-ltb floor n (omega (arith, number)))
@@ -85,51 +85,51 @@ listed_inside c low floor view xs ps news n j s m y e lt le number in_list there
     ∙ ap (λ o. read_by as_pre_prepare (cond (nat_lt s 10) (if_by s o) None)) (offered_at_number c floor n j xs m number there)
     ∙ same_if c s m y id is same (cases_eq s y.id)
 
-proper_at : (c : Configuration) (low floor n : ℕ) (xs : List (Signed Body)) (ps : List Place) → AreProper (length ps) low floor (map (under c) xs) → low < n → n ≤ low + length ps → IsProper (offered_for floor (map (under c) xs) n)
-proper_at c low floor n xs ps p lt le = subst (λ m. IsProper (offered_for floor (map (under c) xs) m)) (omega (arith, lt)) (p (n - low - 1) (omega (arith, lt, le)))
+proper_at : (c : Configuration) (low floor n : ℕ) (xs : List (Signed Body)) (numbers : List ViewSlots) → AreProper (length numbers) low floor (map (under c) xs) → low < n → n ≤ low + length numbers → IsProper (offered_for floor (map (under c) xs) n)
+proper_at c low floor n xs numbers p lt le = subst (λ m. IsProper (offered_for floor (map (under c) xs) m)) (omega (arith, lt)) (p (n - low - 1) (omega (arith, lt, le)))
 
-at_listed : (c : Configuration) (low floor view : ℕ) (xs : List (Signed Body)) (ps news : List Place) (l : Log) (n j s : ℕ) (m : Signed Body) (y : Signed PrePrepare) → IsConfiguration c → AreProposals view (floor + 1) xs → AreEntered (length ps) low floor view (map (under c) xs) ps news
-    → AreProper (length ps) low floor (map (under c) xs) → length ps ≡ 2 * c.k → l.low ≡ low → n ≡ floor + 1 + j → j < length xs → slice_get xs j ≡ Some m → as_pre_prepare m m.body ≡ Some y → y.id ≡ m.id → Where low ps news n
+at_listed : (c : Configuration) (low floor view : ℕ) (xs : List (Signed Body)) (numbers news : List ViewSlots) (l : Log) (n j s : ℕ) (m : Signed Body) (y : Signed PrePrepare) → IsConfiguration c → AreProposals view (floor + 1) xs → AreEntered (length numbers) low floor view (map (under c) xs) numbers news
+    → AreProper (length numbers) low floor (map (under c) xs) → length numbers ≡ 2 * c.k → l.low ≡ low → n ≡ floor + 1 + j → j < length xs → slice_get xs j ≡ Some m → as_pre_prepare m m.body ≡ Some y → y.id ≡ m.id → Where low numbers news n
     → cond (is_within c (opened view floor (top_of floor xs) l) view n && (s == y.id)) (Some y) None ≡ read_by as_pre_prepare (vote_at_key kinds.PrePrepare low news (vote_key n view s))
-at_listed c low floor view xs ps news l n j s m y k h e p span same number in_list there is id (inside lt le) =
-    let proper = subst IsProper (offered_at_number c floor n j xs m number there) (proper_at c low floor n xs ps p lt le) in
+at_listed c low floor view xs numbers news l n j s m y k h e p span same number in_list there is id (inside lt le) =
+    let proper = subst IsProper (offered_at_number c floor n j xs m number there) (proper_at c low floor n xs numbers p lt le) in
     let vote = proposal_vote c view n m (subst (λ n. IsProposal view n m) (sym number) (proposal_at view (floor + 1) xs j m h there)) proper in
     ap (λ b. cond (b && (s == y.id)) (Some y) None) (within_now c l view floor (top_of floor xs) n (omega (arith, lt, same)) (omega (arith, le, same, span)) (omega (arith, number)))
-    ∙ sym (listed_inside c low floor view xs ps news n j s m y e lt le number in_list there (voter_small c view n kinds.PrePrepare (under c m) k vote) is id)
-at_listed c low floor view xs ps news l n j s m y k h e p span same number in_list there is id (outside (inl le) empty empty_now) =
+    ∙ sym (listed_inside c low floor view xs numbers news n j s m y e lt le number in_list there (voter_small c view n kinds.PrePrepare (under c m) k vote) is id)
+at_listed c low floor view xs numbers news l n j s m y k h e p span same number in_list there is id (outside (inl le) empty empty_now) =
     ap (λ b. cond (b && (s == y.id)) (Some y) None) (not_within c l view floor (top_of floor xs) n (inl (omega (arith, le, same))))
     ∙ sym (no_read low news n view s (empty_now view))
-at_listed c low floor view xs ps news l n j s m y k h e p span same number in_list there is id (outside (inr past) empty empty_now) =
+at_listed c low floor view xs numbers news l n j s m y k h e p span same number in_list there is id (outside (inr past) empty empty_now) =
     ap (λ b. cond (b && (s == y.id)) (Some y) None) (not_within c l view floor (top_of floor xs) n (inr (omega (arith, past, same, span))))
     ∙ sym (no_read low news n view s (empty_now view))
 
 -- ---- elsewhere
 
-at_other : (c : Configuration) (low floor view : ℕ) (xs : List (Signed Body)) (ps news : List Place) (n v s : ℕ) → AreEntered (length ps) low floor view (map (under c) xs) ps news → ((v == view) ≡ true → nat_lt floor n ≡ true → nat_lt (floor + length xs) n ≡ false → ⊥) → Where low ps news n
-    → cond (is_of_entered view (top_of floor xs) (vote_key n v s)) (read_by as_pre_prepare (vote_at_key kinds.PrePrepare low ps (vote_key n v s))) None ≡ read_by as_pre_prepare (vote_at_key kinds.PrePrepare low news (vote_key n v s))
-at_other c low floor view xs ps news n v s e out (inside lt le) =
+at_other : (c : Configuration) (low floor view : ℕ) (xs : List (Signed Body)) (numbers news : List ViewSlots) (n v s : ℕ) → AreEntered (length numbers) low floor view (map (under c) xs) numbers news → ((v == view) ≡ true → nat_lt floor n ≡ true → nat_lt (floor + length xs) n ≡ false → ⊥) → Where low numbers news n
+    → cond (is_of_entered view (top_of floor xs) (vote_key n v s)) (read_by as_pre_prepare (vote_at_key kinds.PrePrepare low numbers (vote_key n v s))) None ≡ read_by as_pre_prepare (vote_at_key kinds.PrePrepare low news (vote_key n v s))
+at_other c low floor view xs numbers news n v s e out (inside lt le) =
     let many : length (map (under c) xs) ≡ length xs = map_length (under c) xs in
     let read : Slot → Option (Signed PrePrepare) = λ slot. read_by as_pre_prepare (cond (nat_lt s 10) (vote_by kinds.PrePrepare s slot) None) in
-    sym (ap read (inside_slot low floor view (map (under c) xs) ps news n v e lt le)
-    ∙ ap (λ o. read_by as_pre_prepare (cond (nat_lt s 10) o None)) (proposal_entered s (slot_of low ps n v) (offered_for floor (map (under c) xs) n) (nat_lt view v) (v == view) (nat_lt floor n) (nat_lt (floor + length (map (under c) xs)) n)
+    sym (ap read (inside_slot low floor view (map (under c) xs) numbers news n v e lt le)
+    ∙ ap (λ o. read_by as_pre_prepare (cond (nat_lt s 10) o None)) (proposal_entered s (slot_of low numbers n v) (offered_for floor (map (under c) xs) n) (nat_lt view v) (v == view) (nat_lt floor n) (nat_lt (floor + length (map (under c) xs)) n)
     (λ a b d. out a b (ap (λ m. nat_lt (floor + m) n) (sym many) ∙ d)))
-    ∙ read_if as_pre_prepare (nat_lt s 10) (nat_lt view v || ((v == view) && (nat_lt floor n && nat_lt (floor + length (map (under c) xs)) n))) (vote_by kinds.PrePrepare s (slot_of low ps n v))
-    ∙ ap (λ m. cond (nat_lt view v || ((v == view) && (nat_lt floor n && nat_lt (floor + m) n))) (read_by as_pre_prepare (vote_at_key kinds.PrePrepare low ps (vote_key n v s))) None) many
-    ∙ ap (λ b. cond (nat_lt view v || ((v == view) && b)) (read_by as_pre_prepare (vote_at_key kinds.PrePrepare low ps (vote_key n v s))) None) (both_above floor (length xs) n)
-    ∙ ap (λ b. cond (nat_lt view v || (b && nat_lt (floor + length xs) n)) (read_by as_pre_prepare (vote_at_key kinds.PrePrepare low ps (vote_key n v s))) None) (equal_other v view))
-at_other c low floor view xs ps news n v s e out (outside o empty empty_now) =
-    ap (λ o. cond (is_of_entered view (top_of floor xs) (vote_key n v s)) o None) (no_read low ps n v s (empty v))
+    ∙ read_if as_pre_prepare (nat_lt s 10) (nat_lt view v || ((v == view) && (nat_lt floor n && nat_lt (floor + length (map (under c) xs)) n))) (vote_by kinds.PrePrepare s (slot_of low numbers n v))
+    ∙ ap (λ m. cond (nat_lt view v || ((v == view) && (nat_lt floor n && nat_lt (floor + m) n))) (read_by as_pre_prepare (vote_at_key kinds.PrePrepare low numbers (vote_key n v s))) None) many
+    ∙ ap (λ b. cond (nat_lt view v || ((v == view) && b)) (read_by as_pre_prepare (vote_at_key kinds.PrePrepare low numbers (vote_key n v s))) None) (both_above floor (length xs) n)
+    ∙ ap (λ b. cond (nat_lt view v || (b && nat_lt (floor + length xs) n)) (read_by as_pre_prepare (vote_at_key kinds.PrePrepare low numbers (vote_key n v s))) None) (equal_other v view))
+at_other c low floor view xs numbers news n v s e out (outside o empty empty_now) =
+    ap (λ o. cond (is_of_entered view (top_of floor xs) (vote_key n v s)) o None) (no_read low numbers n v s (empty v))
     ∙ sym (none_either (is_of_entered view (top_of floor xs) (vote_key n v s))) ∙ sym (no_read low news n v s (empty_now v))
 
 -- ---- each key
 
-abbrev Entered : Configuration → ℕ → ℕ → List (Signed Body) → Log → ℕ → List Place → Table (Signed PrePrepare)
-Entered c floor view xs l low ps = with_all c (opened view floor (top_of floor xs) l) (pre_prepares_in xs) (Table_before view (top_of floor xs) low ps)
+abbrev Entered : Configuration → ℕ → ℕ → List (Signed Body) → Log → ℕ → List ViewSlots → Table (Signed PrePrepare)
+Entered c floor view xs l low numbers = with_all c (opened view floor (top_of floor xs) l) (pre_prepares_in xs) (Table_before view (top_of floor xs) low numbers)
 
-entered_at : (c : Configuration) (low floor view : ℕ) (xs : List (Signed Body)) (ps news : List Place) (l : Log) (n v s : ℕ) → IsConfiguration c → AreProposals view (floor + 1) xs → AreEntered (length ps) low floor view (map (under c) xs) ps news
-    → AreProper (length ps) low floor (map (under c) xs) → length ps ≡ 2 * c.k → l.low ≡ low → Given view floor (length xs) n v
-    → at (Entered c floor view xs l low ps) (vote_key n v s) ≡ read_by as_pre_prepare (vote_at_key kinds.PrePrepare low news (vote_key n v s))
-entered_at c low floor view xs ps news l n v s k h e p span same (listed j number in_list v_is) =
+entered_at : (c : Configuration) (low floor view : ℕ) (xs : List (Signed Body)) (numbers news : List ViewSlots) (l : Log) (n v s : ℕ) → IsConfiguration c → AreProposals view (floor + 1) xs → AreEntered (length numbers) low floor view (map (under c) xs) numbers news
+    → AreProper (length numbers) low floor (map (under c) xs) → length numbers ≡ 2 * c.k → l.low ≡ low → Given view floor (length xs) n v
+    → at (Entered c floor view xs l low numbers) (vote_key n v s) ≡ read_by as_pre_prepare (vote_at_key kinds.PrePrepare low news (vote_key n v s))
+entered_at c low floor view xs numbers news l n v s k h e p span same (listed j number in_list v_is) =
     let t = opened view floor (top_of floor xs) l in
     let ys = pre_prepares_in xs in
     let there = element_at xs j in_list in
@@ -138,31 +138,31 @@ entered_at c low floor view xs ps news l n v s k h e p span same (listed j numbe
     let y = with_body m is.body in
     let read : as_pre_prepare m m.body ≡ Some y = ap (as_pre_prepare m) is.is in
     let found_y : slice_get ys j ≡ Some y = sym (read_listed c view (floor + 1) xs j h) ∙ ap (read_by as_pre_prepare) (slice_get-map (under c) xs j ∙ ap (option_map (under c)) there.1) ∙ read in
-    ap (λ v. at (Entered c floor view xs l low ps) (vote_key n v s)) v_is ∙ ap (λ n. at (Entered c floor view xs l low ps) (vote_key n view s)) number
-    ∙ listed_key c t view (floor + 1) (top_of floor xs) s ys (Table_before view (top_of floor xs) low ps) j y (numbered view (floor + 1) xs h) (before_free view (top_of floor xs) low (floor + 1) ps) (omega (arith, as_many view (floor + 1) xs h)) found_y
+    ap (λ v. at (Entered c floor view xs l low numbers) (vote_key n v s)) v_is ∙ ap (λ n. at (Entered c floor view xs l low numbers) (vote_key n view s)) number
+    ∙ listed_key c t view (floor + 1) (top_of floor xs) s ys (Table_before view (top_of floor xs) low numbers) j y (numbered view (floor + 1) xs h) (before_free view (top_of floor xs) low (floor + 1) numbers) (omega (arith, as_many view (floor + 1) xs h)) found_y
     ∙ ap (λ n. cond (is_within c t view n && (s == y.id)) (Some y) None) (sym number)
-    ∙ at_listed c low floor view xs ps news l n j s m y k h e p span same number in_list there.1 read refl (where_is low ps news n e.as_long (cases_lt low n) (cases_lt (low + length ps) n))
+    ∙ at_listed c low floor view xs numbers news l n j s m y k h e p span same number in_list there.1 read refl (where_is low numbers news n e.as_long (cases_lt low n) (cases_lt (low + length numbers) n))
     ∙ ap (λ v. read_by as_pre_prepare (vote_at_key kinds.PrePrepare low news (vote_key n v s))) (sym v_is)
-entered_at c low floor view xs ps news l n v s k h e p span same (other out apart) =
+entered_at c low floor view xs numbers news l n v s k h e p span same (other out apart) =
     let t = opened view floor (top_of floor xs) l in
-    with_others c t view (floor + 1) (pre_prepares_in xs) (Table_before view (top_of floor xs) low ps) (vote_key n v s) (numbered view (floor + 1) xs h)
+    with_others c t view (floor + 1) (pre_prepares_in xs) (Table_before view (top_of floor xs) low numbers) (vote_key n v s) (numbered view (floor + 1) xs h)
     (λ m u le lt. other_key view floor (length xs) n v s apart m u le (omega (arith, lt, as_many view (floor + 1) xs h)))
-    ∙ before_at view (top_of floor xs) low ps (vote_key n v s)
-    ∙ at_other c low floor view xs ps news n v s e out (where_is low ps news n e.as_long (cases_lt low n) (cases_lt (low + length ps) n))
+    ∙ before_at view (top_of floor xs) low numbers (vote_key n v s)
+    ∙ at_other c low floor view xs numbers news n v s e out (where_is low numbers news n e.as_long (cases_lt low n) (cases_lt (low + length numbers) n))
 
-no_entry : (c : Configuration) (low floor view : ℕ) (xs : List (Signed Body)) (ps : List Place) (l : Log) (q : Key) → AreProposals view (floor + 1) xs → ((n v s : ℕ) → q ≢ vote_key n v s) → vote_at_key kinds.PrePrepare low ps q ≡ None → at (Entered c floor view xs l low ps) q ≡ None
-no_entry c low floor view xs ps l q h ne none =
-    with_others c (opened view floor (top_of floor xs) l) view (floor + 1) (pre_prepares_in xs) (Table_before view (top_of floor xs) low ps) q (numbered view (floor + 1) xs h) (λ n s le lt. ne n view s)
-    ∙ before_at view (top_of floor xs) low ps q ∙ ap (λ o. cond (is_of_entered view (top_of floor xs) q) (read_by as_pre_prepare o) None) none ∙ sym (none_either (is_of_entered view (top_of floor xs) q))
+no_entry : (c : Configuration) (low floor view : ℕ) (xs : List (Signed Body)) (numbers : List ViewSlots) (l : Log) (q : Key) → AreProposals view (floor + 1) xs → ((n v s : ℕ) → q ≢ vote_key n v s) → vote_at_key kinds.PrePrepare low numbers q ≡ None → at (Entered c floor view xs l low numbers) q ≡ None
+no_entry c low floor view xs numbers l q h ne none =
+    with_others c (opened view floor (top_of floor xs) l) view (floor + 1) (pre_prepares_in xs) (Table_before view (top_of floor xs) low numbers) q (numbered view (floor + 1) xs h) (λ n s le lt. ne n view s)
+    ∙ before_at view (top_of floor xs) low numbers q ∙ ap (λ o. cond (is_of_entered view (top_of floor xs) q) (read_by as_pre_prepare o) None) none ∙ sym (none_either (is_of_entered view (top_of floor xs) q))
 
-entered_key : (c : Configuration) (low floor view : ℕ) (xs : List (Signed Body)) (ps news : List Place) (l : Log) → IsConfiguration c → AreProposals view (floor + 1) xs → AreEntered (length ps) low floor view (map (under c) xs) ps news
-    → AreProper (length ps) low floor (map (under c) xs) → length ps ≡ 2 * c.k → l.low ≡ low → (q : Key) → at (Entered c floor view xs l low ps) q ≡ read_by as_pre_prepare (vote_at_key kinds.PrePrepare low news q)
-entered_key c low floor view xs ps news l k h e p span same [] = no_entry c low floor view xs ps l [] h (λ n v s e. absurd cc) refl
-entered_key c low floor view xs ps news l k h e p span same (n ∷ []) = no_entry c low floor view xs ps l (n ∷ []) h (λ n v s e. absurd cc) refl
-entered_key c low floor view xs ps news l k h e p span same (n ∷ v ∷ []) = no_entry c low floor view xs ps l (n ∷ v ∷ []) h (λ n v s e. absurd cc) refl
-entered_key c low floor view xs ps news l k h e p span same (n ∷ v ∷ s ∷ []) =
-    entered_at c low floor view xs ps news l n v s k h e p span same (given_is view floor (length xs) n v (cases_eq v view) (cases_lt floor n) (cases_lt (floor + length xs) n))
-entered_key c low floor view xs ps news l k h e p span same (n ∷ v ∷ s ∷ more ∷ rest) = no_entry c low floor view xs ps l (n ∷ v ∷ s ∷ more ∷ rest) h (λ n v s e. absurd cc) refl
+entered_key : (c : Configuration) (low floor view : ℕ) (xs : List (Signed Body)) (numbers news : List ViewSlots) (l : Log) → IsConfiguration c → AreProposals view (floor + 1) xs → AreEntered (length numbers) low floor view (map (under c) xs) numbers news
+    → AreProper (length numbers) low floor (map (under c) xs) → length numbers ≡ 2 * c.k → l.low ≡ low → (q : Key) → at (Entered c floor view xs l low numbers) q ≡ read_by as_pre_prepare (vote_at_key kinds.PrePrepare low news q)
+entered_key c low floor view xs numbers news l k h e p span same [] = no_entry c low floor view xs numbers l [] h (λ n v s e. absurd cc) refl
+entered_key c low floor view xs numbers news l k h e p span same (n ∷ []) = no_entry c low floor view xs numbers l (n ∷ []) h (λ n v s e. absurd cc) refl
+entered_key c low floor view xs numbers news l k h e p span same (n ∷ v ∷ []) = no_entry c low floor view xs numbers l (n ∷ v ∷ []) h (λ n v s e. absurd cc) refl
+entered_key c low floor view xs numbers news l k h e p span same (n ∷ v ∷ s ∷ []) =
+    entered_at c low floor view xs numbers news l n v s k h e p span same (given_is view floor (length xs) n v (cases_eq v view) (cases_lt floor n) (cases_lt (floor + length xs) n))
+entered_key c low floor view xs numbers news l k h e p span same (n ∷ v ∷ s ∷ more ∷ rest) = no_entry c low floor view xs numbers l (n ∷ v ∷ s ∷ more ∷ rest) h (λ n v s e. absurd cc) refl
 
 -- ---- the table, and the log
 
@@ -174,25 +174,25 @@ sorted_with : (c : Configuration) (l : Log) (ys : List (Signed PrePrepare)) (tab
 sorted_with c l [] table h = h
 sorted_with c l (y ∷ ys) table h = sorted_with c l ys (added_one c l y table) (sorted_one (vote_key y.body.number.0 y.body.view.0 y.id) y table (is_within c l y.body.view.0 y.body.number.0) h)
 
-entered_table : (c : Configuration) (low floor view : ℕ) (xs : List (Signed Body)) (ps news : List Place) (l : Log) → IsConfiguration c → AreProposals view (floor + 1) xs → AreEntered (length ps) low floor view (map (under c) xs) ps news
-    → AreProper (length ps) low floor (map (under c) xs) → length ps ≡ 2 * c.k → l.low ≡ low → table_of as_pre_prepare kinds.PrePrepare low news ≡ Entered c floor view xs l low ps
-entered_table c low floor view xs ps news l k h e p span same =
-    is_read_off (λ q. read_by as_pre_prepare (vote_at_key kinds.PrePrepare low news q)) (keys_by_number low news) (Entered c floor view xs l low ps) (covers_table as_pre_prepare kinds.PrePrepare low news)
-    (sorted_with c (opened view floor (top_of floor xs) l) (pre_prepares_in xs) (Table_before view (top_of floor xs) low ps)
-    (is_sorted-where_key by (is_of_entered view (top_of floor xs)) (table_of as_pre_prepare kinds.PrePrepare low ps) (sorted_by (λ q. read_by as_pre_prepare (vote_at_key kinds.PrePrepare low ps q)) (keys_by_number low ps))))
-    (entered_key c low floor view xs ps news l k h e p span same)
+entered_table : (c : Configuration) (low floor view : ℕ) (xs : List (Signed Body)) (numbers news : List ViewSlots) (l : Log) → IsConfiguration c → AreProposals view (floor + 1) xs → AreEntered (length numbers) low floor view (map (under c) xs) numbers news
+    → AreProper (length numbers) low floor (map (under c) xs) → length numbers ≡ 2 * c.k → l.low ≡ low → table_of as_pre_prepare kinds.PrePrepare low news ≡ Entered c floor view xs l low numbers
+entered_table c low floor view xs numbers news l k h e p span same =
+    is_read_off (λ q. read_by as_pre_prepare (vote_at_key kinds.PrePrepare low news q)) (keys_by_number low news) (Entered c floor view xs l low numbers) (covers_table as_pre_prepare kinds.PrePrepare low news)
+    (sorted_with c (opened view floor (top_of floor xs) l) (pre_prepares_in xs) (Table_before view (top_of floor xs) low numbers)
+    (is_sorted-where_key by (is_of_entered view (top_of floor xs)) (table_of as_pre_prepare kinds.PrePrepare low numbers) (sorted_by (λ q. read_by as_pre_prepare (vote_at_key kinds.PrePrepare low numbers q)) (keys_by_number low numbers))))
+    (entered_key c low floor view xs numbers news l k h e p span same)
 
-entered_log : (c : Configuration) (was : ℕ) (before : Option SeqNo) (low view : ℕ) (floor : SeqNo) (xs : List (Signed Body)) (ps news : List Place) → IsConfiguration c → AreKept c low ps → AreProposals view (floor.0 + 1) xs → AreEntered (length ps) low floor.0 view (map (under c) xs) ps news
-    → AreProper (length ps) low floor.0 (map (under c) xs) → log_in view (Some floor) low news ≡ entered c view floor.0 (floor.0 + length xs) (pre_prepares_in xs) (log_in was before low ps)
-entered_log c was before low view floor xs ps news k kept h e p = λ i. record (log_in view (Some floor) low news) {
-  pre_prepares = entered_table c low floor.0 view xs ps news (log_in was before low ps) k h e p kept.span refl i;
-  prepares = stays_table as_prepare kinds.Prepare low floor.0 view (map (under c) xs) ps news prepare_entered e i;
-  commits = stays_table as_commit kinds.Commit low floor.0 view (map (under c) xs) ps news commit_entered e i;
+entered_log : (c : Configuration) (was : ℕ) (before : Option SeqNo) (low view : ℕ) (floor : SeqNo) (xs : List (Signed Body)) (numbers news : List ViewSlots) → IsConfiguration c → AreKept c low numbers → AreProposals view (floor.0 + 1) xs → AreEntered (length numbers) low floor.0 view (map (under c) xs) numbers news
+    → AreProper (length numbers) low floor.0 (map (under c) xs) → log_in view (Some floor) low news ≡ entered c view floor.0 (floor.0 + length xs) (pre_prepares_in xs) (log_in was before low numbers)
+entered_log c was before low view floor xs numbers news k kept h e p = λ i. record (log_in view (Some floor) low news) {
+  pre_prepares = entered_table c low floor.0 view xs numbers news (log_in was before low numbers) k h e p kept.span refl i;
+  prepares = stays_table as_prepare kinds.Prepare low floor.0 view (map (under c) xs) numbers news prepare_entered e i;
+  commits = stays_table as_commit kinds.Commit low floor.0 view (map (under c) xs) numbers news commit_entered e i;
 }
 
-pub entered_is : (c : Configuration) (was : ℕ) (before : Option SeqNo) (low view : ℕ) (now floor : SeqNo) (xs : List (Signed Body)) (ps news : List Place) (k : KeptLog) → IsConfiguration c → AreKept c low ps → AreProposals view (floor.0 + 1) xs → AreEntered (length ps) low floor.0 view (map (under c) xs) ps news
-    → AreProper (length ps) low floor.0 (map (under c) xs) → now.0 ≡ low → ◌≡◌ {A = KeptLog} (record { config = c; log = log_in was before low ps }) k
+pub entered_is : (c : Configuration) (was : ℕ) (before : Option SeqNo) (low view : ℕ) (now floor : SeqNo) (xs : List (Signed Body)) (numbers news : List ViewSlots) (k : KeptLog) → IsConfiguration c → AreKept c low numbers → AreProposals view (floor.0 + 1) xs → AreEntered (length numbers) low floor.0 view (map (under c) xs) numbers news
+    → AreProper (length numbers) low floor.0 (map (under c) xs) → now.0 ≡ low → ◌≡◌ {A = KeptLog} (record { config = c; log = log_in was before low numbers }) k
     → ◌≡◌ {A = KeptLog} (record { config = c; log = log_in view (Some floor) now.0 news }) (record { config = k.config; log = entered k.config view floor.0 (floor.0 + length xs) (pre_prepares_in xs) k.log })
-entered_is c was before low view now floor xs ps news k legal kept h e p same viewed =
-    ap (λ n. record { config = c; log = log_in view (Some floor) n news }) same ∙ ap (λ l. record { config = c; log = l }) (entered_log c was before low view floor xs ps news legal kept h e p)
+entered_is c was before low view now floor xs numbers news k legal kept h e p same viewed =
+    ap (λ n. record { config = c; log = log_in view (Some floor) n news }) same ∙ ap (λ l. record { config = c; log = l }) (entered_log c was before low view floor xs numbers news legal kept h e p)
     ∙ ap (λ (k : KeptLog). record { config = k.config; log = entered k.config view floor.0 (floor.0 + length xs) (pre_prepares_in xs) k.log }) viewed

@@ -34,7 +34,7 @@ pub refused : {A : Type 0} (r : Result A LogFault) (other : Bool) → IsErrAnd r
 refused (Ok x) other e none = tt
 refused (Err fault) other e none = memory_is fault other e none
 
--- ---- each vote stays at its place
+-- ---- each vote stays at its view and number
 
 votes_none : (c : Configuration) (kind : VoteKind) (view number : ℕ) → AreVotesAt c kind view number (replicate 10 None)
 votes_none c kind view number signer m e = absurd (none_is (nobody 10 signer) e) where

@@ -1,4 +1,4 @@
--- Internal: the slot of a number in a view, as the log shows it.
+-- Internal: the slot of a number in a view, as the log represents it.
 use Rattle.std.specs.Prelude.{◌≡◌, ℕ, ◌<◌}
 use Rattle.host_types.specs.Configuration.{Configuration}
 use Rattle.pbft_model.specs.Tables.{at, vote_key}
@@ -10,7 +10,7 @@ use Rattle.quorum_log.specs.Slots.{IsSlotAt}
 use Rattle.quorum_log.specs.Windows.{vote_by}
 
 -- What the slot has is what the log has at this number of this view.
-pub record Shows (c : Configuration) (l : Log) (view number : ℕ) (s : Slot) : Type 0 where
+pub record Represents (c : Configuration) (l : Log) (view number : ℕ) (s : Slot) : Type 0 where
   pub is : IsSlotAt c view number s
   pub pre_prepares : (i : ℕ) → i < 10 → at l.pre_prepares (vote_key number view i) ≡ read_by as_pre_prepare (vote_by kinds.PrePrepare i s)
   pub prepares : (i : ℕ) → i < 10 → at l.prepares (vote_key number view i) ≡ read_by as_prepare (vote_by kinds.Prepare i s)

@@ -6,7 +6,7 @@ use Rattle.pbft_codec.specs.declared.body.Body.TheVariants as bodies
 use Rattle.pbft_model.specs.Words.{Signed, PrePrepare, Prepare, Commit, Certificate}
 use Rattle.pbft_model.specs.Acts.{is_of_entered, with_body}
 use Rattle.pbft_model.specs.Certificates.{certified, has_quorum, is_by, voted, Fields, of_pre_prepare, of_prepare, of_commit}
-use Rattle.pbft_model.specs.Core.{Core, floor_in, if_passes, is_placed}
+use Rattle.pbft_model.specs.Core.{Core, floor_in, if_passes, has_position}
 use Rattle.pbft_model.specs.Setup.{Setup, gathered, is_least, primary, replicas}
 use Rattle.pbft_model.specs.Tables.{Key, Table, at, add_if, keep, vote_key, first_in, is_above}
 use Rattle.std.specs.Option.{option_map}
@@ -174,7 +174,7 @@ pub record IsBetweenMarks (k : KeptLog) (number : ℕ) : Type 0 where
   pub small : number < 2 ^ 48
 
 -- Each recorded vote is for such a number.
-pub record AreInside (k : KeptLog) : Type 0 where
+pub record AreBetweenMarks (k : KeptLog) : Type 0 where
   pub pre_prepares : (key : Key) → IsSome (at k.log.pre_prepares key) → IsBetweenMarks k (first_in key)
   pub prepares : (key : Key) → IsSome (at k.log.prepares key) → IsBetweenMarks k (first_in key)
   pub commits : (key : Key) → IsSome (at k.log.commits key) → IsBetweenMarks k (first_in key)
@@ -182,7 +182,7 @@ pub record AreInside (k : KeptLog) : Type 0 where
 -- the PrePrepare of the view's primary for a number
 abbrev pub proposal_in : Setup → Log → ℕ → ℕ → Option (Signed PrePrepare)
 proposal_in c l view number =
-    if_passes (is_by (primary c view) (is_placed view number)) (at l.pre_prepares (vote_key number view (primary c view)))
+    if_passes (is_by (primary c view) (has_position view number)) (at l.pre_prepares (vote_key number view (primary c view)))
 
 abbrev pub is_certified_in : Setup → Log → Fields → Bool
 is_certified_in c l x = certified c (voted of_pre_prepare l.pre_prepares x) (voted of_prepare l.prepares x) x.view

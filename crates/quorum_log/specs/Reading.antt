@@ -1,4 +1,4 @@
--- Internal: the log that the tables of places stand for.
+-- Internal: the log that the slots of the numbers represent.
 use Rattle.std.specs.Prelude.{◌≡◌, ℕ, ◌*◌, List, Option, Some, None, length, not, nat_lt, Result, Ok, Err, if◌then◌else◌}
 use Rattle.std.specs.Option.{option_map}
 use Rattle.host_types.specs.Configuration.{Configuration}
@@ -14,7 +14,7 @@ use Rattle.seal.specs.declared.vote.VoteKind.TheVariants as kinds
 use Rattle.seal.specs.declared.vote.Vote.{Vote}
 use Rattle.quorum_log.specs.declared.fault.LogFault.{LogFault}
 use Rattle.quorum_log.specs.declared.fault.LogFault.TheVariants as faults
-use Rattle.quorum_log.specs.declared.place.Place.{Place}
+use Rattle.quorum_log.specs.declared.view_slots.ViewSlots.{ViewSlots}
 pub use Rattle.quorum_log.specs.Log.{as_pre_prepare}
 use Rattle.quorum_log.specs.Log.{Log, is_within}
 use Rattle.quorum_log.specs.Slots.{IsSlotAt}
@@ -50,27 +50,27 @@ read_by pick None = None
 read_by pick (Some m) = pick m.message m.message.body
 
 -- the table of one kind
-abbrev pub table_of : {B : Type 0} → (Signed Body → Body → Option (Signed B)) → VoteKind → ℕ → List Place → Table (Signed B)
-table_of pick kind low ps = table_by (λ q. read_by pick (vote_at_key kind low ps q)) (keys_by_number low ps)
+abbrev pub table_of : {B : Type 0} → (Signed Body → Body → Option (Signed B)) → VoteKind → ℕ → List ViewSlots → Table (Signed B)
+table_of pick kind low numbers = table_by (λ q. read_by pick (vote_at_key kind low numbers q)) (keys_by_number low numbers)
 
-abbrev pub log_in : ℕ → Option SeqNo → ℕ → List Place → Log
-log_in view floor low ps = record {
+abbrev pub log_in : ℕ → Option SeqNo → ℕ → List ViewSlots → Log
+log_in view floor low numbers = record {
   view = view;
   floor = option_map (λ n. n.0) floor;
   low = low;
-  pre_prepares = table_of as_pre_prepare kinds.PrePrepare low ps;
-  prepares = table_of as_prepare kinds.Prepare low ps;
-  commits = table_of as_commit kinds.Commit low ps;
+  pre_prepares = table_of as_pre_prepare kinds.PrePrepare low numbers;
+  prepares = table_of as_prepare kinds.Prepare low numbers;
+  commits = table_of as_commit kinds.Commit low numbers;
 }
 
--- there is a place for each number between the marks, and each vote stands at its own
-pub record AreKept (c : Configuration) (low : ℕ) (ps : List Place) : Type 0 where
-  pub span : length ps ≡ 2 * c.k
-  pub slots : (number view : ℕ) → IsSlotAt c view number (slot_of low ps number view)
+-- each number between the marks has its slots, and each vote is at its own view and number
+pub record AreKept (c : Configuration) (low : ℕ) (numbers : List ViewSlots) : Type 0 where
+  pub span : length numbers ≡ 2 * c.k
+  pub slots : (number view : ℕ) → IsSlotAt c view number (slot_of low numbers number view)
 
--- why a vote has no place: its view, before its number
-abbrev pub place_fault : Configuration → Log → Vote → Option LogFault
-place_fault c l v =
+-- why a vote is not recorded: its view, before its number
+abbrev pub position_fault : Configuration → Log → Vote → Option LogFault
+position_fault c l v =
     if nat_lt v.view.0 l.view then Some faults.WrongView
     else (if not (is_within c l v.view.0 v.number.0) then Some faults.OutsideMarks else None)
 

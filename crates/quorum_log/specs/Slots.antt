@@ -40,7 +40,7 @@ pub record IsSlotAt (c : Configuration) (view number : ℕ) (s : Slot) : Type 0 
   pub commits : AreVotesAt c Commit view number s.commits
   pub ten : (length s.prepares ≡ 10) × (length s.commits ≡ 10)
 
--- the recorded vote that a vote of this kind and signer meets: there is one place for a PrePrepare
+-- the recorded vote that a vote of this kind and signer meets: there is room for one PrePrepare
 abbrev pub met_by : VoteKind → ℕ → Slot → Option CheckedMessage
 met_by PrePrepare signer s = s.pre_prepare
 met_by Prepare signer s = vote_at s.prepares signer

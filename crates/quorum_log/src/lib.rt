@@ -9,8 +9,8 @@
 mod certificate;
 mod fault;
 mod log;
-mod place;
 mod slot;
+mod view_slots;
 mod votes;
 mod window;
 

@@ -3,15 +3,15 @@
 ghost use Rattle.std.specs.Prelude.{◌≡◌, ℕ, ◌+◌, ◌<◌, ◌≤◌, ◌^◌, ◌==◌, ◌&&◌, length, List, None, is_some, map, IfOk, IfErr, IfSome, OnOk, OnErr, IsSome};
 ghost use Rattle.host_types.specs.Configuration.{IsConfiguration};
 ghost use Rattle.seal.specs.Votes.{vote_of};
-ghost use Rattle.quorum_log.specs.Reading.{place_fault, fault_of};
+ghost use Rattle.quorum_log.specs.Reading.{position_fault, fault_of};
 ghost use Rattle.std.specs.Option.{option_copied, option_map, option_map_or, unwrap_or};
 ghost use Rattle.pbft_model.specs.Core.{names, of_view};
 ghost use Rattle.pbft_model.specs.Tables.{entries_in};
 ghost use Rattle.pbft_model.specs.Validity.{greatest_of};
-ghost use Rattle.quorum_log.specs.Asking.{Shows};
+ghost use Rattle.quorum_log.specs.Asking.{Represents};
 ghost use Rattle.quorum_log.specs.Slots.{empty_slot};
 ghost use Rattle.quorum_log.specs.declared.fault.LogFault.TheVariants.{Memory};
-ghost use Rattle.quorum_log.specs.Log.{AreInside, AreProposals, IsBetweenMarks, KeptLog, IsRefusedFor, accepted, checked_certificate, certified_at, discarded, entered, is_committed_at, is_under_floor, left, pre_prepares_in, proposal_in, start, vote_fault};
+ghost use Rattle.quorum_log.specs.Log.{AreBetweenMarks, AreProposals, IsBetweenMarks, KeptLog, IsRefusedFor, accepted, checked_certificate, certified_at, discarded, entered, is_committed_at, is_under_floor, left, pre_prepares_in, proposal_in, start, vote_fault};
 
 use crate::certificate::CheckedCertificate;
 use crate::fault::LogFault;
@@ -23,8 +23,8 @@ use std::alloc::{AllocError, Global};
 use std::marker::Model;
 use std::sync::Arc;
 
-/// A replica's recorded votes between the water marks, as tables: a place for each number, `n - low - 1`
-/// being its index; at each place a slot for each view.
+/// A replica's recorded votes between the water marks, as tables: `n - low - 1` is the index of
+/// number n, which has a slot for each view.
 #[derive(Drop)]
 pub struct QuorumLog {
     alloc: Global,
@@ -41,9 +41,9 @@ impl Model for QuorumLog {
 
     ghost Value = { KeptLog };
 
-    ghost view = { λ l. record { config = l.config.value; log = log_in l.view.0 l.floor l.window.low.0 l.window.places.items } };
+    ghost view = { λ l. record { config = l.config.value; log = log_in l.view.0 l.floor l.window.low.0 l.window.numbers.items } };
 
-    ghost invariant = { λ l. AreKept l.config.value l.window.low.0 l.window.places.items };
+    ghost invariant = { λ l. AreKept l.config.value l.window.low.0 l.window.numbers.items };
 }
 
 impl QuorumLog {
@@ -71,7 +71,7 @@ impl QuorumLog {
     /// no memory.
     pub fn low(&self) -> SeqNo
         ensures value { result.0 ≡ self.now.log.low }
-        ensures inside { AreInside self.now }
+        ensures inside { AreBetweenMarks self.now }
     {
         self.window.low
     }
@@ -102,10 +102,10 @@ impl QuorumLog {
         self.window.accept(self.alloc, index, message, &vote)
     }
 
-    /// The index of a vote's place. A vote of a lower view is refused first, then one of a number that is
+    /// The index of a vote's number. A vote of a lower view is refused first, then one of a number that is
     /// not between the marks, or not above the floor of the entered view.
     fn index_for(&self, vote: &Vote) -> Result<usize, LogFault>
-        ensures fault { place_fault self.now.config self.now.log vote.now ≡ fault_of result }
+        ensures fault { position_fault self.now.config self.now.log vote.now ≡ fault_of result }
         ensures index { IfOk result (λ i. vote.now.number.0 ≡ self.now.log.low + 1 + i) }
     {
         if vote.view.0 < self.view.0 {
@@ -203,7 +203,7 @@ impl QuorumLog {
 
     // The slot of a number in a view, if it was opened.
     fn slot(&self, view: View, number: SeqNo) -> Option<&Slot>
-        ensures shows { Shows self.now.config self.now.log view.0 number.0 (unwrap_or (option_copied result) empty_slot) }
+        ensures represents { Represents self.now.config self.now.log view.0 number.0 (unwrap_or (option_copied result) empty_slot) }
         ensures legal { IsConfiguration self.now.config }
     {
         let _ = self.config.f();

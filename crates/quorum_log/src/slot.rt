@@ -54,7 +54,7 @@ impl Slot {
         }
     }
 
-    /// Has this PrePrepare in place of its own.
+    /// Has this PrePrepare instead of its own.
     pub(crate) fn replace_proposal(&mut self, given: Option<Checked>)
         ensures { self.new ≡ record self.old { pre_prepare = given } }
     {
@@ -129,16 +129,20 @@ impl Slot {
 }
 
 // The first PrePrepare counts; another of the same digest changes nothing.
-fn propose(place: &mut Option<Checked>, message: &Checked, digest: &Digest) -> Result<(), LogFault>
-    ensures same { OnOk result (is_for_other digest.now.0 place.old ≡ false) }
-    ensures recorded { OnOk result (place.new ≡ first_of message.now place.old) }
-    ensures fault { IfErr result (IsRefusal (is_for_other digest.now.0 place.old)) }
-    ensures unchanged { OnErr result (place.new ≡ place.old) }
+fn propose(
+    proposal: &mut Option<Checked>,
+    message: &Checked,
+    digest: &Digest,
+) -> Result<(), LogFault>
+    ensures same { OnOk result (is_for_other digest.now.0 proposal.old ≡ false) }
+    ensures recorded { OnOk result (proposal.new ≡ first_of message.now proposal.old) }
+    ensures fault { IfErr result (IsRefusal (is_for_other digest.now.0 proposal.old)) }
+    ensures unchanged { OnErr result (proposal.new ≡ proposal.old) }
 {
-    match place {
+    match proposal {
         Some(first) => unless_other(first, digest),
         None => {
-            *place = Some(message.copy()?);
+            *proposal = Some(message.copy()?);
             Ok(())
         }
     }

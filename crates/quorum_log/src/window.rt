@@ -12,38 +12,38 @@ ghost use Rattle.quorum_log.specs.Entering.{AreEntered, ArePrepared, AreProper, 
 ghost use Rattle.quorum_log.specs.Windows.{HasSlotAt, HaveSameWindows, IsCleared, IsLastNumber, IsNamedSomewhere, index_in, slots_at};
 
 use crate::fault::LogFault;
-use crate::place::Place;
 use crate::slot::Slot;
+use crate::view_slots::ViewSlots;
 use host_types::{Digest, SeqNo, View};
 use seal::{Checked, Vote};
 use std::alloc::{AllocError, Global};
 
-/// The places of the numbers between the water marks, `number - low - 1` being the index of each.
+/// The slots of the numbers between the water marks, `number - low - 1` being the index of each.
 #[derive(Drop)]
 pub(crate) struct Window {
     pub(crate) low: SeqNo,
-    places: Vec<Place>,
+    numbers: Vec<ViewSlots>,
 }
 
 impl Window {
     pub(crate) fn new(alloc: Global, span: usize) -> Result<Window, AllocError>
-        ensures { IfOk result (λ w. (w.low.0 ≡ 0) × (length w.places.items ≡ span) × ((i v : ℕ) → slots_at w.places.items i v ≡ empty_slot)) }
+        ensures { IfOk result (λ w. (w.low.0 ≡ 0) × (length w.numbers.items ≡ span) × ((i v : ℕ) → slots_at w.numbers.items i v ≡ empty_slot)) }
     {
-        let mut places = Vec::new(alloc);
+        let mut numbers = Vec::new(alloc);
         for _ in 0..span {
-            places.push(Place::new(alloc))?;
+            numbers.push(ViewSlots::new(alloc))?;
         }
         Ok(Window {
             low: SeqNo(0),
-            places,
+            numbers,
         })
     }
 
     /// The index of a number between the marks.
     pub(crate) fn index(&self, number: SeqNo) -> Option<usize>
-        ensures { result ≡ index_in self.now.low.0 (length self.now.places.items) number.0 }
+        ensures { result ≡ index_in self.now.low.0 (length self.now.numbers.items) number.0 }
     {
-        if number.0 <= self.low.0 || number.0 - self.low.0 > self.places.len() as u64 {
+        if number.0 <= self.low.0 || number.0 - self.low.0 > self.numbers.len() as u64 {
             return None;
         }
         Some((number.0 - self.low.0 - 1) as usize)
@@ -51,10 +51,10 @@ impl Window {
 
     /// The slot of this view, if it was opened.
     pub(crate) fn slot(&self, view: View, index: usize) -> Option<&Slot>
-        requires { index < length self.now.places.items }
-        ensures { unwrap_or (option_copied result) empty_slot ≡ slots_at self.now.places.items index view.0 }
+        requires { index < length self.now.numbers.items }
+        ensures { unwrap_or (option_copied result) empty_slot ≡ slots_at self.now.numbers.items index view.0 }
     {
-        self.places[index].slot(view)
+        self.numbers[index].slot(view)
     }
 
     /// Records a vote at an index: the first of each signer counts.
@@ -65,25 +65,25 @@ impl Window {
         message: &Checked,
         vote: &Vote,
     ) -> Result<(), LogFault>
-        requires within { index < length self.old.places.items }
+        requires within { index < length self.old.numbers.items }
         requires signer { message.now.message.id < 10 }
         requires digest { IsSome (digest_in message.now.message.body) }
-        ensures same { OnOk result (is_for_other vote.now.digest.0 (met_by vote.now.kind message.now.message.id (slots_at self.old.places.items index vote.now.view.0)) ≡ false) }
-        ensures recorded { OnOk result (HasSlotAt index vote.now.view.0 (with_vote vote.now.kind message.now (slots_at self.old.places.items index vote.now.view.0)) self.old.places.items self.new.places.items) }
-        ensures fault { IfErr result (IsRefusal (is_for_other vote.now.digest.0 (met_by vote.now.kind message.now.message.id (slots_at self.old.places.items index vote.now.view.0)))) }
-        ensures unchanged { OnErr result (HaveSameWindows self.old.places.items self.new.places.items) }
-        ensures length { length self.new.places.items ≡ length self.old.places.items }
+        ensures same { OnOk result (is_for_other vote.now.digest.0 (met_by vote.now.kind message.now.message.id (slots_at self.old.numbers.items index vote.now.view.0)) ≡ false) }
+        ensures recorded { OnOk result (HasSlotAt index vote.now.view.0 (with_vote vote.now.kind message.now (slots_at self.old.numbers.items index vote.now.view.0)) self.old.numbers.items self.new.numbers.items) }
+        ensures fault { IfErr result (IsRefusal (is_for_other vote.now.digest.0 (met_by vote.now.kind message.now.message.id (slots_at self.old.numbers.items index vote.now.view.0)))) }
+        ensures unchanged { OnErr result (HaveSameWindows self.old.numbers.items self.new.numbers.items) }
+        ensures length { length self.new.numbers.items ≡ length self.old.numbers.items }
         ensures low { self.new.low ≡ self.old.low }
     {
-        self.places[index].accept(alloc, message, vote)
+        self.numbers[index].accept(alloc, message, vote)
     }
 
     /// Whether a recorded PrePrepare names the digest, of whatever view.
     pub(crate) fn names(&self, digest: &Digest) -> bool
-        ensures { IsNamedSomewhere digest.now.0 self.now.places.items result }
+        ensures { IsNamedSomewhere digest.now.0 self.now.numbers.items result }
     {
-        for place in &self.places {
-            if place.names(digest) {
+        for view_slots in &self.numbers {
+            if view_slots.names(digest) {
                 return true;
             }
         }
@@ -92,19 +92,19 @@ impl Window {
 
     /// Whether a recorded PrePrepare of the view names the digest.
     pub(crate) fn names_in(&self, view: View, digest: &Digest) -> bool
-        ensures { result ≡ list_any (λ p. is_named digest.now.0 (slot_in p.slots view.0)) self.now.places.items }
+        ensures { result ≡ list_any (λ p. is_named digest.now.0 (slot_in p.slots view.0)) self.now.numbers.items }
     {
-        self.places
+        self.numbers
             .iter()
-            .any(|place| place.digest(view) == Some(*digest))
+            .any(|view_slots| view_slots.digest(view) == Some(*digest))
     }
 
-    /// The greatest number of a recorded PrePrepare of the view: that of the last place which has one.
+    /// The greatest number of a recorded PrePrepare of the view: the last that has one.
     pub(crate) fn greatest_in(&self, view: View) -> Option<SeqNo>
-        ensures { IsLastNumber view.0 self.now.places.items result }
+        ensures { IsLastNumber view.0 self.now.numbers.items result }
     {
-        for index in (0..self.places.len()).rev() {
-            if let Some(number) = self.places[index].number(view) {
+        for index in (0..self.numbers.len()).rev() {
+            if let Some(number) = self.numbers[index].number(view) {
                 return Some(number);
             }
         }
@@ -114,20 +114,20 @@ impl Window {
     /// Discards what is recorded at or below a number above the mark, which becomes the mark.
     pub(crate) fn discard_to(&mut self, number: SeqNo)
         ensures above { self.old.low.0 < number.0 → (self.new.low.0 ≡ number.0)
-            × ((i v : ℕ) → slots_at self.new.places.items i v ≡ slots_at self.old.places.items (i + (number.0 - self.old.low.0)) v) }
-        ensures below { number.0 ≤ self.old.low.0 → (self.new.low ≡ self.old.low) × (self.new.places.items ≡ self.old.places.items) }
-        ensures length { length self.new.places.items ≡ length self.old.places.items }
+            × ((i v : ℕ) → slots_at self.new.numbers.items i v ≡ slots_at self.old.numbers.items (i + (number.0 - self.old.low.0)) v) }
+        ensures below { number.0 ≤ self.old.low.0 → (self.new.low ≡ self.old.low) × (self.new.numbers.items ≡ self.old.numbers.items) }
+        ensures length { length self.new.numbers.items ≡ length self.old.numbers.items }
     {
         if number.0 > self.low.0 {
-            let gone = fewer(self.places.len(), number.0 - self.low.0);
+            let gone = fewer(self.numbers.len(), number.0 - self.low.0);
             self.clear(gone);
-            self.places.rotate_left(gone);
+            self.numbers.rotate_left(gone);
             self.low = number;
         }
     }
 
     /// Opens the slots that are to have these PrePrepares, of the numbers above the floor one after another:
-    /// for each place the one that it is to have, if there is one.
+    /// for each number the one that it is to have, if there is one.
     pub(crate) fn prepare(
         &mut self,
         alloc: Global,
@@ -136,15 +136,15 @@ impl Window {
         messages: &[Checked],
     ) -> Result<Vec<Option<Checked>>, AllocError>
         requires { floor.0 + length messages.now < 2 ^ 48 }
-        ensures prepared { IfOk result (λ given. ArePrepared (length self.old.places.items) self.old.low.0 floor.0 view.0 messages.now given.items self.new.places.items) }
-        ensures same { HaveSameWindows self.old.places.items self.new.places.items }
-        ensures length { length self.new.places.items ≡ length self.old.places.items }
+        ensures prepared { IfOk result (λ given. ArePrepared (length self.old.numbers.items) self.old.low.0 floor.0 view.0 messages.now given.items self.new.numbers.items) }
+        ensures same { HaveSameWindows self.old.numbers.items self.new.numbers.items }
+        ensures length { length self.new.numbers.items ≡ length self.old.numbers.items }
         ensures low { self.new.low ≡ self.old.low }
     {
         let mut given = Vec::new(alloc);
-        for index in 0..self.places.len() {
+        for index in 0..self.numbers.len() {
             let message = offered(messages, floor, number_at(self.low, index));
-            given.push(self.places[index].prepare(alloc, view, message)?)?;
+            given.push(self.numbers[index].prepare(alloc, view, message)?)?;
         }
         Ok(given)
     }
@@ -160,31 +160,31 @@ impl Window {
     )
         requires top { top ≡ floor.0 + length messages.now }
         requires bound { top < 2 ^ 48 }
-        requires prepared { ArePrepared (length self.old.places.items) self.old.low.0 floor.0 view.0 messages.now given.old self.old.places.items }
-        ensures entered { AreEntered (length self.old.places.items) self.old.low.0 floor.0 view.0 messages.now self.old.places.items self.new.places.items }
-        ensures proper { AreProper (length self.old.places.items) self.old.low.0 floor.0 messages.now }
+        requires prepared { ArePrepared (length self.old.numbers.items) self.old.low.0 floor.0 view.0 messages.now given.old self.old.numbers.items }
+        ensures entered { AreEntered (length self.old.numbers.items) self.old.low.0 floor.0 view.0 messages.now self.old.numbers.items self.new.numbers.items }
+        ensures proper { AreProper (length self.old.numbers.items) self.old.low.0 floor.0 messages.now }
         ensures low { self.new.low ≡ self.old.low }
     {
-        for index in 0..self.places.len() {
+        for index in 0..self.numbers.len() {
             let number = number_at(self.low, index);
             let own = given[index].take();
-            self.places[index].enter(view, number > floor.0, number > top, own);
+            self.numbers[index].enter(view, number > floor.0, number > top, own);
         }
     }
 
-    // Clears the first places.
+    // Clears the first numbers.
     fn clear(&mut self, many: usize)
-        requires { many ≤ length self.old.places.items }
-        ensures cleared { IsCleared many self.old.places.items self.new.places.items }
+        requires { many ≤ length self.old.numbers.items }
+        ensures cleared { IsCleared many self.old.numbers.items self.new.numbers.items }
         ensures low { self.new.low ≡ self.old.low }
     {
         for index in 0..many {
-            self.places[index].clear();
+            self.numbers[index].clear();
         }
     }
 }
 
-// The number of a place, or the greatest there is.
+// The number at an index, or the greatest there is.
 fn number_at(low: SeqNo, index: usize) -> u64
     ensures { result ≡ min (low.0 + 1 + index) (2 ^ 64 - 1) }
 {
@@ -201,14 +201,14 @@ fn offered(messages: &[Checked], floor: SeqNo, number: u64) -> Option<&Checked>
     messages.get((number - floor.0 - 1) as usize)
 }
 
-// So many of the places, or all.
-fn fewer(places: usize, numbers: u64) -> usize
-    ensures bound { result ≤ places }
-    ensures value { (result ≡ numbers) ⊎ ((result ≡ places) × (result ≤ numbers)) }
+// The number, where it is below the span, else the span.
+fn fewer(span: usize, numbers: u64) -> usize
+    ensures bound { result ≤ span }
+    ensures value { (result ≡ numbers) ⊎ ((result ≡ span) × (result ≤ numbers)) }
 {
-    if numbers < places as u64 {
+    if numbers < span as u64 {
         numbers as usize
     } else {
-        places
+        span
     }
 }

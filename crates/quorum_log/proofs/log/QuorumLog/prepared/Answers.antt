@@ -8,9 +8,9 @@ use Rattle.quorum_log.proofs.log.QuorumLog.prepared.Goals as goal
 pub is_certified-requires : goal.is_certified-requires
 is_certified-requires c =
     subst (λ k. AreListed k c.in-Some.slot.now.prepares) (sym (c.deref.ensures ∙ ap (λ k. k.config) c.self.view_is))
-    (votes_listed c.args.self.now.config c.args.view.0 c.args.number.0 kinds.Prepare c.in-Some.slot.now.prepares c.in-Some.ensures.shows.is.prepares)
+    (votes_listed c.args.self.now.config c.args.view.0 c.args.number.0 kinds.Prepare c.in-Some.slot.now.prepares c.in-Some.ensures.represents.is.prepares)
 
 pub returns-in-Some : goal.returns-in-Some
 returns-in-Some c = λ hash.
     c.is_certified.ensures ∙ ap (λ k. is_certified_here k c.args.view.0 c.in-Some.slot.now) (c.deref.ensures ∙ ap (λ k. k.config) c.self.view_is)
-    ∙ certified_is c.args.self.now.config hash c.args.self.now.log c.args.view.0 c.args.number.0 c.in-Some.slot.now c.slot.ensures.legal c.in-Some.ensures.shows
+    ∙ certified_is c.args.self.now.config hash c.args.self.now.log c.args.view.0 c.args.number.0 c.in-Some.slot.now c.slot.ensures.legal c.in-Some.ensures.represents

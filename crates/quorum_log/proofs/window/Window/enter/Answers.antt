@@ -7,9 +7,9 @@ use Rattle.quorum_log.proofs.window.Window.enter.Goals as goal
 pub enter-requires-clause-above : goal.enter-requires-clause-above
 enter-requires-clause-above c =
     let inv = c.loop-index.invariant in
-    let lt : c.loop-index.index < length c.args.self.now.places.items = omega (arith, c.loop-index-test.true, c.len-index-end.ensures) in
+    let lt : c.loop-index.index < length c.args.self.now.numbers.items = omega (arith, c.loop-index-test.true, c.len-index-end.ensures) in
     let low = ap (λ n. n.0) inv.1 in
-    let own = offered_own c.loop-index.index c.args.self.now.low.0 c.args.floor.0 c.args.view.0 c.args.messages.now c.args.given.now c.loop-index.given c.args.self.now.places.items c.take-own.result c.index-given-index.result
+    let own = offered_own c.loop-index.index c.args.self.now.low.0 c.args.floor.0 c.args.view.0 c.args.messages.now c.args.given.now c.loop-index.given c.args.self.now.numbers.items c.take-own.result c.index-given-index.result
     c.requires.prepared lt c.take-own.ensures.value inv.2 inv.3 in
     λ h. ap (nat_lt c.args.floor.0) (c.number_at-number.ensures)
     ∙ above_limit c.args.floor.0 (c.loop-index.self.low.0 + 1 + c.loop-index.index) (omega (arith, c.requires.top, c.requires.bound))
@@ -19,20 +19,20 @@ enter-requires-clause-above c =
 pub enter-requires-clause-ready : goal.enter-requires-clause-ready
 enter-requires-clause-ready c =
     let inv = c.loop-index.invariant in
-    let lt : c.loop-index.index < length c.args.self.now.places.items = omega (arith, c.loop-index-test.true, c.len-index-end.ensures) in
-    ready_at c.loop-index.index c.args.self.now.low.0 c.args.floor.0 c.args.view.0 c.args.messages.now c.args.given.now c.loop-index.given c.args.self.now.places.items c.loop-index.self.places.items _ c.index_mut.result.now c.take-own.result c.index-given-index.result
-    c.requires.prepared (subst (λ n. AreEntered c.loop-index.index n.0 c.args.floor.0 c.args.view.0 c.args.messages.now c.args.self.now.places.items c.loop-index.self.places.items) inv.1 inv.0)
+    let lt : c.loop-index.index < length c.args.self.now.numbers.items = omega (arith, c.loop-index-test.true, c.len-index-end.ensures) in
+    ready_at c.loop-index.index c.args.self.now.low.0 c.args.floor.0 c.args.view.0 c.args.messages.now c.args.given.now c.loop-index.given c.args.self.now.numbers.items c.loop-index.self.numbers.items _ c.index_mut.result.now c.take-own.result c.index-given-index.result
+    c.requires.prepared (subst (λ n. AreEntered c.loop-index.index n.0 c.args.floor.0 c.args.view.0 c.args.messages.now c.args.self.now.numbers.items c.loop-index.self.numbers.items) inv.1 inv.0)
     lt c.take-own.ensures.value inv.2 inv.3 c.index_mut.ensures.value
 
 pub loop-index-preserved : goal.loop-index-preserved
 loop-index-preserved c =
     let inv = c.loop-index.invariant in
-    let lt : c.loop-index.index < length c.args.self.now.places.items = omega (arith, c.loop-index-test.true, c.len-index-end.ensures) in
+    let lt : c.loop-index.index < length c.args.self.now.numbers.items = omega (arith, c.loop-index-test.true, c.len-index-end.ensures) in
     let low = ap (λ n. n.0) inv.1 in
-    let own = offered_own c.loop-index.index c.args.self.now.low.0 c.args.floor.0 c.args.view.0 c.args.messages.now c.args.given.now c.loop-index.given c.args.self.now.places.items c.take-own.result c.index-given-index.result
+    let own = offered_own c.loop-index.index c.args.self.now.low.0 c.args.floor.0 c.args.view.0 c.args.messages.now c.args.given.now c.loop-index.given c.args.self.now.numbers.items c.take-own.result c.index-given-index.result
     c.requires.prepared lt c.take-own.ensures.value inv.2 inv.3 in
     let number = c.loop-index.self.low.0 + 1 + c.loop-index.index in (
-      entered_next c.loop-index.index c.loop-index.self.low.0 c.args.floor.0 c.args.view.0 c.args.messages.now c.args.self.now.places.items c.loop-index.self.places.items _ c.index_mut.result.now c.enter.new.self
+      entered_next c.loop-index.index c.loop-index.self.low.0 c.args.floor.0 c.args.view.0 c.args.messages.now c.args.self.now.numbers.items c.loop-index.self.numbers.items _ c.index_mut.result.now c.enter.new.self
           (nat_lt c.args.floor.0 c.number_at-number.result) (nat_lt c.args.top c.number_at-number.result) c.take-own.result inv.0 lt c.index_mut.ensures.value c.enter.ensures
           (ap (nat_lt c.args.floor.0) c.number_at-number.ensures ∙ above_limit c.args.floor.0 number (omega (arith, c.requires.top, c.requires.bound)))
           (ap (nat_lt c.args.top) c.number_at-number.ensures ∙ above_limit c.args.top number c.requires.bound ∙ ap (λ n. nat_lt n number) c.requires.top)

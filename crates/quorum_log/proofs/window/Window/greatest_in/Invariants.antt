@@ -4,4 +4,4 @@ use Rattle.quorum_log.specs.Windows.{slots_at}
 use Rattle.quorum_log.proofs.window.Window.greatest_in.Given as goal
 
 abbrev pub invariant-loop-index : goal.invariant-loop-index
-invariant-loop-index l = (i : ℕ) → l.index ≤ i → number_here (slots_at l.self.places.items i l.view.0) ≡ None
+invariant-loop-index l = (i : ℕ) → l.index ≤ i → number_here (slots_at l.self.numbers.items i l.view.0) ≡ None

@@ -1,7 +1,7 @@
 use Rattle.std.proofs.Common.{rules, ◌==◌, ◌||◌, ◌&&◌, nat_lt}
 use Rattle.std.proofs.lemmas.Map.Made.{filter_same_pairs}
 use Rattle.quorum_log.proofs.Dropping.{found_kept}
-use Rattle.quorum_log.proofs.place.drop_below.Goals as goal
+use Rattle.quorum_log.proofs.view_slots.drop_below.Goals as goal
 
 pub returns : goal.returns
 returns c = λ v.

@@ -18,15 +18,15 @@ use std::collections::BTreeMap;
 
 /// The slots of one number, by view.
 #[derive(Drop)]
-pub(crate) struct Place {
+pub(crate) struct ViewSlots {
     slots: BTreeMap<u32, Slot>,
 }
 
-impl Place {
-    pub(crate) fn new(alloc: Global) -> Place
+impl ViewSlots {
+    pub(crate) fn new(alloc: Global) -> ViewSlots
         ensures { (v : ℕ) → slot_in result.slots v ≡ empty_slot }
     {
-        Place {
+        ViewSlots {
             slots: BTreeMap::new(alloc),
         }
     }

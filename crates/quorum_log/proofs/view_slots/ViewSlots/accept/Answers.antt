@@ -1,5 +1,5 @@
 use Rattle.quorum_log.proofs.Slots.{no_other_in, refused}
-use Rattle.quorum_log.proofs.place.Place.accept.Goals as goal
+use Rattle.quorum_log.proofs.view_slots.ViewSlots.accept.Goals as goal
 
 pub returns-in_err-open-clause-fault : goal.returns-in_err-open-clause-fault
 returns-in_err-open-clause-fault c =
