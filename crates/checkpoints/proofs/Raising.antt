@@ -171,7 +171,7 @@ t_true : (b : Bool) → T b → b ≡ true
 t_true true h = refl
 t_true false h = absurd h
 
--- told of the table of snapshots
+-- said of the table of snapshots
 pub greatest_raised : (k : KeptCheckpoints) (e : ℕ) (es : List (ℕ × List ℕ)) (n : SeqNo) → T (is_sorted by k.snapshots) → IsStrictlySortedBy nat_cmp (keys_of es) → ((m : ℕ) → at k.snapshots (number_key m) ≡ found_at es m) → last_raised k e es ≡ Some n.0 → IsGreatestRaised k e n
 greatest_raised k e es n sorted s is f =
     let w = last_is k e es n.0 s f in

@@ -22,9 +22,9 @@ loop-message-preserved c =
     let n = c.loop-message.number in
     let next = one_more c0 c.from-leader.result c.args.view.0 n c.top_of-top.result c.args.changes.now c.args.pre_prepares.now c.loop-message.message-index c.message-item.result c.digest_at.result.0
     c.loop-message-test.true c.message-item.is c.if-number-top.false (c.digest_at.ensures c.args.config.now) in
-    let goes_on = sym c.if-not-is_proposed.false ∙ c.is_proposed.ensures in (
+    let continues = sym c.if-not-is_proposed.false ∙ c.is_proposed.ensures in (
       omega (arith, c.if-number-top.false),
-      ap (λ (b : Bool). b && are_given c.from-leader.result (left_from c0 c.args.view.0 c.args.changes.now (n + 1) c.top_of-top.result) (drop (c.loop-message.message-index + 1) c.args.pre_prepares.now)) goes_on
+      ap (λ (b : Bool). b && are_given c.from-leader.result (left_from c0 c.args.view.0 c.args.changes.now (n + 1) c.top_of-top.result) (drop (c.loop-message.message-index + 1) c.args.pre_prepares.now)) continues
           ∙ sym next ∙ c.loop-message.invariant.1,
     )
 
