@@ -14,7 +14,7 @@ use Rattle.pbft_codec.specs.declared.body.fetch.Fetch.TheVariants as fetches
 use Rattle.pbft_model.specs.Words.{Body, Checkpoint, Reply, Signed, Snapshot}
 use Rattle.pbft_model.specs.Acts.{Act, All, Install, Rise, Send}
 use Rattle.pbft_model.specs.Certificates.{Fields, of_pre_prepare, of_prepare, of_commit, is_by, is_stable, voted}
-use Rattle.pbft_model.specs.Core.{Core, held_with, if_passes, is_certified, is_committed, is_known, is_placed}
+use Rattle.pbft_model.specs.Core.{Core, held_with, if_passes, is_certified, is_committed, is_known, has_position}
 use Rattle.pbft_model.specs.Duties.{Do, Duty, Executing, due, due_enter, due_execute, due_install, due_open, due_reply, execute_at, greatest_stable, is_stable_entry, leads, say, when}
 use Rattle.pbft_model.specs.Histories.{IsIn}
 use Rattle.pbft_model.specs.Rows.{Fulfils}
@@ -22,7 +22,7 @@ use Rattle.pbft_model.specs.Rules.{Allowed, IsStateAt, own_message, pre_prepare_
 use Rattle.pbft_model.specs.Sequential.{IsSound, Service, last_reply_of}
 use Rattle.pbft_model.specs.Setup.{Setup, number_limit, primary}
 use Rattle.pbft_model.specs.Tables.{at, entries_in, number_key, vote_key}
-use Rattle.pbft_model.proofs.Fitting.{fits_at}
+use Rattle.pbft_model.proofs.Fitting.{in_step_at}
 use Rattle.pbft_model.proofs.Rowed.{due_allowed}
 use Rattle.pbft_model.proofs.Stages.{voted_is}
 use Rattle.replica_core.specs.Meanings.{IsDue}
@@ -70,7 +70,7 @@ module _ (c : Setup) (me : ℕ) (s : Core) (configuration : IsConfiguration c.co
   allowed_act a e = allowed a (subst (λ (o : Option Duty). Fulfils c s o a) (sym e) refl)
 
   pub sound : IsSound s.service
-  sound = subst (λ (x : Core). IsSound x.service) reached.here (fits_at c me reached.signer configuration reached.acts reached.history).sound
+  sound = subst (λ (x : Core). IsSound x.service) reached.here (in_step_at c me reached.signer configuration reached.acts reached.history).sound
 
   pub low_number : s.executed < number_limit
   low_number = subst (λ (x : Core). x.executed < number_limit) reached.here (executed_low c me reached.signer configuration reached.acts reached.history)
@@ -84,8 +84,8 @@ module _ (c : Setup) (me : ℕ) (s : Core) (configuration : IsConfiguration c.co
   pub owed : IsDue c me s (Some duties.Reply) → IsSome s.reply_due
   owed d = some_reply me s s.reply_due (subst (λ (o : Option Duty). IsSome o) d.0 d.1)
 
-  pub last_kept : (client : ClientId) → IsDue c me s (Some (duties.AnswerAgain client)) → IsSome (last_reply_of s.service client.0)
-  last_kept client d = some_of _ (last_reply_of s.service client.0) (subst (λ (o : Option Duty). IsSome o) d.0 d.1)
+  pub has_last_reply : (client : ClientId) → IsDue c me s (Some (duties.AnswerAgain client)) → IsSome (last_reply_of s.service client.0)
+  has_last_reply client d = some_of _ (last_reply_of s.service client.0) (subst (λ (o : Option Duty). IsSome o) d.0 d.1)
 
   pub request_held : (digest : Digest) (asker : ReplicaId) → IsDue c me s (Some (duties.Relay digest asker)) → IsSome (held_with c s.held digest.0)
   request_held digest asker d = some_of _ (held_with c s.held digest.0) (subst (λ (o : Option Duty). IsSome o) d.0 d.1)
@@ -176,7 +176,7 @@ module _ (c : Setup) (me : ℕ) (s : Core) (configuration : IsConfiguration c.co
   executes_low numbered number digest d =
       let is = executes_due number digest d in
       let key = vote_key (s.executed + 1) s.view (primary c s.view) in
-      let there = some_here s.active (s.executed + 1) (λ m. is_committed c s (of_pre_prepare m.body)) (is_by (primary c s.view) (is_placed s.view (s.executed + 1))) (at s.pre_prepares key) is.1 in
+      let there = some_here s.active (s.executed + 1) (λ m. is_committed c s (of_pre_prepare m.body)) (is_by (primary c s.view) (has_position s.view (s.executed + 1))) (at s.pre_prepares key) is.1 in
       let low : s.executed + 1 < number_limit = numbered key there in
       let same = is.0 in
       omega (arith, low, same)

@@ -11,7 +11,7 @@ use Rattle.pbft_codec.specs.declared.body.Body.TheVariants as bodies
 use Rattle.pbft_codec.specs.declared.body.fetch.Fetch.TheVariants as fetches
 use Rattle.pbft_model.specs.Words.{PrePrepare, Signed}
 use Rattle.pbft_model.specs.Setup.{Setup, is_replica, primary}
-use Rattle.pbft_model.specs.Core.{Core, if_passes, is_known, is_placed, pre_prepare_at}
+use Rattle.pbft_model.specs.Core.{Core, if_passes, is_known, has_position, pre_prepare_at}
 use Rattle.pbft_model.specs.Certificates.{is_by}
 use Rattle.pbft_model.specs.Acts.{All}
 use Rattle.pbft_model.specs.Duties as model
@@ -53,19 +53,19 @@ passed {X} test (Some x) m e = split (test x) refl e where
   split true is e = ap test (sym (one e)) ∙ is
   split false is e = absurd (none_some e)
 
-pub record IsPlaced (view number : ℕ) (o : Option Pre) : Type 0 where
+pub record IsPositioned (view number : ℕ) (o : Option Pre) : Type 0 where
   pub view_is : (m : Pre) → o ≡ Some m → m.body.view.0 ≡ view
   pub number_is : (m : Pre) → o ≡ Some m → m.body.number.0 ≡ number
 
-placed : (c : Setup) (s : Core) (view number : ℕ) → IsPlaced view number (pre_prepare_at c s view number)
-placed c s view number = record {
+positioned : (c : Setup) (s : Core) (view number : ℕ) → IsPositioned view number (pre_prepare_at c s view number)
+positioned c s view number = record {
   view_is = λ m e. eqb-true m.body.view.0 view (parts m e).0;
   number_is = λ m e. eqb-true m.body.number.0 number (parts m e).1;
 } where
   parts : (m : Pre) → pre_prepare_at c s view number ≡ Some m → ((m.body.view.0 == view) ≡ true) × ((m.body.number.0 == number) ≡ true)
   parts m e =
-      let all = both_true (is_replica m.role) ((m.id == primary c view) && is_placed view number m.body) (passed (is_by (primary c view) (is_placed view number)) (at s.pre_prepares (vote_key number view (primary c view))) m e) in
-      both_true (m.body.view.0 == view) (m.body.number.0 == number) (both_true (m.id == primary c view) (is_placed view number m.body) all.1).1
+      let all = both_true (is_replica m.role) ((m.id == primary c view) && has_position view number m.body) (passed (is_by (primary c view) (has_position view number)) (at s.pre_prepares (vote_key number view (primary c view))) m e) in
+      both_true (m.body.view.0 == view) (m.body.number.0 == number) (both_true (m.id == primary c view) (has_position view number m.body) all.1).1
 
 module _ (c : Setup) (me : ℕ) (s : Core) where
   -- ---- a Prepare
@@ -82,7 +82,7 @@ module _ (c : Setup) (me : ℕ) (s : Core) where
     one : Some m.body.digest ≡ Some d → m.body.digest ≡ d
     one e = cc
 
-  agreed : (o : Option Pre) (number : SeqNo) (d : Digest) → IsPlaced s.view number.0 o → digest_in o ≡ Some d → is_known c s d.0 ≡ true
+  agreed : (o : Option Pre) (number : SeqNo) (d : Digest) → IsPositioned s.view number.0 o → digest_in o ≡ Some d → is_known c s d.0 ≡ true
       → agree me s (if_passes (λ m. is_known c s m.body.digest.0) o) ≡ Some (say me s All (bodies.Prepare (record { view = record { 0 = s.view }; number = number; digest = d })))
   agreed None number d there e known = absurd (none_some e) where
     none_some : None ≡ Some d → ⊥
@@ -106,7 +106,7 @@ module _ (c : Setup) (me : ℕ) (s : Core) where
   pub prepare_known : (number : SeqNo) (d : Digest) → among s.prepared_numbers number.0 ≡ false → digest_in (pre_prepare_at c s s.view number.0) ≡ Some d → is_known c s d.0 ≡ true
       → Means c me s (prepare_for c me s number.0) (Some (duties.Prepare number d))
   prepare_known number d e some known =
-      let is = fresh number.0 e ∙ agreed (pre_prepare_at c s s.view number.0) number d (placed c s s.view number.0) some known in (is, ap is_some is)
+      let is = fresh number.0 e ∙ agreed (pre_prepare_at c s s.view number.0) number d (positioned c s s.view number.0) some known in (is, ap is_some is)
 
   -- ---- a request that lacks
 

@@ -9,14 +9,14 @@ use Rattle.pbft_model.proofs.Ending.{less_to_do}
 use Rattle.replica_core.specs.Replicas.{KeptReplica}
 use Rattle.replica_core.specs.Settling.{Advances, IsAfter, IsReached}
 use Rattle.replica_core.proofs.Asking.{allowed, low_number}
-use Rattle.replica_core.proofs.Growing.{after_more, goes_on}
+use Rattle.replica_core.proofs.Growing.{after_more, continues}
 use Rattle.view_change.specs.Setups.{setup_of}
 
--- a replica that was reached goes on to one that is
+-- a replica that was reached continues to one that is
 pub still_reached : (k t : KeptReplica) (acts : List Act) → IsReached (setup_of k.config) k.me k.core → IsAfter k acts t → IsReached (setup_of t.config) t.me t.core
 still_reached k t acts reached is =
     subst (λ (c : Configuration). IsReached (setup_of c) t.me t.core) (sym is.config)
-    (subst (λ (me : ℕ). IsReached (setup_of k.config) me t.core) (sym is.me) (goes_on (setup_of k.config) k.me acts k.core t.core reached is.follows))
+    (subst (λ (me : ℕ). IsReached (setup_of k.config) me t.core) (sym is.me) (continues (setup_of k.config) k.me acts k.core t.core reached is.follows))
 
 pub one_more : (k t u : KeptReplica) → (acts : List Act) × IsAfter k acts t → Advances t u → (acts : List Act) × IsAfter k acts u
 one_more k t u (acts, before) (a, step) = (acts ++ a ∷ [], after_more k t u acts (a ∷ []) before step)

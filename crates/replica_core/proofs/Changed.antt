@@ -17,7 +17,7 @@ use Rattle.seal.specs.Opening.{CheckedMessage, sealed_message}
 use Rattle.replica_core.specs.Doing.{Says}
 use Rattle.replica_core.specs.Replicas.{AreOne, KeptReplica, Parts, kept_in}
 use Rattle.replica_core.specs.Stores.{KeptChanges}
-use Rattle.replica_core.specs.Told.{told_by}
+use Rattle.replica_core.specs.OwnViewChange.{own_view_change}
 use Rattle.replica_core.proofs.Fulfilling.{no_more}
 use Rattle.view_change.specs.Setups.{setup_of}
 
@@ -40,8 +40,8 @@ Sent t body = record t {
 abbrev Left : KeptReplica → View → KeptReplica
 Left k view = record k { core = left_for (setup_of k.config) k.core view.0 }
 
-abbrev Told : KeptReplica → View → ViewChange
-Told k view = view_change_of (setup_of k.config) k.core view.0
+abbrev ViewChangeFrom : KeptReplica → View → ViewChange
+ViewChangeFrom k view = view_change_of (setup_of k.config) k.core view.0
 
 -- and recorded
 abbrev Keeping : Bool → View → Signed Body → ViewChange → KeptReplica → KeptReplica
@@ -50,29 +50,29 @@ Keeping b view m v t = record t { core = record t.core { changes = add_if b (cha
 awaited : (view : ℕ) → true ≡ (nat_lt view view || (view == view && true))
 awaited view = sym (or_right (nat_lt view view) (view == view && true) (ap (λ (b : Bool). b && true) (eq-eqb view view refl)))
 
-done_all : (k u : KeptReplica) (view : View) → u ≡ Keeping true view (own_message k.core k.me (bodies.ViewChange (Told k view))) (Told k view) (Sent (Left k view) (bodies.ViewChange (Told k view)))
-    → Says k All (bodies.ViewChange (Told k view)) u
+done_all : (k u : KeptReplica) (view : View) → u ≡ Keeping true view (own_message k.core k.me (bodies.ViewChange (ViewChangeFrom k view))) (ViewChangeFrom k view) (Sent (Left k view) (bodies.ViewChange (ViewChangeFrom k view)))
+    → Says k All (bodies.ViewChange (ViewChangeFrom k view)) u
 done_all k u view e =
-    let m = own_message k.core k.me (bodies.ViewChange (Told k view)) in
-    let is = e ∙ ap (λ (b : Bool). Keeping b view m (Told k view) (Sent (Left k view) (bodies.ViewChange (Told k view)))) (awaited view.0) in
+    let m = own_message k.core k.me (bodies.ViewChange (ViewChangeFrom k view)) in
+    let is = e ∙ ap (λ (b : Bool). Keeping b view m (ViewChangeFrom k view) (Sent (Left k view) (bodies.ViewChange (ViewChangeFrom k view)))) (awaited view.0) in
     record {
       config = ap (λ (y : KeptReplica). y.config) is;
       me = ap (λ (y : KeptReplica). y.me) is;
       core = ap (λ (y : KeptReplica). acted y.core) is;
-      outputs = ap (λ (y : KeptReplica). y.outputs) is ∙ ap (λ (x : Signed Body). k.outputs ++ record { to = All; message = x; own = true } ∷ []) (own_is k (Told k view));
+      outputs = ap (λ (y : KeptReplica). y.outputs) is ∙ ap (λ (x : Signed Body). k.outputs ++ record { to = All; message = x; own = true } ∷ []) (own_is k (ViewChangeFrom k view));
       done = ap (λ (y : KeptReplica). y.done) is ∙ no_more k.done;
       leaves = ap (λ (y : KeptReplica). y.leaves) is;
     }
 
 module _ (c : Configuration) (me : ℕ) (p : Parts) (one : AreOne c me p) where
-  pub changed : (k t s : KeptReplica) (view : View) (body : Body) (m : CheckedMessage) (changes : KeptChanges) → kept_in c me p ≡ s → t ≡ Left k view → body ≡ bodies.ViewChange (told_by t.core view) → s ≡ Sent t body
+  pub changed : (k t s : KeptReplica) (view : View) (body : Body) (m : CheckedMessage) (changes : KeptChanges) → kept_in c me p ≡ s → t ≡ Left k view → body ≡ bodies.ViewChange (own_view_change t.core view) → s ≡ Sent t body
       → m.message ≡ sealed_message t.core.signer roles.Replica t.me body
       → ((v : ViewChange) → m.message.body ≡ bodies.ViewChange v → changes ≡ record p.changes { changes = add_if true (change_key v.view.0 m.message.id) (with_body m.message v) p.changes.changes })
-      → Says k All (bodies.ViewChange (Told k view)) (kept_in c me (record p { changes = changes }))
+      → Says k All (bodies.ViewChange (ViewChangeFrom k view)) (kept_in c me (record p { changes = changes }))
   changed k t s view body m changes e left body_is sent message_is kept =
-      let told : body ≡ bodies.ViewChange (Told k view) = body_is ∙ ap (λ (y : KeptReplica). bodies.ViewChange (told_by y.core view)) left in
-      let own : m.message ≡ own_message k.core k.me (bodies.ViewChange (Told k view)) = message_is ∙ (λ i. sealed_message (left i).core.signer roles.Replica (left i).me (told i)) ∙ own_is k (Told k view) in
+      let is_own : body ≡ bodies.ViewChange (ViewChangeFrom k view) = body_is ∙ ap (λ (y : KeptReplica). bodies.ViewChange (own_view_change y.core view)) left in
+      let own : m.message ≡ own_message k.core k.me (bodies.ViewChange (ViewChangeFrom k view)) = message_is ∙ (λ i. sealed_message (left i).core.signer roles.Replica (left i).me (is_own i)) ∙ own_is k (ViewChangeFrom k view) in
       done_all k (kept_in c me (record p { changes = changes })) view
-      (ap (λ (x : KeptChanges). kept_in c me (record p { changes = x })) (kept (Told k view) (ap (λ (x : Signed Body). x.body) own))
-      ∙ ap (λ (x : Signed Body). Keeping true view x (Told k view) (kept_in c me p)) own
-      ∙ ap (Keeping true view (own_message k.core k.me (bodies.ViewChange (Told k view))) (Told k view)) (e ∙ sent ∙ (λ i. Sent (left i) (told i))))
+      (ap (λ (x : KeptChanges). kept_in c me (record p { changes = x })) (kept (ViewChangeFrom k view) (ap (λ (x : Signed Body). x.body) own))
+      ∙ ap (λ (x : Signed Body). Keeping true view x (ViewChangeFrom k view) (kept_in c me p)) own
+      ∙ ap (Keeping true view (own_message k.core k.me (bodies.ViewChange (ViewChangeFrom k view))) (ViewChangeFrom k view)) (e ∙ sent ∙ (λ i. Sent (left i) (is_own i))))

@@ -29,11 +29,11 @@ module _ (c : Setup) (me : ℕ) where
   leaves_joined [] more = omega arith
   leaves_joined (a ∷ acts) more = let rest = leaves_joined acts more in omega (arith, rest)
 
-  -- what a history comes to when it goes on
-  pub goes_on : (acts : List Act) (s t : Core) → IsReached c me s → Follows c me s acts t → IsReached c me t
-  goes_on [] s t at same = subst (IsReached c me) (sym same) at
-  goes_on (a ∷ acts) s t at (does, leaves, rest) =
-      goes_on acts (after c s a) t (record {
+  -- what a history comes to when it continues
+  pub continues : (acts : List Act) (s t : Core) → IsReached c me s → Follows c me s acts t → IsReached c me t
+  continues [] s t at same = subst (IsReached c me) (sym same) at
+  continues (a ∷ acts) s t at (does, leaves, rest) =
+      continues acts (after c s a) t (record {
         signer = at.signer;
         acts = a ∷ at.acts;
         history = (at.history, due_allowed c me at.signer at.acts at.history a (subst (λ (x : Core). Fulfils c x (due c me x) a) (sym at.here) does));

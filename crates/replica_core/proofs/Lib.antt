@@ -23,7 +23,7 @@ pub mod Growing
 pub mod Leaving
 pub mod Entering
 pub mod Fulfilling
-pub mod Telling
+pub mod Reporting
 pub mod Changed
 pub mod Acting
 pub mod Performing

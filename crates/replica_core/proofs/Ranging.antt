@@ -17,7 +17,7 @@ use Rattle.pbft_model.specs.Setup.{Setup, number_limit}
 use Rattle.pbft_model.specs.Tables.{Key, Table, add_if, at, checkpoint_key, entries_in, first_in, is_above, keep, number_key, with_entry}
 use Rattle.pbft_model.specs.Validity.{is_valid, is_valid_new_view}
 use Rattle.pbft_model.proofs.Entries.{from_append, from_entry, from_keep}
-use Rattle.pbft_model.proofs.Fitting.{Fits, fits_at}
+use Rattle.pbft_model.proofs.Fitting.{IsInStep, in_step_at}
 use Rattle.pbft_model.proofs.Found.{found_entry, found_keep, no_some}
 
 -- ---- Checkpoints
@@ -166,7 +166,7 @@ module _ (c : Setup) (me : ℕ) (signer : SigningState) (configuration : IsConfi
   -- the number reached is a sequence number
   pub executed_low : (acts : List Act) → IsHistory c me signer acts → (core_after c signer acts).executed < number_limit
   executed_low acts is =
-      let fits = fits_at c me signer configuration acts is in
+      let fits = in_step_at c me signer configuration acts is in
       let same = fits.number_is in
       let low = fits.sound.bounded.number_in_range in
       omega (arith, same, low)
@@ -190,8 +190,8 @@ module _ (c : Setup) (me : ℕ) (signer : SigningState) (configuration : IsConfi
     checkpoints = kept_low (is_above n) (core_after c signer acts).checkpoints h.checkpoints;
     snapshots = kept_states (λ key. nat_le n (first_in key)) (core_after c signer acts).snapshots h.snapshots;
   }
-  range_after acts (Execute n d t o) is ok h = record { checkpoints = h.checkpoints; snapshots = cases (n % c.config.k == 0) (fits_at c me signer configuration (Execute n d t o ∷ acts) (is, ok)) } where
-    cases : (b : Bool) → Fits c (after c (core_after c signer acts) (Execute n d t o)) → AreStates (cond b (with_entry (core_after c signer acts).snapshots (number_key n) (encoded t)) (core_after c signer acts).snapshots)
+  range_after acts (Execute n d t o) is ok h = record { checkpoints = h.checkpoints; snapshots = cases (n % c.config.k == 0) (in_step_at c me signer configuration (Execute n d t o ∷ acts) (is, ok)) } where
+    cases : (b : Bool) → IsInStep c (after c (core_after c signer acts) (Execute n d t o)) → AreStates (cond b (with_entry (core_after c signer acts).snapshots (number_key n) (encoded t)) (core_after c signer acts).snapshots)
     cases true fits = entry_states (core_after c signer acts).snapshots n (encoded t) (state_of t n (encoded t) fits.sound fits.number_is refl) h.snapshots
     cases false fits = h.snapshots
   range_after acts (Install n b t) is ok h = record {

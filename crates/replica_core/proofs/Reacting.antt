@@ -24,7 +24,7 @@ use Rattle.replica_core.specs.declared.halt.Halt.{Halt}
 use Rattle.replica_core.specs.declared.halt.Halt.TheVariants as halts
 use Rattle.replica_core.specs.declared.replica.Status.{Status}
 use Rattle.replica_core.specs.declared.row.Input.{Input}
-use Rattle.replica_core.proofs.Growing.{goes_on}
+use Rattle.replica_core.proofs.Growing.{continues}
 
 -- ---- the first act
 
@@ -47,7 +47,7 @@ takes k j t m copy reading under checked noted reads same kept = (
   kept ∙ ap (λ (x : CheckedMessage). with_taken j x.message reading) same ∙ ap (λ (x : KeptReplica). with_taken x m.message reading) noted,
 )
 
--- a history goes on with it
+-- a history continues with it
 pub begun_soundly : (k t : KeptReplica) (input : model.Input) → IsSound k → HasBegun k input t → IsSound t
 begun_soundly k t input at (a, begins, is) =
     subst IsSound (sym is) (record {
@@ -92,7 +92,7 @@ module _ (k s t : KeptReplica) (input : Input) (row : RowFacts) (a : Act) where
           done = as_checked.done ∙ done.done ∙ ap (λ xs. xs ++ all_done (setup_of k.config) acts) rest.done;
           leaves = omega (arith, many, none, taken);
         };
-        reached = reached_there t.config t.me t.core config me core (goes_on (setup_of k.config) k.me acts (begun_by k a).core s.core at done.follows);
+        reached = reached_there t.config t.me t.core config me core (continues (setup_of k.config) k.me acts (begun_by k a).core s.core at done.follows);
         rest = record { outputs = ap (λ (x : KeptReplica). x.outputs) is; done = ap (λ (x : KeptReplica). x.done) is; leaves = ap (λ (x : KeptReplica). x.leaves) is };
       }
 

@@ -10,7 +10,7 @@ pub mod Replicas
 pub mod Doing
 pub mod Meanings
 pub mod Settling
-pub mod Told
+pub mod OwnViewChange
 pub mod Opens
 pub mod Answering
 pub mod Steps

@@ -39,7 +39,7 @@ first_with c me signer = record { config = c; me = me; core = Some (start_of (se
 
 -- ---- one input
 
--- The replica goes on: this is the row of the input.
+-- The replica continues: this is the row of the input.
 pub record Goes (r : ReplicaFacts) (input : Input) (row : RowFacts) (t : ReplicaFacts) : Type 0 where
   pub before : Core
   pub was : r.core ≡ Some before

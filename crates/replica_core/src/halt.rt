@@ -21,7 +21,7 @@ pub enum Halt {
     Memory = 2,
     /// The last view or the last sequence number was reached.
     Worn = 3,
-    /// A journal has no place for a row more. It comes from stations alone.
+    /// A journal has no room for a row more. It comes from stations alone.
     JournalFull = 4,
     /// The replica had stopped before this call.
     AlreadyHalted = 5,

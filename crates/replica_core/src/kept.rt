@@ -55,7 +55,7 @@ pub(crate) struct Core {
 
 impl Model for Core {
     ghost use Rattle.std.specs.Coded.{codes};
-    ghost use Rattle.service_core.specs.Codes.{service_code};
+    ghost use Rattle.service_core.specs.Equality.{service_code};
     ghost use Rattle.replica_core.specs.Replicas.{AreOne, KeptReplica, kept_in};
 
     ghost Value = { KeptReplica };

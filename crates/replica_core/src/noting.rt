@@ -14,7 +14,7 @@ use host_types::{Digest, SeqNo};
 use pbft_codec::PrePrepare;
 
 impl Core {
-    /// An act was done: what is judged as a message comes is judged no more.
+    /// An act was done: what is asked as a message comes is asked no more.
     pub fn note_act(&mut self)
         ensures { self.new ≡ record self.old { core = acted self.old.core } }
     {

@@ -34,12 +34,12 @@ pub struct Status {
     pub low: SeqNo,
     /// The last executed number.
     pub executed: SeqNo,
-    /// Why it has stopped; none while it goes on.
+    /// Why it has stopped; none while it continues.
     pub halted: Option<Halt>,
 }
 
 /// One replica (Castro and Liskov 1999, section 4): it takes opened messages and timeouts, and answers
-/// what it does for each as a row. Once it has stopped it keeps where it stood, and no more.
+/// what it does for each as a row. Once it has stopped it keeps where it was, and no more.
 #[derive(Drop)]
 pub struct Replica {
     alloc: Global,
@@ -53,7 +53,7 @@ pub struct Replica {
 impl Model for Replica {
     ghost use Rattle.std.specs.Coded.{codes};
     ghost use Rattle.std.specs.Option.{option_map};
-    ghost use Rattle.service_core.specs.Codes.{service_code};
+    ghost use Rattle.service_core.specs.Equality.{service_code};
     ghost use Rattle.replica_core.specs.Answering.{IsWhole};
     ghost use Rattle.replica_core.specs.Steps.{ReplicaFacts};
 
@@ -92,7 +92,7 @@ impl Replica {
     }
 
     /// Takes a message that was opened under the replica's configuration, and does what it asks for,
-    /// until nothing is due: the row tells all of it. At a halt nothing that was done for the message is
+    /// until nothing is due: the row reports all of it. At a halt nothing that was done for the message is
     /// given, and the replica has stopped for good: its signer and its state are dropped, and its status
     /// says where it stood before the message, and the halt. `Exhausted` comes where an own message
     /// wants more leaves than the signer has left, `Worn` where there is no view or no sequence number

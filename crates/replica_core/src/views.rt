@@ -17,7 +17,7 @@ ghost use Rattle.replica_core.specs.declared.halt.Halt.TheVariants.{Memory};
 ghost use Rattle.replica_core.specs.Doing.{Fulfilled, IsShortOf, Says};
 ghost use Rattle.replica_core.specs.Opens.{AreGiven, IsProposal, IsToOpen, after_leaves, chosen_by, opening_message, signed_by_all, with_opening};
 ghost use Rattle.replica_core.specs.Settling.{IsReached};
-ghost use Rattle.replica_core.specs.Told.{told_by};
+ghost use Rattle.replica_core.specs.OwnViewChange.{own_view_change};
 
 use crate::halt::Halt;
 use crate::kept::Core;
@@ -34,7 +34,7 @@ impl Core {
     pub fn change_to(&mut self, view: View) -> Result<(), Halt>
         requires higher { self.old.core.view < view.0 }
         requires reached { IsReached (setup_of self.old.config) self.old.me self.old.core }
-        ensures told { OnOk result (Says self.old All (bodies.ViewChange (view_change_of (setup_of self.old.config) self.old.core view.0)) self.new) }
+        ensures says { OnOk result (Says self.old All (bodies.ViewChange (view_change_of (setup_of self.old.config) self.old.core view.0)) self.new) }
         ensures short { IfErr result (IsShortOf self.old 1) }
     {
         let _ = self.log.low();
@@ -49,8 +49,8 @@ impl Core {
     /// The ViewChange for a view: the low mark with its proof, and every kept certificate, numbers
     /// ascending.
     fn view_change_body(&self, view: View) -> Result<Body, Halt>
-        ensures made { IfOk result (λ body. body ≡ bodies.ViewChange (told_by self.now.core view)) }
-        ensures sealable { HasShortLists (told_by self.now.core view) → IfOk result (IsSealable self.now.config) }
+        ensures made { IfOk result (λ body. body ≡ bodies.ViewChange (own_view_change self.now.core view)) }
+        ensures sealable { HasShortLists (own_view_change self.now.core view) → IfOk result (IsSealable self.now.config) }
         ensures memory { IfErr result (λ halt. halt ≡ Memory) }
     {
         let low = self.low();

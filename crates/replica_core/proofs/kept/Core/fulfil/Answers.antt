@@ -4,7 +4,7 @@ use Rattle.pbft_model.specs.Tables.{at, number_key}
 use Rattle.view_change.specs.Setups.{setup_of}
 use Rattle.replica_core.specs.declared.duties.Duty.TheVariants as duties
 use Rattle.replica_core.proofs.Asking as asking
-use Rattle.replica_core.proofs.Asking.{as_duty, commits_low, executes_low, executes_next, fetches_low, following, higher, last_kept, leading, low_number, prepares_low, proposes_low, reads, request_held, rises_above, rises_to_reached, rises_to_stable, snapshot_kept, snapshot_low, snapshot_short, sound}
+use Rattle.replica_core.proofs.Asking.{as_duty, commits_low, executes_low, executes_next, fetches_low, following, higher, has_last_reply, leading, low_number, prepares_low, proposes_low, reads, request_held, rises_above, rises_to_reached, rises_to_stable, snapshot_kept, snapshot_low, snapshot_short, sound}
 use Rattle.replica_core.proofs.Dispatch.{answers_due, executes_due, relays_due, rises_due, supplies_due}
 use Rattle.replica_core.proofs.kept.Core.fulfil.Goals as goal
 
@@ -102,7 +102,7 @@ fetch_state-requires c =
 pub returns-in-AnswerAgain-clause-done : goal.returns-in-AnswerAgain-clause-done
 returns-in-AnswerAgain-clause-done c =
     answers_due c.args.self.now c.answer_again.new.self c.answer_again.result c.in-AnswerAgain.client.0 (last_reply_of c.args.self.now.core.service c.in-AnswerAgain.client.0)
-    ((as_duty (setup_of c.args.self.now.config) c.args.self.now.me c.args.self.now.core c.args.duty (duties.AnswerAgain c.in-AnswerAgain.client) c.requires.due c.in-AnswerAgain.is).0) (last_kept (setup_of c.args.self.now.config) c.args.self.now.me c.args.self.now.core c.numbers.ensures.legal c.requires.reached c.in-AnswerAgain.client
+    ((as_duty (setup_of c.args.self.now.config) c.args.self.now.me c.args.self.now.core c.args.duty (duties.AnswerAgain c.in-AnswerAgain.client) c.requires.due c.in-AnswerAgain.is).0) (has_last_reply (setup_of c.args.self.now.config) c.args.self.now.me c.args.self.now.core c.numbers.ensures.legal c.requires.reached c.in-AnswerAgain.client
     (as_duty (setup_of c.args.self.now.config) c.args.self.now.me c.args.self.now.core c.args.duty (duties.AnswerAgain c.in-AnswerAgain.client) c.requires.due c.in-AnswerAgain.is)) c.answer_again.ensures.sent
 
 pub returns-in-Relay-clause-done : goal.returns-in-Relay-clause-done

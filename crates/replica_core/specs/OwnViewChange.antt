@@ -4,5 +4,5 @@ use Rattle.pbft_model.specs.Core.{Core}
 use Rattle.pbft_model.specs.Tables.{entries_in}
 use Rattle.pbft_model.specs.Words.{ViewChange}
 
-abbrev pub told_by : Core → View → ViewChange
-told_by s view = record { view = view; low = record { 0 = s.low }; checkpoints = s.proof; certificates = entries_in s.kept }
+abbrev pub own_view_change : Core → View → ViewChange
+own_view_change s view = record { view = view; low = record { 0 = s.low }; checkpoints = s.proof; certificates = entries_in s.kept }

@@ -16,7 +16,7 @@ use Rattle.seal.specs.Parts.{as_message}
 use Rattle.view_change.specs.Made.{IsCertificateOf, IsMadeOf, OneForOne}
 use Rattle.view_change.specs.Sealable.{AreUnder}
 use Rattle.replica_core.specs.Replicas.{AreOne, KeptReplica, Parts, kept_in}
-use Rattle.replica_core.specs.Told.{told_by}
+use Rattle.replica_core.specs.OwnViewChange.{own_view_change}
 
 each_checked : (c : Configuration) (xs : List Certificate) → OneForOne IsCertificateOf (map (as_checked c) xs) xs
 each_checked c [] = tt
@@ -34,7 +34,7 @@ module _ (c : Configuration) (me : ℕ) (p : Parts) (one : AreOne c me p) (k : K
   proof_kept : proof_at p.table low.0 ≡ p.table.proof
   proof_kept = ap (λ (b : Bool). cond b p.table.proof (proof_for (by_sha256 p.table.config) p.table.checkpoints low.0 (stable_digest (by_sha256 p.table.config) p.table.checkpoints low.0))) (eq-eqb low.0 p.table.low at_mark)
 
-  pub made_of : (view : View) → IsMadeOf view low proof certificates (told_by k.core view)
+  pub made_of : (view : View) → IsMadeOf view low proof certificates (own_view_change k.core view)
   made_of view = record {
     view_is = refl;
     low_is = λ i. record { 0 = sym low_is i };
