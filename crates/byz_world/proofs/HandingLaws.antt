@@ -22,7 +22,7 @@ config_at c low [] i d are below = absurd (omega arith)
 config_at c low (m ∷ ms) zero d are below = are.1
 config_at c low (m ∷ ms) (suc i) d are below = config_at c (m.replica.me + 1) ms i d are.2 (omega arith)
 
--- the members with one of them put in its place
+-- the members with one of them put at its index
 pub set_from : (c : Configuration) (low : ℕ) (ms : List MemberFacts) (i : ℕ) (t d : MemberFacts) → AreFrom c low ms → i < length ms
     → t.replica.me ≡ (get_or ms i d).replica.me → t.replica.config ≡ (get_or ms i d).replica.config → AreFrom c low (set ms i t)
 set_from c low [] i t d are below same config = absurd (omega arith)

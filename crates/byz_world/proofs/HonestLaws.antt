@@ -195,20 +195,20 @@ listed_in c (id ∷ ids) (signer ∷ signers) j i listed signed (inr later) = li
 pub report_lawful : (c : Configuration) (faulty : ℕ → Bool) (signers : List SigningState) (es : List Event) (t : WorldFacts) (j : Journals)
     → Runs (first_world c faulty signers) es t → IsReported faulty (map outcome_of t.members) j → IsSignedBy (correct_ids c faulty) signers j
     → (i : ℕ) → (last : Core) × ComesTo (setup_of c) j i (j.rows i) last
-report_lawful c faulty signers es t j runs told signed i =
+report_lawful c faulty signers es t j runs as_reported signed i =
     let all = runs_kept c j.signer (first_world c faulty signers) es t (first_kept c (correct_ids c faulty) signers j signed) runs in
     let kept = reported c j.signer t.members i all in
-    (kept.0, subst (λ (rs : List Row). IsLawfulFrom (setup_of c) i (start_of (setup_of c) (j.signer i)) rs kept.0) (sym (told.rows_are i)) kept.1)
+    (kept.0, subst (λ (rs : List Row). IsLawfulFrom (setup_of c) i (start_of (setup_of c) (j.signer i)) rs kept.0) (sym (as_reported.rows_are i)) kept.1)
 
 pub report_agrees : (c : Configuration) (faulty : ℕ → Bool) (signers : List SigningState) (es : List Event) (t : WorldFacts) (j : Journals)
     → IsConfiguration c → AreListed c (correct_ids c faulty) signers → Runs (first_world c faulty signers) es t
     → IsReported faulty (map outcome_of t.members) j → IsSignedBy (correct_ids c faulty) signers j → IsHonestReport (setup_of c) j → Agrees (setup_of c) j
-report_agrees c faulty signers es t j legal listed runs told signed honest = agrees_over (setup_of c) j (record {
+report_agrees c faulty signers es t j legal listed runs as_reported signed honest = agrees_over (setup_of c) j (record {
   configuration = legal;
   few = honest.few;
   listed = λ i is. listed_in c (correct_ids c faulty) signers j i listed signed
-      (among (λ (n : ℕ). not (faulty n)) i 0 (replicas_for c.f) (omega arith) (omega (arith, is.0)) (ap not (sym (ap (λ (f : ℕ → Bool). f i) told.faulty_is) ∙ is.1)));
-  lawful = λ i is. report_lawful c faulty signers es t j runs told signed i;
+      (among (λ (n : ℕ). not (faulty n)) i 0 (replicas_for c.f) (omega arith) (omega (arith, is.0)) (ap not (sym (ap (λ (f : ℕ → Bool). f i) as_reported.faulty_is) ∙ is.1)));
+  lawful = λ i is. report_lawful c faulty signers es t j runs as_reported signed i;
   real = honest.real;
   apart = honest.apart;
 })

@@ -11,9 +11,9 @@ use Rattle.pbft_model.specs.Journals.{ComesTo, Journals}
 use Rattle.pbft_model.specs.Rows.{Follows, IsLawfulFrom, Row}
 use Rattle.pbft_model.specs.Setup.{Setup}
 use Rattle.pbft_model.specs.Words.{SigningState}
-use Rattle.pbft_model.proofs.Fitting.{fits_at}
+use Rattle.pbft_model.proofs.Fitting.{in_step_at}
 use Rattle.pbft_model.proofs.Rowed.{Leads, begun, journal_is_history}
-use Rattle.pbft_model.proofs.Telling.{core_follows, history_follows, pushed}
+use Rattle.pbft_model.proofs.Reporting.{core_follows, history_follows, pushed}
 use Rattle.byz_world.specs.Procedures.{IsOnTheWay, StaysSafe}
 
 sound_safe : (state : Service) → IsSound state → NoneGoesWrong state
@@ -21,7 +21,7 @@ sound_safe state sound = λ k part within. let mine = sound k part within in λ 
 
 module _ (c : Setup) (me : ℕ) (signer : SigningState) (legal : IsConfiguration c.config) where
   led_safe : (t : Core) → Leads c me signer t → NoneGoesWrong t.service
-  led_safe t (acts, is, same) = subst (λ (x : Core). NoneGoesWrong x.service) same (sound_safe (core_after c signer acts).service (fits_at c me signer legal acts is).sound.sound)
+  led_safe t (acts, is, same) = subst (λ (x : Core). NoneGoesWrong x.service) same (sound_safe (core_after c signer acts).service (in_step_at c me signer legal acts is).sound.sound)
 
   way_leads : (s t : Core) → Leads c me signer s → IsOnTheWay c me s t → Leads c me signer t
   way_leads s t (acts, is, same) way =

@@ -76,8 +76,8 @@ run_refused w es i e u v fault (Err x) below is runs happens err = subst (IsRefu
 pub run_agrees : (c : Configuration) (faulty : ℕ → Bool) (signers : List SigningState) (es : List Event) (i : ℕ) (t : WorldFacts) (r : Result (List OutcomeFacts) WorldFault) → IsConfiguration c
     → AreListed c (correct_ids c faulty) signers → length es ≤ i → Runs (first_world c faulty signers) (take i es) t → IfOk r (λ outcomes. outcomes ≡ map outcome_of t.members)
     → IfOk r (λ outcomes. (j : Journals) → IsReported faulty outcomes j → IsSignedBy (correct_ids c faulty) signers j → IsHonestReport (setup_of c) j → Agrees (setup_of c) j)
-run_agrees c faulty signers es i t (Ok outcomes) legal listed past runs is = λ j told signed honest.
-    report_agrees c faulty signers (take i es) t j legal listed runs (subst (λ (os : List OutcomeFacts). IsReported faulty os j) is told) signed honest
+run_agrees c faulty signers es i t (Ok outcomes) legal listed past runs is = λ j as_reported signed honest.
+    report_agrees c faulty signers (take i es) t j legal listed runs (subst (λ (os : List OutcomeFacts). IsReported faulty os j) is as_reported) signed honest
 run_agrees c faulty signers es i t (Err fault) legal listed past runs is = tt
 
 -- ---- procedures
@@ -85,6 +85,6 @@ run_agrees c faulty signers es i t (Err fault) legal listed past runs is = tt
 pub run_safe : (c : Configuration) (faulty : ℕ → Bool) (signers : List SigningState) (es : List Event) (i : ℕ) (t : WorldFacts) (r : Result (List OutcomeFacts) WorldFault) → IsConfiguration c
     → length es ≤ i → Runs (first_world c faulty signers) (take i es) t → IfOk r (λ outcomes. outcomes ≡ map outcome_of t.members)
     → IfOk r (λ outcomes. (j : Journals) → IsReported faulty outcomes j → IsSignedBy (correct_ids c faulty) signers j → StaysSafe (setup_of c) j)
-run_safe c faulty signers es i t (Ok outcomes) legal past runs is = λ j told signed.
-    lawful_safe (setup_of c) j legal (report_lawful c faulty signers (take i es) t j runs (subst (λ (os : List OutcomeFacts). IsReported faulty os j) is told) signed)
+run_safe c faulty signers es i t (Ok outcomes) legal past runs is = λ j as_reported signed.
+    lawful_safe (setup_of c) j legal (report_lawful c faulty signers (take i es) t j runs (subst (λ (os : List OutcomeFacts). IsReported faulty os j) is as_reported) signed)
 run_safe c faulty signers es i t (Err fault) legal past runs is = tt

@@ -38,7 +38,7 @@ pub record WorldFacts : Type 0 where
 abbrev pub member_of : WorldFacts → ℕ → Option MemberFacts
 member_of w id = find (λ m. m.replica.me == id) w.members
 
--- the world with this replica in the place of the one of its id
+-- the world with this replica instead of the one of its id
 abbrev pub with_member : WorldFacts → MemberFacts → WorldFacts
 with_member w m = record w { members = map (λ x. if x.replica.me == m.replica.me then m else x) w.members }
 

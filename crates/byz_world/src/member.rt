@@ -33,7 +33,7 @@ pub(crate) struct Member {
 impl Model for Member {
     ghost use Rattle.std.specs.Prelude.{◌≡◌};
     ghost use Rattle.std.specs.Coded.{codes};
-    ghost use Rattle.service_core.specs.Codes.{service_code};
+    ghost use Rattle.service_core.specs.Equality.{service_code};
     ghost use Rattle.byz_world.specs.Worlds.{MemberFacts};
 
     ghost Value = { MemberFacts };

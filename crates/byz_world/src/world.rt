@@ -38,7 +38,7 @@ pub struct World {
 
 impl Model for World {
     ghost use Rattle.std.specs.Coded.{codes};
-    ghost use Rattle.service_core.specs.Codes.{service_code};
+    ghost use Rattle.service_core.specs.Equality.{service_code};
     ghost use Rattle.byz_world.specs.Handing.{AreMembers};
     ghost use Rattle.byz_world.specs.Worlds.{WorldFacts};
 
@@ -283,7 +283,7 @@ pub fn run_world(
         × (outcomes ≡ map outcome_of t.members)) }
     ensures refused { IfErr result (IsRefused (first_world config.now.value (λ i. set.contains faulty.now i) signers.items) events.now) }
 
-    // Where at most f are faulty, nobody forged and no digests collided, one list of requests accounts for all that the report tells.
+    // Where at most f are faulty, nobody forged and no digests collided, one list of requests accounts for all that the report says.
     ensures agrees { IfOk result (λ outcomes. (j : Journals) → IsReported (λ i. set.contains faulty.now i) outcomes j
         → IsSignedBy (correct_ids config.now.value (λ i. set.contains faulty.now i)) signers.items j
         → IsHonestReport (setup_of config.now.value) j → Agrees (setup_of config.now.value) j) }

@@ -6,8 +6,8 @@ use Rattle.host_client.specs.Sessions.{SessionState, accepted_by, has_said, is_v
 use Rattle.host_client.proofs.Vouched.{accepts, repeats, waits}
 use Rattle.host_client.proofs.session.Session.count.Goals as goal
 
-told : (f g number : ℕ) (answers others : List Answer) (result other : List ℕ) → g ≡ f → others ≡ answers → result ≡ other → is_vouched f answers number result ≡ is_vouched g others number other
-told f g number answers others result other few all same =
+same_vouched : (f g number : ℕ) (answers others : List Answer) (result other : List ℕ) → g ≡ f → others ≡ answers → result ≡ other → is_vouched f answers number result ≡ is_vouched g others number other
+same_vouched f g number answers others result other few all same =
     ap (λ (n : ℕ). is_vouched n answers number result) (sym few) ∙ ap (λ (xs : List Answer). is_vouched g xs number result) (sym all) ∙ ap (λ (r : List ℕ). is_vouched g others number r) same
 
 pub invariant_of-self-then-is_vouched-2 : goal.invariant_of-self-then-is_vouched-2
@@ -20,7 +20,7 @@ invariant_of-self-then-is_vouched-2 c =
     let few : c.f.result ≡ s.config.f = c.f.ensures.value ∙ ap (λ (k : Configuration). k.f) c.deref-2.ensures in
     let all : c.deref-3.result.now ≡ c.push.new.self.items = c.deref-3.ensures.value in
     let result : c.in_ok-result.result ≡ c.args.reply.now.result = c.in_ok-result.ensures in
-    let vouched = told s.config.f c.f.result a.number.0 c.push.new.self.items c.deref-3.result.now a.result c.args.reply.now.result few all result ∙ sym c.is_vouched.ensures ∙ c.if-is_vouched.true in
+    let vouched = same_vouched s.config.f c.f.result a.number.0 c.push.new.self.items c.deref-3.result.now a.result c.args.reply.now.result few all result ∙ sym c.is_vouched.ensures ∙ c.if-is_vouched.true in
     let same : c.in_ok-accepted.accepted ≡ c.in_ok-result.result = c.in_ok-accepted.ensures ∙ sym result in
     let reply : List ℕ → Option Reply = λ result. Some (record { client = s.client; time = s.time; number = a.number; result = result }) in
     (record { key = sign.key; listed = sign.listed; is_key = sign.is_key }, c.self.invariant.1, ap reply same ∙ sym (accepts s a c.push.new.self.items is none vouched))
@@ -35,7 +35,7 @@ invariant_of-self-else-is_vouched c =
     let few : c.f.result ≡ s.config.f = c.f.ensures.value ∙ ap (λ (k : Configuration). k.f) c.deref-2.ensures in
     let all : c.deref-3.result.now ≡ c.push.new.self.items = c.deref-3.ensures.value in
     let result : c.in_ok-result.result ≡ c.args.reply.now.result = c.in_ok-result.ensures in
-    let vouched = told s.config.f c.f.result a.number.0 c.push.new.self.items c.deref-3.result.now a.result c.args.reply.now.result few all result ∙ sym c.is_vouched.ensures ∙ c.if-is_vouched.false in
+    let vouched = same_vouched s.config.f c.f.result a.number.0 c.push.new.self.items c.deref-3.result.now a.result c.args.reply.now.result few all result ∙ sym c.is_vouched.ensures ∙ c.if-is_vouched.false in
     (record { key = sign.key; listed = sign.listed; is_key = sign.is_key }, c.self.invariant.1, c.self.invariant.2 ∙ none ∙ sym (waits s a c.push.new.self.items is none vouched))
 
 pub invariant_of-self-then-is_repeated : goal.invariant_of-self-then-is_repeated
