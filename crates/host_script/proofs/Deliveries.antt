@@ -40,7 +40,7 @@ nothing_refused s w id bytes row g runs stops = by (opening s.world.config bytes
       absurd (true_false (sym runs ∙ ap (λ (x : WorldFacts). is_running x id) (sym d.1) ∙ stops (ap is_some none)))
 
 pub occurred : (s t : StageFacts) (id : ReplicaId) (bytes : List ℕ) (gave : Bool) → Happened s id (events.Deliver id bytes) gave t → Occurs s id (events.Deliver id bytes) t
-occurred s t id bytes gave h = record { row = h.row; world = h.world; gives = h.gives; goes_on = h.goes_on; new = h.new }
+occurred s t id bytes gave h = record { row = h.row; world = h.world; gives = h.gives; continues = h.continues; new = h.new }
 
 abbrev pub IsHandled : StageFacts → ReplicaId → List ℕ → List ℕ → StageFacts → Type 0
 IsHandled s id bytes text t = stages.AtReplica s id bytes text t
@@ -63,7 +63,7 @@ handled s t id bytes text gave runs h stops none =
       text_is = none ∙ sym (nothing_refused s h.world id bytes h.row h.gives runs (λ no. ap (λ (u : StageFacts). is_running u.world id) (sym h.new) ∙ stops (h.gave_is ∙ no)));
     })
 
--- It gave none and goes on: what is printed is why the bytes are refused.
+-- It gave none and continues: what is printed is why the bytes are refused.
 pub refused : (s t : StageFacts) (id : ReplicaId) (bytes text : List ℕ) (gave : Bool) → is_running s.world id ≡ true → Happened s id (events.Deliver id bytes) gave t
     → text ≡ refusal_of id (opening s.world.config bytes) → IsHandled s id bytes text t
 refused s t id bytes text gave runs h is =

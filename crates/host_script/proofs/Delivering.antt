@@ -9,8 +9,8 @@ use Rattle.seal.specs.Opening.{CheckedMessage, opening}
 use Rattle.seal.specs.declared.fault.SealFault.{SealFault}
 use Rattle.byz_world.specs.Worlds.{Where}
 use Rattle.script_text.specs.declared.script.Filter.{Filter}
-use Rattle.script_text.specs.declared.script.Place.{Place}
-use Rattle.script_text.specs.declared.script.Place.TheVariants.{Replica, Client}
+use Rattle.script_text.specs.declared.script.Node.{Node}
+use Rattle.script_text.specs.declared.script.Node.TheVariants.{Replica, Client}
 use Rattle.host_script.specs.Letters.{LetterFacts, first_meant, without_first}
 use Rattle.std.specs.Io.KnownBytes.{Appends}
 use Rattle.script_text.specs.declared.script.Step.TheVariants as steps
@@ -30,7 +30,7 @@ received os s t id bytes text r = record {
     row = r.occurs.row;
     world = r.occurs.world;
     gives = r.occurs.gives;
-    goes_on = r.occurs.goes_on;
+    continues = r.occurs.continues;
     new = ap (ahead os) r.occurs.new
         ∙ ap (λ (ls : List LetterFacts). record s { world = r.occurs.world; queue = ls }) (sym (append_assoc os s.queue (letters_in s.world.config id r.occurs.row)));
   };
@@ -46,7 +46,7 @@ of_client : (os : List LetterFacts) (s : StageFacts) (client : ClientId) (o : Re
 of_client os s client (Ok m) = refl
 of_client os s client (Err fault) = refl
 
-pub framed : (os : List LetterFacts) (place : Place) (s t : StageFacts) (bytes text : List ℕ) → HandsTo place s bytes text t → HandsTo place (ahead os s) bytes text (ahead os t)
+pub framed : (os : List LetterFacts) (node : Node) (s t : StageFacts) (bytes text : List ℕ) → HandsTo node s bytes text t → HandsTo node (ahead os s) bytes text (ahead os t)
 framed os (Replica id) s t bytes text h = at_replica os s t id bytes text (is_running s.world id) h
 framed os (Client client) s t bytes text h = ap (turned os) h ∙ of_client os s client (opening s.world.config bytes)
 
@@ -115,9 +115,9 @@ write_ended f n s u w t old mid new os line within is one front = (
   front_then old mid new is.1.0 line is.1.2 front,
 )
 
-pub goes_on : (f : Filter) (n : ℕ) (s u v : StageFacts) (old mid new : Option (List ℕ)) (os rest : List LetterFacts) (line : List ℕ) → IsUnderWay f n s old mid os u
+pub continues : (f : Filter) (n : ℕ) (s u v : StageFacts) (old mid new : Option (List ℕ)) (os rest : List LetterFacts) (line : List ℕ) → IsUnderWay f n s old mid os u
     → Delivers f (ahead os u) line (ahead rest v) × (first_meant f rest ≡ None) → Appends mid new line → IsUnderWay f (n + 1) s old new rest v
-goes_on f n s u v old mid new os rest line is one wrote =
+continues f n s u v old mid new os rest line is one wrote =
     (one.1, (is.1.0 ++ line, one_more f n s (ahead os u) (ahead rest v) is.1.0 line is.1.1 one.0, both old mid new is.1.0 line is.1.2 wrote))
 
 pub too_many : (f : Filter) (n : ℕ) (s u t : StageFacts) (old new : Option (List ℕ)) (os : List LetterFacts) → n ≡ max_deliveries → IsUnderWay f n s old new os u

@@ -6,7 +6,7 @@ use Rattle.script_text.specs.Faults.{name_of, number_of}
 use Rattle.script_text.specs.declared.fault.ScriptFault.{ScriptFault}
 use Rattle.host_script.specs.Scripts.{fault_line}
 use Rattle.host_script.specs.Writing.{AppendsFront}
-use Rattle.host_script.proofs.Written.{both, front_more, front_then, retold}
+use Rattle.host_script.proofs.Written.{both, front_more, front_then, same_appends}
 
 pub on_err : {A E : Type 0} (r : Result A E) (P : Type 0) → P → OnErr r P
 on_err (Ok x) P p = tt
@@ -51,19 +51,19 @@ module _ (a : Option (List ℕ)) (fault : ScriptFault) where
   -- ---- the pieces before are written
 
   pub has_two : (b c : Option (List ℕ)) (n : List ℕ) → Appends a b one → Appends b c n → n ≡ number → Appends a c two
-  has_two b c n w v same = both a b c one number w (retold b c n number v same)
+  has_two b c n w v same = both a b c one number w (same_appends b c n number v same)
 
   pub has_three : (b c : Option (List ℕ)) → Appends a b two → Appends b c (codes " ") → Appends a c three
   has_three b c w v = both a b c two (codes " ") w v
 
   pub has_four : (b c : Option (List ℕ)) (name : List ℕ) → Appends a b three → Appends b c name → name ≡ name_of fault.kind → Appends a c four
-  has_four b c name w v same = both a b c three (name_of fault.kind) w (retold b c name (name_of fault.kind) v same)
+  has_four b c name w v same = both a b c three (name_of fault.kind) w (same_appends b c name (name_of fault.kind) v same)
 
   pub has_five : (b c : Option (List ℕ)) → Appends a b four → Appends b c (codes " step ") → Appends a c five
   has_five b c w v = both a b c four (codes " step ") w v
 
   pub has_six : (b c : Option (List ℕ)) (n : List ℕ) → Appends a b five → Appends b c n → n ≡ decimal fault.step → Appends a c six
-  has_six b c n w v same = both a b c five (decimal fault.step) w (retold b c n (decimal fault.step) v same)
+  has_six b c n w v same = both a b c five (decimal fault.step) w (same_appends b c n (decimal fault.step) v same)
 
   pub has_all : (b c : Option (List ℕ)) → Appends a b six → Appends b c (codes "\n") → Appends a c (fault_line fault)
   has_all b c w v = both a b c six (codes "\n") w v

@@ -46,12 +46,12 @@ asks old new client op i x m at read can next is =
       is ∙ changes_first (is_of client) after_asking old i x at read,
     ))
 
-pub asks_spent : (old new : List SessionState) (client : ClientId) (op : List ℕ) (i : ℕ) (x : SessionState) → position (is_of client) old ≡ Some i → x ≡ get_or old i x
+pub asks_exhausted : (old new : List SessionState) (client : ClientId) (op : List ℕ) (i : ℕ) (x : SessionState) → position (is_of client) old ≡ Some i → x ≡ get_or old i x
     → x.signer.next_leaf ≡ leaf_count x.signer → new ≡ set old i x → Requests old client op new None
-asks_spent old new client op i x at read spent is =
+asks_exhausted old new client op i x at read exhausted is =
     subst (λ (o : Option SessionState). RequestsBy (if_it_signs (λ (x : SessionState). x.signer) o) old client op new None)
     (sym (found_at (is_of client) old i x at read))
-    (by_leaf old new client op x true None (eq-eqb x.signer.next_leaf (leaf_count x.signer) spent) (refl, stays_so old new i x read is))
+    (by_leaf old new client op x true None (eq-eqb x.signer.next_leaf (leaf_count x.signer) exhausted) (refl, stays_so old new i x read is))
 
 pub offers_none : (old : List SessionState) (client : ClientId) (m : CheckedMessage) (text : List ℕ) → position (is_of client) old ≡ None → text ≡ [] → Offers old client (Ok m) text old
 offers_none old client m text at is = (
@@ -85,9 +85,9 @@ forges old new f digest vote i g at read can said is =
     (sym (found_at (is_forger f.from) old i g at read))
     (forger_by_leaf old new f digest g false (Some vote) can (ap Some said, is ∙ changes_first (is_forger f.from) after_forging old i g at read))
 
-pub forges_spent : (old new : List Forger) (f : Forgery) (digest : List ℕ) (i : ℕ) (g : Forger) → position (is_forger f.from) old ≡ Some i → g ≡ get_or old i g
+pub forges_exhausted : (old new : List Forger) (f : Forgery) (digest : List ℕ) (i : ℕ) (g : Forger) → position (is_forger f.from) old ≡ Some i → g ≡ get_or old i g
     → has_no_leaf g.signer ≡ true → new ≡ set old i g → Forges old f digest new None
-forges_spent old new f digest i g at read spent is =
+forges_exhausted old new f digest i g at read exhausted is =
     subst (λ (o : Option Forger). ForgesBy (if_it_signs (λ (g : Forger). g.signer) o) old f digest new None)
     (sym (found_at (is_forger f.from) old i g at read))
-    (forger_by_leaf old new f digest g true None spent (refl, stays_so old new i g read is))
+    (forger_by_leaf old new f digest g true None exhausted (refl, stays_so old new i g read is))

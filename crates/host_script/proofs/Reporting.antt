@@ -75,38 +75,38 @@ runs (Some xs) bytes script old new r same is steps = subst (λ (input : List �
 
 with_line : (k : ScriptKind) (input : List ℕ) (fault : ScriptFault) (old mid new : Option (List ℕ)) → (k ≡ kinds.Write → ⊥) → StopsAt k input fault old mid → Appends mid new (fault_line fault)
     → WritesFault k input fault old new
-with_line kinds.Write input fault old mid new told s a = absurd (told refl)
-with_line kinds.NotToml input fault old mid new told s a = (s.0, s.1, both old mid new s.0 (fault_line fault) s.2 a)
-with_line kinds.MissingKey input fault old mid new told s a = (s.0, s.1, both old mid new s.0 (fault_line fault) s.2 a)
-with_line kinds.WrongValue input fault old mid new told s a = (s.0, s.1, both old mid new s.0 (fault_line fault) s.2 a)
-with_line kinds.UnknownKey input fault old mid new told s a = (s.0, s.1, both old mid new s.0 (fault_line fault) s.2 a)
-with_line kinds.BadConfig input fault old mid new told s a = (s.0, s.1, both old mid new s.0 (fault_line fault) s.2 a)
-with_line kinds.TooLong input fault old mid new told s a = (s.0, s.1, both old mid new s.0 (fault_line fault) s.2 a)
-with_line kinds.TooManyDeliveries input fault old mid new told s a = (s.0, s.1, both old mid new s.0 (fault_line fault) s.2 a)
-with_line kinds.Read input fault old mid new told s a = (s.0, s.1, both old mid new s.0 (fault_line fault) s.2 a)
-with_line kinds.Memory input fault old mid new told s a = (s.0, s.1, both old mid new s.0 (fault_line fault) s.2 a)
+with_line kinds.Write input fault old mid new has_line s a = absurd (has_line refl)
+with_line kinds.NotToml input fault old mid new has_line s a = (s.0, s.1, both old mid new s.0 (fault_line fault) s.2 a)
+with_line kinds.MissingKey input fault old mid new has_line s a = (s.0, s.1, both old mid new s.0 (fault_line fault) s.2 a)
+with_line kinds.WrongValue input fault old mid new has_line s a = (s.0, s.1, both old mid new s.0 (fault_line fault) s.2 a)
+with_line kinds.UnknownKey input fault old mid new has_line s a = (s.0, s.1, both old mid new s.0 (fault_line fault) s.2 a)
+with_line kinds.BadConfig input fault old mid new has_line s a = (s.0, s.1, both old mid new s.0 (fault_line fault) s.2 a)
+with_line kinds.TooLong input fault old mid new has_line s a = (s.0, s.1, both old mid new s.0 (fault_line fault) s.2 a)
+with_line kinds.TooManyDeliveries input fault old mid new has_line s a = (s.0, s.1, both old mid new s.0 (fault_line fault) s.2 a)
+with_line kinds.Read input fault old mid new has_line s a = (s.0, s.1, both old mid new s.0 (fault_line fault) s.2 a)
+with_line kinds.Memory input fault old mid new has_line s a = (s.0, s.1, both old mid new s.0 (fault_line fault) s.2 a)
 
 -- what was written ahead of the line
 ahead : (k : ScriptKind) (input : List ℕ) (fault : ScriptFault) (old mid : Option (List ℕ)) → (k ≡ kinds.Write → ⊥) → StopsAt k input fault old mid
     → (text : List ℕ) × WritesBefore k input fault text × Appends old mid text
-ahead kinds.Write input fault old mid told s = absurd (told refl)
-ahead kinds.NotToml input fault old mid told s = s
-ahead kinds.MissingKey input fault old mid told s = s
-ahead kinds.WrongValue input fault old mid told s = s
-ahead kinds.UnknownKey input fault old mid told s = s
-ahead kinds.BadConfig input fault old mid told s = s
-ahead kinds.TooLong input fault old mid told s = s
-ahead kinds.TooManyDeliveries input fault old mid told s = s
-ahead kinds.Read input fault old mid told s = s
-ahead kinds.Memory input fault old mid told s = s
+ahead kinds.Write input fault old mid has_line s = absurd (has_line refl)
+ahead kinds.NotToml input fault old mid has_line s = s
+ahead kinds.MissingKey input fault old mid has_line s = s
+ahead kinds.WrongValue input fault old mid has_line s = s
+ahead kinds.UnknownKey input fault old mid has_line s = s
+ahead kinds.BadConfig input fault old mid has_line s = s
+ahead kinds.TooLong input fault old mid has_line s = s
+ahead kinds.TooManyDeliveries input fault old mid has_line s = s
+ahead kinds.Read input fault old mid has_line s = s
+ahead kinds.Memory input fault old mid has_line s = s
 
 -- the write of the line failed
 line_cut : (input : List ℕ) (fault : ScriptFault) (old mid new : Option (List ℕ)) → (fault.kind ≡ kinds.Write → ⊥) → StopsAt fault.kind input fault old mid → AppendsFront mid new (fault_line fault)
     → WritesFault kinds.Write input (record { kind = kinds.Write; step = fault.step }) old new
-line_cut input fault old mid new told s a =
-    let w = ahead fault.kind input fault old mid told s in (
+line_cut input fault old mid new has_line s a =
+    let w = ahead fault.kind input fault old mid has_line s in (
       w.0 ++ fault_line fault,
-      inr (record { fault = fault; is_told = told; step_is = refl; front = w.0; before = w.1; text_is = refl }),
+      inr (record { fault = fault; is_reported = has_line; step_is = refl; front = w.0; before = w.1; text_is = refl }),
       front_then old mid new w.0 (fault_line fault) w.2 a,
     )
 
@@ -116,15 +116,15 @@ steps_cut k input fault old new is s = subst (λ (x : ScriptKind). WritesFault x
   by : StopsAt kinds.Write input fault old new → WritesFault kinds.Write input fault old new
   by s = (s.0, inl s.1, s.2)
 
-told : (input : List ℕ) (fault reported : ScriptFault) (old mid new : Option (List ℕ)) → PlaysInput input old mid (Err fault) → Reports fault mid new reported → Writes input old new (Err reported)
-told input fault reported old mid new p (inl (is, same, kept)) =
+has_line : (input : List ℕ) (fault reported : ScriptFault) (old mid new : Option (List ℕ)) → PlaysInput input old mid (Err fault) → Reports fault mid new reported → Writes input old new (Err reported)
+has_line input fault reported old mid new p (inl (is, same, kept)) =
     subst (λ (f : ScriptFault). WritesFault f.kind input f old new) (sym same)
     (steps_cut fault.kind input fault old new is (subst (StopsAt fault.kind input fault old) (sym kept) p))
-told input fault reported old mid new p (inr (other, inl (same, line))) =
+has_line input fault reported old mid new p (inr (other, inl (same, line))) =
     subst (λ (f : ScriptFault). WritesFault f.kind input f old new) (sym same) (with_line fault.kind input fault old mid new other p line)
-told input fault reported old mid new p (inr (other, inr (same, front))) =
+has_line input fault reported old mid new p (inr (other, inr (same, front))) =
     subst (λ (f : ScriptFault). WritesFault f.kind input f old new) (sym same) (line_cut input fault old mid new other p front)
 
 pub reported : (known : Option (List ℕ)) (fault last : ScriptFault) (old mid new : Option (List ℕ)) → PlaysWhatIsRead known old mid (Err fault) → Reports fault mid new last → WritesWhatIsRead known old new (Err last)
 reported None fault last old mid new p r = tt
-reported (Some input) fault last old mid new p r = told input fault last old mid new p r
+reported (Some input) fault last old mid new p r = has_line input fault last old mid new p r

@@ -13,7 +13,7 @@ use Rattle.script_text.specs.Kinds.{kind_of_body, kind_of_vote}
 use Rattle.script_text.specs.declared.kind.Kind.{Kind}
 use Rattle.script_text.specs.declared.script.Forgery.{Forgery}
 use Rattle.script_text.specs.declared.script.Order.{Order}
-use Rattle.script_text.specs.declared.script.Place.TheVariants.{Replica}
+use Rattle.script_text.specs.declared.script.Node.TheVariants.{Replica}
 use Rattle.host_script.specs.declared.forging.Forger.{Forger}
 use Rattle.host_script.specs.Letters.{LetterFacts, copies}
 use Rattle.host_script.specs.Lines.{nothing_queued_line}

@@ -21,8 +21,8 @@ pub nothing : (a : Option (List ℕ)) → Appends a a []
 nothing None = tt
 nothing (Some xs) = sym (append-nil xs)
 
-pub retold : (a b : Option (List ℕ)) (s t : List ℕ) → Appends a b s → s ≡ t → Appends a b t
-retold a b s t w same = subst (Appends a b) same w
+pub same_appends : (a b : Option (List ℕ)) (s t : List ℕ) → Appends a b s → s ≡ t → Appends a b t
+same_appends a b s t w same = subst (Appends a b) same w
 
 pub front_at : (a b : Option (List ℕ)) (n : ℕ) (text shown : List ℕ) → shown ≡ text → n < length shown → Appends a b (take n shown) → AppendsFront a b text
 front_at a b n text shown same below w = record {
@@ -63,8 +63,8 @@ taken n m bs =
 
 pub more_written : (a b c : Option (List ℕ)) (n m : ℕ) (bs : List ℕ) → Appends a b (take n bs) → Appends b c (take m (take (length bs - n) (drop n bs))) → Appends a c (take (n + m) bs)
 more_written a b c n m bs w v =
-    retold a c (take n bs ++ take m (drop n bs)) (take (n + m) bs)
-    (both a b c (take n bs) (take m (drop n bs)) w (retold b c (take m (take (length bs - n) (drop n bs))) (take m (drop n bs)) v (ap (take m) (take_rest bs n)))) (taken n m bs)
+    same_appends a c (take n bs ++ take m (drop n bs)) (take (n + m) bs)
+    (both a b c (take n bs) (take m (drop n bs)) w (same_appends b c (take m (take (length bs - n) (drop n bs))) (take m (drop n bs)) v (ap (take m) (take_rest bs n)))) (taken n m bs)
 
 pub still_within : (n m : ℕ) (bs : List ℕ) → n ≤ length bs → m ≤ length (take (length bs - n) (drop n bs)) → n + m ≤ length bs
 still_within n m bs below some =

@@ -6,35 +6,35 @@ use Rattle.pbft_codec.specs.declared.signed.Signed.{Signed}
 use Rattle.pbft_codec.specs.Encoding.{encoding}
 use Rattle.script_text.specs.declared.kind.Kind.{Kind}
 use Rattle.script_text.specs.declared.script.Filter.{Filter}
-use Rattle.script_text.specs.declared.script.Place.{Place}
-use Rattle.script_text.specs.declared.script.Place.TheVariants.{Replica, Client}
+use Rattle.script_text.specs.declared.script.Node.{Node}
+use Rattle.script_text.specs.declared.script.Node.TheVariants.{Replica, Client}
 use Rattle.script_text.specs.Kinds.{kind_number, kind_of_body}
 
 -- A message on its way: whom it is for, and what a script knows of it. Raw bytes have no sender and no kind.
 pub record LetterFacts : Type 0 where
-  pub to : Place
-  pub from : Option Place
+  pub to : Node
+  pub from : Option Node
   pub kind : Option Kind
   pub bytes : List ℕ
 
--- a message that was signed at this place
-abbrev pub letter_of : Place → Signed Body → LetterFacts
+-- a message that was signed by this node
+abbrev pub letter_of : Node → Signed Body → LetterFacts
 letter_of from m = record { to = from; from = Some from; kind = Some (kind_of_body m.body); bytes = encoding m }
 
-abbrev pub addressed : LetterFacts → Place → LetterFacts
+abbrev pub addressed : LetterFacts → Node → LetterFacts
 addressed l to = record l { to = to }
 
--- a letter once for each of these places
-abbrev pub copies : LetterFacts → List Place → List LetterFacts
-copies l places = map (addressed l) places
+-- a letter once for each of these nodes
+abbrev pub copies : LetterFacts → List Node → List LetterFacts
+copies l nodes = map (addressed l) nodes
 
 -- ---- which letters are meant
 
-abbrev pub same_place : Place → Place → Bool
-same_place (Replica a) (Replica b) = a.0 == b.0
-same_place (Replica a) (Client b) = false
-same_place (Client a) (Replica b) = false
-same_place (Client a) (Client b) = a.0 == b.0
+abbrev pub same_node : Node → Node → Bool
+same_node (Replica a) (Replica b) = a.0 == b.0
+same_node (Replica a) (Client b) = false
+same_node (Client a) (Replica b) = false
+same_node (Client a) (Client b) = a.0 == b.0
 
 abbrev pub same_kind : Kind → Kind → Bool
 same_kind a b = kind_number a == kind_number b
@@ -46,7 +46,7 @@ is_among same (Some xs) None = false
 is_among same (Some xs) (Some x) = list_any (λ y. same y x) xs
 
 abbrev pub is_meant : Filter → LetterFacts → Bool
-is_meant f l = is_among same_place f.to (Some l.to) && (is_among same_place f.from l.from && is_among same_kind f.kinds l.kind)
+is_meant f l = is_among same_node f.to (Some l.to) && (is_among same_node f.from l.from && is_among same_kind f.kinds l.kind)
 
 abbrev pub first_meant : Filter → List LetterFacts → Option LetterFacts
 first_meant f ls = find (is_meant f) ls

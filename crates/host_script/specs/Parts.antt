@@ -17,7 +17,7 @@ use Rattle.pbft_codec.specs.declared.signed.Signed.{Signed}
 use Rattle.script_text.specs.declared.script.Order.{Order}
 use Rattle.script_text.specs.declared.script.Step.{Step}
 use Rattle.script_text.specs.declared.script.Step.TheVariants as steps
-use Rattle.script_text.specs.declared.script.Place.TheVariants.{Client}
+use Rattle.script_text.specs.declared.script.Node.TheVariants.{Client}
 use Rattle.sha2.specs.Sha256.{sha256}
 use Rattle.host_script.specs.Letters.{LetterFacts, copies, first_meant, letter_of}
 use Rattle.host_script.specs.declared.forging.Forger.{Forger}
@@ -58,7 +58,7 @@ pub record Happened (s : StageFacts) (id : ReplicaId) (event : Event) (gave : Bo
   pub row : Option RowFacts
   pub world : WorldFacts
   pub gives : Gives s.world event (Ok row) world
-  pub goes_on : lacked_memory (halt_in (member_of world id.0)) ≡ false
+  pub continues : lacked_memory (halt_in (member_of world id.0)) ≡ false
   pub new : t ≡ queued (record s { world = world }) (letters_in s.world.config id row)
   pub gave_is : gave ≡ is_some row
   pub config : world.config ≡ s.world.config

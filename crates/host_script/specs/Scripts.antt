@@ -68,9 +68,9 @@ abbrev pub fault_line : ScriptFault → List ℕ
 fault_line fault = text_of fault ++ codes "\n"
 
 -- A fault's line behind what was written ahead of it. The line of a failed write is not written.
-pub record TellsFault (input : List ℕ) (step : ℕ) (text : List ℕ) : Type 0 where
+pub record ReportsFault (input : List ℕ) (step : ℕ) (text : List ℕ) : Type 0 where
   pub fault : ScriptFault
-  pub is_told : fault.kind ≢ kinds.Write
+  pub is_reported : fault.kind ≢ kinds.Write
   pub step_is : fault.step ≡ step
   pub front : List ℕ
   pub before : WritesBefore fault.kind input fault front
@@ -78,7 +78,7 @@ pub record TellsFault (input : List ℕ) (step : ℕ) (text : List ℕ) : Type 0
 
 -- What was to be written where a write fails: what steps print up to the one that breaks off, or a fault with its line.
 abbrev pub IsUnwritten : List ℕ → ScriptFault → List ℕ → Type 0
-IsUnwritten input fault text = WritesBefore kinds.Write input fault text ⊎ TellsFault input fault.step text
+IsUnwritten input fault text = WritesBefore kinds.Write input fault text ⊎ ReportsFault input fault.step text
 
 -- With its line; where a write failed, the first bytes of what was to be written.
 abbrev pub WritesFault : ScriptKind → List ℕ → ScriptFault → Option (List ℕ) → Option (List ℕ) → Type 0

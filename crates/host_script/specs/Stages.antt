@@ -34,13 +34,13 @@ use Rattle.host_client.specs.Sessions.{SessionState, accepted_by, asked, next_re
 use Rattle.script_text.specs.declared.script.Filter.{Filter}
 use Rattle.script_text.specs.declared.script.Forgery.{Forgery}
 use Rattle.script_text.specs.declared.script.Order.{Order}
-use Rattle.script_text.specs.declared.script.Place.{Place}
-use Rattle.script_text.specs.declared.script.Place.TheVariants.{Replica, Client}
+use Rattle.script_text.specs.declared.script.Node.{Node}
+use Rattle.script_text.specs.declared.script.Node.TheVariants.{Replica, Client}
 use Rattle.script_text.specs.declared.script.Step.{Step}
 use Rattle.script_text.specs.declared.script.Step.TheVariants as steps
 use Rattle.host_script.specs.declared.forging.Forger.{Forger}
 use Rattle.host_script.specs.declared.made.Made.{Made}
-use Rattle.host_script.specs.Letters.{LetterFacts, copies, first_meant, is_meant, letter_of, same_place, without_first}
+use Rattle.host_script.specs.Letters.{LetterFacts, copies, first_meant, is_meant, letter_of, same_node, without_first}
 use Rattle.host_script.specs.Lines.{digest_line, nothing_queued_line, refusal_line, reply_line, state_line, status_line}
 
 -- What a running script holds.
@@ -76,11 +76,11 @@ at_first is change (x ∷ xs) = if is x then change x ∷ xs else x ∷ at_first
 abbrev pub ids_of : Configuration → List ReplicaId
 ids_of c = map (λ (id : ℕ). record { 0 = id }) (range_with_len 0 (replicas_for c.f))
 
-abbrev pub all_replicas : Configuration → List Place
+abbrev pub all_replicas : Configuration → List Node
 all_replicas c = map Replica (ids_of c)
 
-abbrev pub all_but : Place → List Place → List Place
-all_but one places = filter (λ (p : Place). not (same_place p one)) places
+abbrev pub all_but : Node → List Node → List Node
+all_but one nodes = filter (λ (p : Node). not (same_node p one)) nodes
 
 abbrev pub has_no_leaf : SigningState → Bool
 has_no_leaf s = s.next_leaf == leaf_count s
@@ -96,9 +96,9 @@ abbrev pub is_of : ClientId → SessionState → Bool
 is_of client s = s.client.0 == client.0
 
 -- whom a request is for: all replicas where none are named
-abbrev pub receivers : Configuration → Option (List Place) → List Place
+abbrev pub receivers : Configuration → Option (List Node) → List Node
 receivers c None = all_replicas c
-receivers c (Some places) = places
+receivers c (Some nodes) = nodes
 
 -- the request that a session makes, as one that was made
 abbrev pub made_by : ClientId → SessionState → List ℕ → Made
@@ -192,7 +192,7 @@ halt_in None = None
 halt_in (Some m) = m.replica.status.halted
 
 -- whom an output is for
-abbrev pub receivers_of : Configuration → ReplicaId → Dest → List Place
+abbrev pub receivers_of : Configuration → ReplicaId → Dest → List Node
 receivers_of c from dests.All = all_but (Replica from) (all_replicas c)
 receivers_of c from (dests.Replica id) = Replica id ∷ []
 receivers_of c from (dests.Client client) = Client client ∷ []
@@ -217,7 +217,7 @@ pub record Occurs (s : StageFacts) (id : ReplicaId) (event : Event) (t : StageFa
   pub row : Option RowFacts
   pub world : WorldFacts
   pub gives : Gives s.world event (Ok row) world
-  pub goes_on : lacked_memory (halt_in (member_of world id.0)) ≡ false
+  pub continues : lacked_memory (halt_in (member_of world id.0)) ≡ false
   pub new : t ≡ queued (record s { world = world }) (letters_in s.world.config id row)
 
 -- A timeout; one at a replica that is faulty or has halted is nothing.
@@ -262,7 +262,7 @@ at_client s client (Ok m) = (
   record s { sessions = after_offer s.sessions client m.message },
 )
 
-abbrev pub HandsTo : Place → StageFacts → List ℕ → List ℕ → StageFacts → Type 0
+abbrev pub HandsTo : Node → StageFacts → List ℕ → List ℕ → StageFacts → Type 0
 HandsTo (Replica id) s bytes text t = AtReplica s id bytes text t
 HandsTo (Client client) s bytes text t = (text, t) ≡ at_client s client (opening s.world.config bytes)
 

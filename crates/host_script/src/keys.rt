@@ -19,7 +19,7 @@ enum Owner {
 }
 
 impl Owner {
-    /// What tells the keys of replicas from those of clients.
+    /// What distinguishes the keys of replicas from those of clients.
     fn mark(self) -> u8
         ensures { result ≡ mark_of self }
     {

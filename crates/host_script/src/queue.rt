@@ -3,13 +3,13 @@
 ghost use Rattle.std.specs.Prelude.{◌≡◌, ◌++◌, ◌∷◌, [], Some, None, IfNone, IfOk, OnOk, MatchOption, filter as kept, not};
 ghost use Rattle.std.specs.List.{list_any};
 ghost use Rattle.script_text.specs.declared.kind.Kind.{Kind};
-ghost use Rattle.script_text.specs.declared.script.Place.{Place};
+ghost use Rattle.script_text.specs.declared.script.Node.{Node};
 ghost use Rattle.host_script.specs.Stages.{all_but};
-ghost use Rattle.host_script.specs.Letters.{LetterFacts, addressed, copies, first_meant, is_among, is_meant, same_kind, same_place, without_first};
+ghost use Rattle.host_script.specs.Letters.{LetterFacts, addressed, copies, first_meant, is_among, is_meant, same_kind, same_node, without_first};
 
 use host_types::Bytes;
 use pbft_codec::Sequence;
-use script_text::{Filter, Kind, Place};
+use script_text::{Filter, Kind, Node};
 use std::alloc::{AllocError, Global};
 use std::collections::VecDeque;
 use std::marker::Model;
@@ -18,8 +18,8 @@ use std::sync::Arc;
 /// A message on its way: bytes, with what the script knows of them. Raw bytes have no sender or kind.
 #[derive(Drop)]
 pub(crate) struct Letter {
-    to: Place,
-    from: Option<Place>,
+    to: Node,
+    from: Option<Node>,
     kind: Option<Kind>,
     bytes: Arc<Bytes>,
 }
@@ -33,11 +33,11 @@ impl Model for Letter {
 }
 
 impl Letter {
-    /// A letter that is addressed to nobody but this place yet.
+    /// A letter that is addressed to nobody but this node yet.
     pub fn new(
         alloc: Global,
-        to: Place,
-        from: Option<Place>,
+        to: Node,
+        from: Option<Node>,
         kind: Option<Kind>,
         bytes: &[u8],
     ) -> Result<Letter, AllocError>
@@ -53,7 +53,7 @@ impl Letter {
     }
 
     /// Whom it is for.
-    pub fn to(&self) -> Place
+    pub fn to(&self) -> Node
         ensures { result ≡ self.now.to }
     {
         self.to
@@ -68,7 +68,7 @@ impl Letter {
     }
 
     /// The same letter for this addressee; its bytes are not copied.
-    fn copy_to(&self, to: Place) -> Result<Letter, AllocError>
+    fn copy_to(&self, to: Node) -> Result<Letter, AllocError>
         ensures { IfOk result (λ l. l ≡ addressed self.now to) }
     {
         Ok(Letter {
@@ -83,36 +83,36 @@ impl Letter {
     fn is_meant_by(&self, filter: &Filter) -> bool
         ensures { result ≡ is_meant filter.now self.now }
     {
-        names_place(&filter.to, Some(self.to))
-            && names_place(&filter.from, self.from)
+        names_node(&filter.to, Some(self.to))
+            && names_node(&filter.from, self.from)
             && names_kind(&filter.kinds, self.kind)
     }
 }
 
-/// Whether a list of places is left out, or has this one.
-fn names_place(list: &Option<Sequence<Place>>, place: Option<Place>) -> bool
-    ensures { result ≡ is_among same_place list.now place }
+/// Whether a list of nodes is left out, or has this one.
+fn names_node(list: &Option<Sequence<Node>>, node: Option<Node>) -> bool
+    ensures { result ≡ is_among same_node list.now node }
 {
-    match (list, place) {
+    match (list, node) {
         (None, _) => true,
         (Some(_), None) => false,
-        (Some(list), Some(place)) => has_place(list.as_slice(), place),
+        (Some(list), Some(node)) => has_node(list.as_slice(), node),
     }
 }
 
-fn has_place(list: &[Place], place: Place) -> bool
-    ensures { result ≡ list_any (λ (one : Place). same_place one place) list.now }
+fn has_node(list: &[Node], node: Node) -> bool
+    ensures { result ≡ list_any (λ (one : Node). same_node one node) list.now }
 {
-    list.iter().any(|one| is_same_place(*one, place))
+    list.iter().any(|one| is_same_node(*one, node))
 }
 
-fn is_same_place(one: Place, other: Place) -> bool
-    ensures { result ≡ same_place one other }
+fn is_same_node(one: Node, other: Node) -> bool
+    ensures { result ≡ same_node one other }
 {
     match (one, other) {
-        (Place::Replica(one), Place::Replica(other)) => one.0 == other.0,
-        (Place::Client(one), Place::Client(other)) => one.0 == other.0,
-        (Place::Replica(_), Place::Client(_)) | (Place::Client(_), Place::Replica(_)) => false,
+        (Node::Replica(one), Node::Replica(other)) => one.0 == other.0,
+        (Node::Client(one), Node::Client(other)) => one.0 == other.0,
+        (Node::Replica(_), Node::Client(_)) | (Node::Client(_), Node::Replica(_)) => false,
     }
 }
 
@@ -181,23 +181,23 @@ impl Queue {
         self.letters.pop_front()
     }
 
-    /// Queues a letter for each place of a list.
-    pub fn send(&mut self, letter: &Letter, to: &[Place]) -> Result<(), AllocError>
+    /// Queues a letter for each node of a list.
+    pub fn send(&mut self, letter: &Letter, to: &[Node]) -> Result<(), AllocError>
         ensures { OnOk result (self.new ≡ self.old ++ copies letter.now to.now) }
     {
-        for place in to {
-            self.push(letter.copy_to(*place)?)?;
+        for node in to {
+            self.push(letter.copy_to(*node)?)?;
         }
         Ok(())
     }
 
-    /// Queues a letter for each place of a list but one.
-    pub fn send_but(&mut self, letter: &Letter, to: &[Place], one: Place) -> Result<(), AllocError>
+    /// Queues a letter for each node of a list but one.
+    pub fn send_but(&mut self, letter: &Letter, to: &[Node], one: Node) -> Result<(), AllocError>
         ensures { OnOk result (self.new ≡ self.old ++ copies letter.now (all_but one to.now)) }
     {
-        for place in to {
-            if !is_same_place(*place, one) {
-                self.push(letter.copy_to(*place)?)?;
+        for node in to {
+            if !is_same_node(*node, one) {
+                self.push(letter.copy_to(*node)?)?;
             }
         }
         Ok(())

@@ -5,7 +5,7 @@ ghost use Rattle.std.specs.FinSet as set;
 ghost use Rattle.byz_world.specs.Worlds.{first_world, member_of};
 ghost use Rattle.host_script.specs.Starts.{forgers_from, numbers_of, start_of};
 ghost use Rattle.script_text.specs.declared.script.Step.TheVariants as steps;
-ghost use Rattle.script_text.specs.declared.script.Place.TheVariants as places;
+ghost use Rattle.script_text.specs.declared.script.Node.TheVariants as nodes;
 ghost use Rattle.host_script.specs.Endings.{Ends};
 ghost use Rattle.host_script.specs.Lines.{nothing_queued_line};
 ghost use Rattle.host_script.specs.Keys.{correct_from, key_of};
@@ -29,7 +29,7 @@ use host_types::{Bytes, ClientId, Config, Digest, ReplicaId, ReplicaSet};
 use lms_tree::Signer;
 use pbft_codec::Body;
 use replica_core::{Dest, Halt, Output, Row};
-use script_text::{Filter, Forgery, Head, Kind, Order, Place, Step};
+use script_text::{Filter, Forgery, Head, Kind, Node, Order, Step};
 use seal::{Checked, SealFault, open, request_digest};
 use sha2::{Digest as _, Sha256};
 use std::alloc::{AllocError, Global};
@@ -47,7 +47,7 @@ pub(crate) struct Stage {
     alloc: Global,
     config: Arc<Config>,
     // All replicas, ids ascending.
-    everyone: Vec<Place>,
+    everyone: Vec<Node>,
     world: World,
     forgers: Vec<Forger>,
     sessions: Sessions,
@@ -58,7 +58,7 @@ pub(crate) struct Stage {
 impl Model for Stage {
     ghost use Rattle.std.specs.Prelude.{◌≡◌};
     ghost use Rattle.std.specs.Coded.{codes};
-    ghost use Rattle.service_core.specs.Codes.{service_code};
+    ghost use Rattle.service_core.specs.Equality.{service_code};
     ghost use Rattle.host_script.specs.Stages.{StageFacts, all_replicas};
 
     ghost Value = { StageFacts };
@@ -161,7 +161,7 @@ impl Stage {
             time: body.time,
             digest: request_digest(request),
         })?;
-        let letter = letter_of(self.alloc, Place::Client(order.client), request)?;
+        let letter = letter_of(self.alloc, Node::Client(order.client), request)?;
         match &order.to {
             Some(to) => self.queue.send(&letter, to.as_slice()),
             None => self.queue.send(&letter, &self.everyone),
@@ -178,7 +178,7 @@ impl Stage {
         let Some(vote) = forge(self.alloc, &mut self.forgers, forgery, digest)? else {
             return nothing_queued(self.alloc);
         };
-        let from = Place::Replica(forgery.from);
+        let from = Node::Replica(forgery.from);
         let kind = Kind::of_vote(forgery.kind);
         let letter = Letter::new(self.alloc, from, Some(from), Some(kind), &vote)?;
         self.queue.send(&letter, forgery.to.as_slice())?;
@@ -200,10 +200,10 @@ impl Stage {
     }
 
     /// Queues bytes that have no sender or kind.
-    fn queue_raw(&mut self, to: &[Place], bytes: &[u8]) -> Result<(), AllocError>
+    fn queue_raw(&mut self, to: &[Node], bytes: &[u8]) -> Result<(), AllocError>
         ensures { OnOk result (self.new ≡ queued self.old (copies (raw_letter bytes.now) to.now)) }
     {
-        let nobody = Place::Replica(ReplicaId(0));
+        let nobody = Node::Replica(ReplicaId(0));
         let letter = Letter::new(self.alloc, nobody, None, None, bytes)?;
         self.queue.send(&letter, to)
     }
@@ -265,8 +265,8 @@ impl Stage {
         ensures { IfOk result (λ text. HandsTo letter.now.to self.old letter.now.bytes (string_bytes text) self.new) }
     {
         match letter.to() {
-            Place::Replica(id) => self.hand_to_replica(id, letter.bytes()),
-            Place::Client(client) => self.sessions.deliver(client, letter.bytes()),
+            Node::Replica(id) => self.hand_to_replica(id, letter.bytes()),
+            Node::Client(client) => self.sessions.deliver(client, letter.bytes()),
         }
     }
 
@@ -369,12 +369,12 @@ impl Stage {
     fn queue_output(&mut self, from: ReplicaId, output: &Output) -> Result<(), AllocError>
         ensures { OnOk result (self.new ≡ queued self.old (letters_of self.old.world.config from output.now)) }
     {
-        let place = Place::Replica(from);
-        let letter = letter_of(self.alloc, place, &output.message)?;
+        let node = Node::Replica(from);
+        let letter = letter_of(self.alloc, node, &output.message)?;
         match output.to {
-            Dest::All => self.queue.send_but(&letter, &self.everyone, place),
-            Dest::Replica(to) => self.queue.send(&letter, &[Place::Replica(to)]),
-            Dest::Client(to) => self.queue.send(&letter, &[Place::Client(to)]),
+            Dest::All => self.queue.send_but(&letter, &self.everyone, node),
+            Dest::Replica(to) => self.queue.send(&letter, &[Node::Replica(to)]),
+            Dest::Client(to) => self.queue.send(&letter, &[Node::Client(to)]),
         }
     }
 
@@ -447,7 +447,7 @@ fn nothing_queued(alloc: Global) -> Result<String, AllocError>
 }
 
 /// A message as a letter, addressed to its sender.
-fn letter_of(alloc: Global, from: Place, message: &Checked) -> Result<Letter, AllocError>
+fn letter_of(alloc: Global, from: Node, message: &Checked) -> Result<Letter, AllocError>
     ensures { IfOk result (λ l. l ≡ letter_of from message.now.message) }
 {
     let kind = Kind::of(message.body());
@@ -455,14 +455,14 @@ fn letter_of(alloc: Global, from: Place, message: &Checked) -> Result<Letter, Al
 }
 
 /// All replicas, ids ascending.
-fn everyone(alloc: Global, config: &Config) -> Result<Vec<Place>, AllocError>
-    ensures { IfOk result (λ places. places.items ≡ all_replicas config.now) }
+fn everyone(alloc: Global, config: &Config) -> Result<Vec<Node>, AllocError>
+    ensures { IfOk result (λ nodes. nodes.items ≡ all_replicas config.now) }
 {
-    let mut places = Vec::new(alloc);
+    let mut nodes = Vec::new(alloc);
     for id in 0..config.replica_count() {
-        places.push(Place::Replica(ReplicaId(id)))?;
+        nodes.push(Node::Replica(ReplicaId(id)))?;
     }
-    Ok(places)
+    Ok(nodes)
 }
 
 /// The faulty replicas as a set.

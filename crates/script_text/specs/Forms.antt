@@ -17,8 +17,8 @@ use Rattle.script_text.specs.declared.kind.Kind.{Kind}
 use Rattle.script_text.specs.declared.kind.Kind.TheVariants as kinds
 use Rattle.script_text.specs.declared.head_keys.Needed.{Needed}
 use Rattle.script_text.specs.declared.script.Client.{Client}
-use Rattle.script_text.specs.declared.script.Place.{Place}
-use Rattle.script_text.specs.declared.script.Place.TheVariants as places
+use Rattle.script_text.specs.declared.script.Node.{Node}
+use Rattle.script_text.specs.declared.script.Node.TheVariants as nodes
 use Rattle.script_text.specs.declared.script.Secret.{Secret}
 use Rattle.script_text.specs.declared.fault.TableFault.{TableFault}
 use Rattle.script_text.specs.declared.fault.TableFault.TheVariants.{MissingKey, WrongValue, UnknownKey}
@@ -47,11 +47,11 @@ abbrev pub optional_key : {A : Type 0} → (Data → Result A TableFault) → Li
 optional_key reads key members = at_optional reads (get_member key members)
 
 -- two readings as one: of two faults the lesser
-abbrev pub both_of : {A B : Type 0} → Result A TableFault → Result B TableFault → Result (A × B) TableFault
-both_of (Ok x) (Ok y) = Ok (x, y)
-both_of (Ok x) (Err fault) = Err fault
-both_of (Err fault) (Ok y) = Err fault
-both_of (Err first) (Err second) = Err (least first second)
+abbrev pub pair_of : {A B : Type 0} → Result A TableFault → Result B TableFault → Result (A × B) TableFault
+pair_of (Ok x) (Ok y) = Ok (x, y)
+pair_of (Ok x) (Err fault) = Err fault
+pair_of (Err fault) (Ok y) = Err fault
+pair_of (Err first) (Err second) = Err (least first second)
 
 abbrev pub is_one_of : List (List ℕ) → List ℕ → Bool
 is_one_of keys key = list_any (bytes_eq key) keys
@@ -189,13 +189,13 @@ abbrev pub client_name : List Client → Data → Result ClientId TableFault
 client_name clients d = if_number (client_named clients) (up_to 4294967295 d)
 
 -- a replica where there is one of the index, else a client
-abbrev pub or_client : Result ReplicaId TableFault → Result ClientId TableFault → Result Place TableFault
-or_client (Ok replica) client = Ok (places.Replica replica)
-or_client (Err fault) (Ok client) = Ok (places.Client client)
+abbrev pub or_client : Result ReplicaId TableFault → Result ClientId TableFault → Result Node TableFault
+or_client (Ok replica) client = Ok (nodes.Replica replica)
+or_client (Err fault) (Ok client) = Ok (nodes.Client client)
 or_client (Err fault) (Err other) = Err other
 
-abbrev pub place : ℕ → List Client → Data → Result Place TableFault
-place count clients d = or_client (replica count d) (client_name clients d)
+abbrev pub node : ℕ → List Client → Data → Result Node TableFault
+node count clients d = or_client (replica count d) (client_name clients d)
 
 -- ---- lists and tables
 
@@ -240,7 +240,7 @@ client_from (Err fault) = Err fault
 abbrev pub client_in : Members → Result Client TableFault
 client_in members =
     client_from (only_keys
-    (both_of (needed_key (up_to 4294967295) (codes "id") members) (needed_key (up_to 4294967295) (codes "tenant") members))
+    (pair_of (needed_key (up_to 4294967295) (codes "id") members) (needed_key (up_to 4294967295) (codes "tenant") members))
     (codes "id" ∷ codes "tenant" ∷ []) members)
 
 abbrev pub client : Data → Result Client TableFault
@@ -255,5 +255,5 @@ needed_from (Err fault) = Err fault
 -- what is needed of a head
 abbrev pub needed_head : Members → Result Needed TableFault
 needed_head members =
-    needed_from (both_of (needed_key integer (codes "f") members)
-    (both_of (needed_key integer (codes "k") members) (needed_key secret (codes "secret") members)))
+    needed_from (pair_of (needed_key integer (codes "f") members)
+    (pair_of (needed_key integer (codes "k") members) (needed_key secret (codes "secret") members)))

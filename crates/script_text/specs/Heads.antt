@@ -13,7 +13,7 @@ use Rattle.script_text.specs.declared.head_keys.Needed.{Needed}
 use Rattle.script_text.specs.declared.head_keys.Optional.{Optional}
 use Rattle.script_text.specs.declared.script.Client.{Client}
 use Rattle.script_text.specs.declared.script.Secret.{Secret}
-use Rattle.script_text.specs.Forms.{any_table, both_of, client, height, list_of, needed_head, only_keys, optional_key, per_replica, replica}
+use Rattle.script_text.specs.Forms.{any_table, pair_of, client, height, list_of, needed_head, only_keys, optional_key, per_replica, replica}
 
 -- What a contract sees of a head.
 pub record HeadFacts : Type 0 where
@@ -62,7 +62,7 @@ first_of (Err fault) = Err fault
 
 abbrev pub listed_clients : Members → Result (Option (List Client)) TableFault
 listed_clients members =
-    first_of (both_of (optional_key (list_of client) (codes "client") members) (optional_key (list_of any_table) (codes "step") members))
+    first_of (pair_of (optional_key (list_of client) (codes "client") members) (optional_key (list_of any_table) (codes "step") members))
 
 -- the number of replicas for a legal number of faulty ones
 abbrev pub replica_count : ℤ → Option ℕ
@@ -89,8 +89,8 @@ optional_faulty members = optional_key (list_of (replica (count_of_faulty member
 -- what may be left out
 abbrev pub optional_head : Members → Result Optional TableFault
 optional_head members =
-    optional_from (both_of (optional_heights members)
-    (both_of (optional_key height (codes "client_height") members) (optional_faulty members)))
+    optional_from (pair_of (optional_heights members)
+    (pair_of (optional_key height (codes "client_height") members) (optional_faulty members)))
 
 abbrev pub head_of : ℕ → ℕ → Secret → Optional → Option (List Client) → HeadFacts
 head_of f k secret o clients = record {
@@ -123,5 +123,5 @@ head_read (Err fault) = Err fault
 -- the head of a document
 abbrev pub head_in : Members → Result HeadFacts TableFault
 head_in members =
-    head_read (only_keys (both_of (needed_head members) (both_of (optional_head members) (listed_clients members)))
+    head_read (only_keys (pair_of (needed_head members) (pair_of (optional_head members) (listed_clients members)))
     (codes "f" ∷ codes "k" ∷ codes "secret" ∷ codes "heights" ∷ codes "client_height" ∷ codes "faulty" ∷ codes "client" ∷ codes "step" ∷ []) members)

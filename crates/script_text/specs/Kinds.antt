@@ -24,7 +24,7 @@ kind_of_vote votes.PrePrepare = PrePrepare
 kind_of_vote votes.Prepare = Prepare
 kind_of_vote votes.Commit = Commit
 
--- kinds are told apart by their numbers
+-- kinds differ by their numbers
 abbrev pub kind_number : Kind → ℕ
 kind_number Request = 1
 kind_number PrePrepare = 2

@@ -12,19 +12,19 @@ use Rattle.host_types.specs.declared.ClientId.{ClientId}
 use Rattle.host_types.specs.declared.ReplicaId.{ReplicaId}
 use Rattle.host_types.specs.declared.SeqNo.{SeqNo}
 use Rattle.script_text.specs.declared.script.Order.{Order}
-use Rattle.script_text.specs.declared.script.Place.{Place}
+use Rattle.script_text.specs.declared.script.Node.{Node}
 use Rattle.script_text.specs.declared.script.Step.{Step}
 use Rattle.script_text.specs.declared.script.Step.TheVariants as steps
 use Rattle.script_text.specs.declared.kind.Kind.{Kind}
-use Rattle.script_text.specs.Forms.{both_of, client_name, faulty_index, hex_bytes, if_found, kind_name, list_of, needed_key, only_keys, optional_key, place, replica, sequence_number, up_to, vote_name, yes}
+use Rattle.script_text.specs.Forms.{pair_of, client_name, faulty_index, hex_bytes, if_found, kind_name, list_of, needed_key, only_keys, optional_key, node, replica, sequence_number, up_to, vote_name, yes}
 
 -- the kind, the view and the number of a vote
 abbrev pub vote_in : Members → Result (VoteKind × (ℕ × SeqNo)) TableFault
 vote_in members =
-    both_of (needed_key vote_name (codes "kind") members)
-    (both_of (needed_key (up_to 4294967295) (codes "view") members) (needed_key sequence_number (codes "number") members))
+    pair_of (needed_key vote_name (codes "kind") members)
+    (pair_of (needed_key (up_to 4294967295) (codes "view") members) (needed_key sequence_number (codes "number") members))
 
-abbrev pub filter_from : Result (Option (List Place) × (Option (List Place) × Option (List Kind))) TableFault → Result Filter TableFault
+abbrev pub filter_from : Result (Option (List Node) × (Option (List Node) × Option (List Kind))) TableFault → Result Filter TableFault
 filter_from (Ok r) = Ok (record { from = r.0; to = r.1.0; kinds = r.1.1 })
 filter_from (Err fault) = Err fault
 
@@ -32,8 +32,8 @@ filter_from (Err fault) = Err fault
 abbrev pub filter_in : ℕ → List Client → Members → Result Filter TableFault
 filter_in count clients members =
     filter_from (only_keys
-    (both_of (optional_key (list_of (place count clients)) (codes "from") members)
-    (both_of (optional_key (list_of (place count clients)) (codes "to") members) (optional_key (list_of kind_name) (codes "kinds") members)))
+    (pair_of (optional_key (list_of (node count clients)) (codes "from") members)
+    (pair_of (optional_key (list_of (node count clients)) (codes "to") members) (optional_key (list_of kind_name) (codes "kinds") members)))
     (codes "do" ∷ codes "from" ∷ codes "to" ∷ codes "kinds" ∷ []) members)
 
 -- where timeouts come
@@ -55,20 +55,20 @@ state_in count members =
     state_from (only_keys (needed_key (replica count) (codes "at") members) (codes "do" ∷ codes "at" ∷ []) members)
 
 -- bytes, and for whom they are queued
-abbrev pub raw_from : Result (List Place × List ℕ) TableFault → Result Step TableFault
+abbrev pub raw_from : Result (List Node × List ℕ) TableFault → Result Step TableFault
 raw_from (Ok r) = Ok (steps.Raw r.0 r.1)
 raw_from (Err fault) = Err fault
 
 abbrev pub raw_in : ℕ → List Client → Members → Result Step TableFault
 raw_in count clients members =
     raw_from (only_keys
-    (both_of (needed_key (list_of (place count clients)) (codes "to") members) (needed_key hex_bytes (codes "bytes") members))
+    (pair_of (needed_key (list_of (node count clients)) (codes "to") members) (needed_key hex_bytes (codes "bytes") members))
     (codes "do" ∷ codes "to" ∷ codes "bytes" ∷ []) members)
 
 -- who signs a vote, and for whom it is queued
-abbrev pub route_in : ℕ → List ReplicaId → List Client → Members → Result (ReplicaId × List Place) TableFault
+abbrev pub route_in : ℕ → List ReplicaId → List Client → Members → Result (ReplicaId × List Node) TableFault
 route_in count faulty clients members =
-    both_of (needed_key (faulty_index faulty) (codes "from") members) (needed_key (list_of (place count clients)) (codes "to") members)
+    pair_of (needed_key (faulty_index faulty) (codes "from") members) (needed_key (list_of (node count clients)) (codes "to") members)
 
 -- the operation that installs code, and the one that calls a procedure
 abbrev pub install_from : Result (List ℕ) TableFault → Result (List ℕ) TableFault
@@ -87,7 +87,7 @@ call_from (Ok r) = Ok (2 ∷ to_be_bytes w32 r.0 ++ arguments_of r.1)
 call_from (Err fault) = Err fault
 
 abbrev pub call_in : Members → Result (List ℕ) TableFault
-call_in members = call_from (both_of (needed_key (up_to 4294967295) (codes "call") members) (optional_key hex_bytes (codes "args") members))
+call_in members = call_from (pair_of (needed_key (up_to 4294967295) (codes "call") members) (optional_key hex_bytes (codes "args") members))
 
 -- the request that a vote names: none is the null request
 abbrev pub null_from : Result (Unit {0}) TableFault → Result (Option (ClientId × ℕ)) TableFault
@@ -103,17 +103,17 @@ named_from (Err fault) = Err fault
 
 abbrev pub named_in : List Client → Members → Result (Option (ClientId × ℕ)) TableFault
 named_in clients members =
-    named_from (both_of (needed_key (client_name clients) (codes "client") members) (needed_key (up_to 9223372036854775807) (codes "time") members))
+    named_from (pair_of (needed_key (client_name clients) (codes "client") members) (needed_key (up_to 9223372036854775807) (codes "time") members))
 
 -- A request: it installs code where there is such a key, else it calls a procedure.
-abbrev pub order_from : Result (List ℕ × (ClientId × Option (List Place))) TableFault → Result Order TableFault
+abbrev pub order_from : Result (List ℕ × (ClientId × Option (List Node))) TableFault → Result Order TableFault
 order_from (Ok r) = Ok (record { client = r.1.0; op = r.0; to = r.1.1 })
 order_from (Err fault) = Err fault
 
 abbrev pub order_with : Result (List ℕ) TableFault → List (List ℕ) → ℕ → List Client → Members → Result Order TableFault
 order_with op keys count clients members =
     order_from (only_keys
-    (both_of op (both_of (needed_key (client_name clients) (codes "client") members) (optional_key (list_of (place count clients)) (codes "to") members)))
+    (pair_of op (pair_of (needed_key (client_name clients) (codes "client") members) (optional_key (list_of (node count clients)) (codes "to") members)))
     keys members)
 
 abbrev pub order_in : ℕ → List Client → Members → Result Order TableFault
@@ -126,7 +126,7 @@ order_in count clients members =
 
 -- who signs a vote, for whom it is queued, and its kind, view and number
 abbrev pub Ballot : Type 0
-Ballot = (ReplicaId × List Place) × (VoteKind × (ℕ × SeqNo))
+Ballot = (ReplicaId × List Node) × (VoteKind × (ℕ × SeqNo))
 
 abbrev pub forgery_of : Option (ClientId × ℕ) → Ballot → Forgery
 forgery_of request b = record {
@@ -143,11 +143,11 @@ forgery_from (Ok r) = Ok (forgery_of r.0 r.1)
 forgery_from (Err fault) = Err fault
 
 abbrev pub ballot_in : ℕ → List ReplicaId → List Client → Members → Result Ballot TableFault
-ballot_in count faulty clients members = both_of (route_in count faulty clients members) (vote_in members)
+ballot_in count faulty clients members = pair_of (route_in count faulty clients members) (vote_in members)
 
 abbrev pub forgery_with : Result (Option (ClientId × ℕ)) TableFault → List (List ℕ) → ℕ → List ReplicaId → List Client → Members → Result Forgery TableFault
 forgery_with request keys count faulty clients members =
-    forgery_from (only_keys (both_of request (ballot_in count faulty clients members)) keys members)
+    forgery_from (only_keys (pair_of request (ballot_in count faulty clients members)) keys members)
 
 -- a vote for the null request where there is such a key, else for a client's
 abbrev pub forgery_in : ℕ → List ReplicaId → List Client → Members → Result Forgery TableFault
@@ -164,8 +164,8 @@ forgery_in count faulty clients members =
 
 -- what a reading says, put into a step
 abbrev pub as_step : {A : Type 0} → (A → Step) → Result A TableFault → Result Step TableFault
-as_step made (Ok x) = Ok (made x)
-as_step made (Err fault) = Err fault
+as_step step_of (Ok x) = Ok (step_of x)
+as_step step_of (Err fault) = Err fault
 
 -- a step of no keys but its name
 abbrev pub bare : Step → Members → Result Step TableFault

@@ -8,7 +8,7 @@ ghost use Rattle.toml.specs.Data.{Data, get_member};
 ghost use Rattle.toml.specs.View.{table_view, view};
 ghost use Rattle.script_text.specs.declared.fault.TableFault.{TableFault};
 ghost use Rattle.script_text.specs.Faults.{IsUnlessMemory};
-ghost use Rattle.script_text.specs.Forms.{both_of, has_only, needed_key, only_keys, optional_key};
+ghost use Rattle.script_text.specs.Forms.{pair_of, has_only, needed_key, only_keys, optional_key};
 
 use crate::fault::TableFault;
 use std::alloc::Global;
@@ -64,11 +64,11 @@ pub(crate) fn optional<F: Form>(
 }
 
 /// Two readings as one: of two faults the lesser.
-pub(crate) fn both<A: Drop, B: Drop>(
+pub(crate) fn pair<A: Drop, B: Drop>(
     first: Result<A, TableFault>,
     second: Result<B, TableFault>,
 ) -> Result<(A, B), TableFault>
-    ensures { (a : Result A TableFault) (b : Result B TableFault) → IsUnlessMemory first a → IsUnlessMemory second b → IsUnlessMemory result (both_of a b) }
+    ensures { (a : Result A TableFault) (b : Result B TableFault) → IsUnlessMemory first a → IsUnlessMemory second b → IsUnlessMemory result (pair_of a b) }
 {
     match (first, second) {
         (Ok(first), Ok(second)) => Ok((first, second)),

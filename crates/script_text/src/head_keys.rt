@@ -8,7 +8,7 @@ ghost use Rattle.script_text.specs.Forms.{needed_head};
 ghost use Rattle.script_text.specs.Heads.{byte_of, count_of_faulty, given_or, head_from, head_in, head_of, if_legal, optional_faulty, optional_heights, keyless, keyless_configuration, listed_clients, named_count, no_key, optional_head, replica_count};
 
 use crate::fault::TableFault;
-use crate::form::{Form, both, needed, optional, value_at, with_only};
+use crate::form::{Form, needed, optional, pair, value_at, with_only};
 use crate::head::Head;
 use crate::script::{Client, Secret};
 use crate::values::{
@@ -61,9 +61,9 @@ struct Optional {
 pub(crate) fn read_head(alloc: Global, table: &Table) -> Result<Head, TableFault>
     ensures { IsUnlessMemory result (head_in (table_view table.now)) }
 {
-    let named = both(
+    let named = pair(
         read_needed(alloc, table),
-        both(read_optional(alloc, table), read_lists(alloc, table)),
+        pair(read_optional(alloc, table), read_lists(alloc, table)),
     );
     let (needed, (optional, clients)) = with_only(named, table, &HEAD_KEYS)?;
     head_from(alloc, needed, optional, clients)
@@ -145,9 +145,9 @@ fn named_count(table: &Table) -> Option<u8>
 fn read_needed(alloc: Global, table: &Table) -> Result<Needed, TableFault>
     ensures { IsUnlessMemory result (needed_head (table_view table.now)) }
 {
-    let (f, (k, secret)) = both(
+    let (f, (k, secret)) = pair(
         needed(alloc, table, "f", &Integer),
-        both(
+        pair(
             needed(alloc, table, "k", &Integer),
             needed(alloc, table, "secret", &SecretDigits),
         ),
@@ -158,9 +158,9 @@ fn read_needed(alloc: Global, table: &Table) -> Result<Needed, TableFault>
 fn read_optional(alloc: Global, table: &Table) -> Result<Optional, TableFault>
     ensures { IsUnlessMemory result (optional_head (table_view table.now)) }
 {
-    let (heights, (client_height, faulty)) = both(
+    let (heights, (client_height, faulty)) = pair(
         read_heights(alloc, table),
-        both(
+        pair(
             optional(alloc, table, "client_height", &KeyHeight),
             read_faulty(alloc, table),
         ),
@@ -207,7 +207,7 @@ fn count_of_faulty(table: &Table) -> u8
 fn read_lists(alloc: Global, table: &Table) -> Result<Option<Sequence<Client>>, TableFault>
     ensures { IsUnlessMemory result (listed_clients (table_view table.now)) }
 {
-    let (clients, _) = both(
+    let (clients, _) = pair(
         optional(alloc, table, "client", &ListOf(ClientTable)),
         optional(alloc, table, "step", &ListOf(AnyTable)),
     )?;
@@ -227,7 +227,7 @@ impl Form for ClientTable {
 
     fn read(&self, alloc: Global, value: &Value) -> Result<Client, TableFault> {
         let table = table_of(value)?;
-        let named = both(
+        let named = pair(
             needed(alloc, table, "id", &Word),
             needed(alloc, table, "tenant", &Word),
         );

@@ -1,5 +1,5 @@
 //! The text of a script: a TOML document of a group of replicas, its clients, and steps. Every step is
-//! judged before the first one runs.
+//! checked before the first one runs.
 //!
 //!     let script = read_script(alloc, &bytes)?;
 //!     for step in script.steps.as_slice() {
@@ -22,5 +22,5 @@ pub use fault::{ScriptFault, ScriptKind};
 pub use head::Head;
 pub use kind::Kind;
 pub use script::{
-    Client, Filter, Forgery, Number, Operation, Order, Place, Script, ScriptBytes, Secret, Step,
+    Client, Filter, Forgery, Node, Number, Operation, Order, Script, ScriptBytes, Secret, Step,
 };

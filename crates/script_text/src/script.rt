@@ -29,7 +29,7 @@ pub struct Client {
 
 /// A replica or a client.
 #[derive(Clone, Copy, Debug, PartialEq, Eq)]
-pub enum Place {
+pub enum Node {
     Replica(ReplicaId),
     Client(ClientId),
 }
@@ -37,8 +37,8 @@ pub enum Place {
 /// Which messages of the queue are meant. A list that is left out matches every message.
 #[derive(Drop)]
 pub struct Filter {
-    pub from: Option<Sequence<Place>>,
-    pub to: Option<Sequence<Place>>,
+    pub from: Option<Sequence<Node>>,
+    pub to: Option<Sequence<Node>>,
     pub kinds: Option<Sequence<Kind>>,
 }
 
@@ -46,7 +46,7 @@ pub struct Filter {
 #[derive(Drop)]
 pub struct Forgery {
     pub from: ReplicaId,
-    pub to: Sequence<Place>,
+    pub to: Sequence<Node>,
     pub kind: VoteKind,
     pub view: View,
     pub number: Number,
@@ -160,7 +160,7 @@ pub struct Order {
     pub client: ClientId,
     pub op: Operation,
     /// Whom it is queued for; all replicas where it is left out.
-    pub to: Option<Sequence<Place>>,
+    pub to: Option<Sequence<Node>>,
 }
 
 /// A step of a script.
@@ -180,7 +180,7 @@ pub enum Step {
     Forge(Forgery),
     /// Queues these bytes, which have no sender or kind.
     Raw {
-        to: Sequence<Place>,
+        to: Sequence<Node>,
         bytes: ScriptBytes,
     },
     /// Prints where each correct replica stands.

@@ -9,11 +9,11 @@ ghost use Rattle.script_text.specs.Faults.{IsUnlessMemory};
 ghost use Rattle.script_text.specs.Steps.{Ballot as BallotSaid, ballot_in, bare, call_in, filter_in, forgery_from, forgery_in, forgery_of, forgery_with, install_in, named_in, null_in, order_in, order_with, raw_in, route_in, state_in, step, step_named, timeout_in, vote_in};
 
 use crate::fault::TableFault;
-use crate::form::{both, needed, optional, value_at, with_only};
+use crate::form::{needed, optional, pair, value_at, with_only};
 use crate::head::Head;
-use crate::script::{Client, Filter, Forgery, Number, Operation, Order, Place, Step};
+use crate::script::{Client, Filter, Forgery, Node, Number, Operation, Order, Step};
 use crate::values::{
-    ClientName, FaultyIndex, HexBytes, KindName, ListOf, PlaceName, ReplicaIndex, SequenceNumber,
+    ClientName, FaultyIndex, HexBytes, KindName, ListOf, NodeName, ReplicaIndex, SequenceNumber,
     True, UpTo, VoteName, Word, table_of,
 };
 use host_types::{Bytes, ClientId, ReplicaId, View};
@@ -52,7 +52,7 @@ const INSTALL: u8 = 1;
 const CALL: u8 = 2;
 
 /// Who signs a vote, for whom it is queued, and its kind, view and number.
-type Ballot = ((ReplicaId, Sequence<Place>), (VoteKind, (u32, Number)));
+type Ballot = ((ReplicaId, Sequence<Node>), (VoteKind, (u32, Number)));
 
 /// What the values of a step may name.
 #[derive(Clone, Copy)]
@@ -143,15 +143,15 @@ fn read_order(
     let client = ClientName {
         clients: names.clients,
     };
-    let places = ListOf(PlaceName {
+    let nodes = ListOf(NodeName {
         count: names.count,
         clients: names.clients,
     });
-    let named = both(
+    let named = pair(
         op,
-        both(
+        pair(
             needed(alloc, table, "client", &client),
-            optional(alloc, table, "to", &places),
+            optional(alloc, table, "to", &nodes),
         ),
     );
     let (op, (client, to)) = with_only(named, table, keys)?;
@@ -173,7 +173,7 @@ fn read_install(alloc: Global, table: &Table) -> Result<Operation, TableFault>
 fn read_call(alloc: Global, table: &Table) -> Result<Operation, TableFault>
     ensures { IsUnlessMemory result (call_in (table_view table.now)) }
 {
-    let (procedure, arguments) = both(
+    let (procedure, arguments) = pair(
         needed(alloc, table, "call", &Word),
         optional(alloc, table, "args", &HexBytes),
     )?;
@@ -190,14 +190,14 @@ fn read_call(alloc: Global, table: &Table) -> Result<Operation, TableFault>
 fn read_filter(alloc: Global, names: &Names<'_>, table: &Table) -> Result<Filter, TableFault>
     ensures { IsUnlessMemory result (filter_in names.now.count names.now.clients.now (table_view table.now)) }
 {
-    let places = ListOf(PlaceName {
+    let nodes = ListOf(NodeName {
         count: names.count,
         clients: names.clients,
     });
-    let named = both(
-        optional(alloc, table, "from", &places),
-        both(
-            optional(alloc, table, "to", &places),
+    let named = pair(
+        optional(alloc, table, "from", &nodes),
+        pair(
+            optional(alloc, table, "to", &nodes),
             optional(alloc, table, "kinds", &ListOf(KindName)),
         ),
     );
@@ -216,12 +216,12 @@ fn read_timeout(alloc: Global, names: &Names<'_>, table: &Table) -> Result<Step,
 fn read_raw(alloc: Global, names: &Names<'_>, table: &Table) -> Result<Step, TableFault>
     ensures { IsUnlessMemory result (raw_in names.now.count names.now.clients.now (table_view table.now)) }
 {
-    let places = ListOf(PlaceName {
+    let nodes = ListOf(NodeName {
         count: names.count,
         clients: names.clients,
     });
-    let named = both(
-        needed(alloc, table, "to", &places),
+    let named = pair(
+        needed(alloc, table, "to", &nodes),
         needed(alloc, table, "bytes", &HexBytes),
     );
     let (to, bytes) = with_only(named, table, &RAW_KEYS)?;
@@ -259,7 +259,7 @@ fn read_vote_for(
 ) -> Result<Forgery, TableFault>
     ensures { (r : Result (Option (ClientId × ℕ)) TableFault) → IsUnlessMemory request r → IsUnlessMemory result (forgery_with r (map (λ k. k.now) keys.now) names.now.count names.now.faulty.now names.now.clients.now (table_view table.now)) }
 {
-    let named = both(request, read_ballot(alloc, names, table));
+    let named = pair(request, read_ballot(alloc, names, table));
     as_forgery(with_only(named, table, keys))
 }
 
@@ -293,7 +293,7 @@ fn forgery_of(request: Option<(ClientId, u64)>, ballot: Ballot) -> Forgery
 fn read_ballot(alloc: Global, names: &Names<'_>, table: &Table) -> Result<Ballot, TableFault>
     ensures { IsUnlessMemory result (ballot_in names.now.count names.now.faulty.now names.now.clients.now (table_view table.now)) }
 {
-    both(read_route(alloc, names, table), read_vote(alloc, table))
+    pair(read_route(alloc, names, table), read_vote(alloc, table))
 }
 
 /// The null request.
@@ -315,7 +315,7 @@ fn read_named(
     let client = ClientName {
         clients: names.clients,
     };
-    let request = both(
+    let request = pair(
         needed(alloc, table, "client", &client),
         needed(alloc, table, "time", &UpTo(MAX_TIME)),
     )?;
@@ -327,19 +327,19 @@ fn read_route(
     alloc: Global,
     names: &Names<'_>,
     table: &Table,
-) -> Result<(ReplicaId, Sequence<Place>), TableFault>
+) -> Result<(ReplicaId, Sequence<Node>), TableFault>
     ensures { IsUnlessMemory result (route_in names.now.count names.now.faulty.now names.now.clients.now (table_view table.now)) }
 {
-    let places = ListOf(PlaceName {
+    let nodes = ListOf(NodeName {
         count: names.count,
         clients: names.clients,
     });
     let signer = FaultyIndex {
         faulty: names.faulty,
     };
-    both(
+    pair(
         needed(alloc, table, "from", &signer),
-        needed(alloc, table, "to", &places),
+        needed(alloc, table, "to", &nodes),
     )
 }
 
@@ -347,9 +347,9 @@ fn read_route(
 fn read_vote(alloc: Global, table: &Table) -> Result<(VoteKind, (u32, Number)), TableFault>
     ensures { IsUnlessMemory result (vote_in (table_view table.now)) }
 {
-    both(
+    pair(
         needed(alloc, table, "kind", &VoteName),
-        both(
+        pair(
             needed(alloc, table, "view", &Word),
             needed(alloc, table, "number", &SequenceNumber),
         ),

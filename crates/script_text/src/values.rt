@@ -11,7 +11,7 @@ ghost use Rattle.script_text.specs.Faults.{IsUnlessMemory};
 use crate::fault::TableFault;
 use crate::form::Form;
 use crate::kind::Kind;
-use crate::script::{Client, Number, Place, ScriptBytes, Secret};
+use crate::script::{Client, Node, Number, ScriptBytes, Secret};
 use hex::{FromHex, FromHexError};
 use host_types::{Bytes, ClientId, ReplicaId, SeqNo};
 use lms_tree::Height;
@@ -347,29 +347,29 @@ impl<'a> Form for ClientName<'a> {
 
 /// A replica or a client of the script.
 #[derive(Clone, Copy)]
-pub(crate) struct PlaceName<'a> {
+pub(crate) struct NodeName<'a> {
     /// How many replicas there are.
     pub count: u8,
     pub clients: &'a [Client],
 }
 
-impl<'a> Form for PlaceName<'a> {
-    ghost use Rattle.script_text.specs.Forms.{place};
+impl<'a> Form for NodeName<'a> {
+    ghost use Rattle.script_text.specs.Forms.{node};
 
-    ghost reads = { λ f d. place f.count f.clients.now d };
+    ghost reads = { λ f d. node f.count f.clients.now d };
 
-    type Says = Place;
+    type Says = Node;
 
-    fn read(&self, alloc: Global, value: &Value) -> Result<Place, TableFault> {
+    fn read(&self, alloc: Global, value: &Value) -> Result<Node, TableFault> {
         let replica = ReplicaIndex { count: self.count };
         match replica.read(alloc, value) {
-            Ok(id) => Ok(Place::Replica(id)),
+            Ok(id) => Ok(Node::Replica(id)),
             Err(TableFault::Memory) => Err(TableFault::Memory),
             Err(_) => {
                 let client = ClientName {
                     clients: self.clients,
                 };
-                Ok(Place::Client(client.read(alloc, value)?))
+                Ok(Node::Client(client.read(alloc, value)?))
             }
         }
     }

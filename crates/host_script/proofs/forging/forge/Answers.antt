@@ -1,7 +1,7 @@
 use Rattle.std.proofs.Common.{Err, slice_set, sym, ap, ◌∙◌}
 use Rattle.std.specs.List.{position}
 use Rattle.host_script.specs.Stages.{is_forger}
-use Rattle.host_script.proofs.Parties.{forges, forges_none, forges_spent}
+use Rattle.host_script.proofs.Parties.{forges, forges_none, forges_exhausted}
 use Rattle.host_script.proofs.forging.forge.Goals as goal
 
 pub returns-in_default : goal.returns-in_default
@@ -18,6 +18,6 @@ returns-in-Ok c =
 pub returns-in-Err-Exhausted : goal.returns-in-Err-Exhausted
 returns-in-Err-Exhausted c =
     let gone = c.sign.ensures.exhausted (c.in-Err-Exhausted.is ∙ ap Err c.in-Err-Exhausted.field-0-is) in
-    forges_spent c.args.forgers.now.items _ c.args.forgery.now c.args.digest.0 c.in-Some.index c.index_mut.result.now
+    forges_exhausted c.args.forgers.now.items _ c.args.forgery.now c.args.digest.0 c.in-Some.index c.index_mut.result.now
     (sym (ap (position (is_forger c.args.forgery.now.from)) c.deref.ensures.value) ∙ sym c.index_of.ensures ∙ c.in-Some.is) c.index_mut.ensures.value
     gone.0 (ap (slice_set c.args.forgers.now.items c.in-Some.index) gone.1)

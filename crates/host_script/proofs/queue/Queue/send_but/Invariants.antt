@@ -3,5 +3,5 @@ use Rattle.host_script.specs.Letters.{copies}
 use Rattle.host_script.specs.Stages.{all_but}
 use Rattle.host_script.proofs.queue.Queue.send_but.Given as goal
 
-abbrev pub invariant-loop-place : goal.invariant-loop-place
-invariant-loop-place l = l.self ≡ l.fn.self ++ copies l.letter (all_but l.one (take l.place-index l.to))
+abbrev pub invariant-loop-node : goal.invariant-loop-node
+invariant-loop-node l = l.self ≡ l.fn.self ++ copies l.letter (all_but l.one (take l.node-index l.to))

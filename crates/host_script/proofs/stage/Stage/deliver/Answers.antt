@@ -4,7 +4,7 @@ use Rattle.std.specs.String.{string_bytes}
 use Rattle.std.specs.Io.KnownBytes.{Appends}
 use Rattle.host_script.specs.Parts.{DeliversNext, HasMore, ahead}
 use Rattle.host_script.specs.Writing.{AppendsFront}
-use Rattle.host_script.proofs.Delivering.{all_delivered, goes_on, too_many, write_ended}
+use Rattle.host_script.proofs.Delivering.{all_delivered, continues, too_many, write_ended}
 use Rattle.host_script.proofs.stage.Stage.deliver.Goals as goal
 
 pub returns-in_default : goal.returns-in_default
@@ -21,7 +21,7 @@ returns-in-Err g c =
 pub loop-preserved : goal.loop-preserved
 loop-preserved g c =
     let one = subst (λ o. DeliversNext c.args.filter.now (ahead c.loop.others c.loop.self) (option_map string_bytes o) c.deliver_next.new.others c.deliver_next.new.self) c.in-Some.is c.in_ok-text.ensures in
-    goes_on c.args.filter.now c.loop.counter c.args.self.now c.loop.self c.deliver_next.new.self _ _ _ c.loop.others c.deliver_next.new.others (string_bytes c.in-Some.text) c.loop.invariant one
+    continues c.args.filter.now c.loop.counter c.args.self.now c.loop.self c.deliver_next.new.self _ _ _ c.loop.others c.deliver_next.new.others (string_bytes c.in-Some.text) c.loop.invariant one
     (subst (Appends (g.O.Write.contents c.loop.writer) (g.O.Write.contents c.write_text.new.writer)) c.deref.ensures c.in_default-write_text.ensures.whole)
 
 pub returns-then-branch : goal.returns-then-branch
