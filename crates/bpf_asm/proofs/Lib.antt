@@ -1,5 +1,5 @@
 pub mod Stepping
-pub mod Places
+pub mod Positions
 pub mod Numerals
 pub mod Statements
 pub mod Registers

@@ -30,12 +30,12 @@ use Rattle.bpf_asm.specs.declared.form.Form.{Form}
 use Rattle.bpf_asm.specs.declared.form.Form.TheVariants as form
 use Rattle.bpf_asm.specs.Text.{trim, ends_word, first_word, behind_word, body_of, label_name, is_name, operand_texts}
 use Rattle.bpf_asm.specs.Words.{word_of, form_of_word}
-use Rattle.bpf_asm.specs.Operands.{register, register_text, number_text, unsigned, is_sign, within_half, place, place_within, offset_of_text, wanted, both, ◌>>=◌, ◌>>?◌}
-use Rattle.bpf_asm.specs.Printing.{with_sign, source_text, place_text, behind_word_text}
-use Rattle.bpf_asm.specs.declared.operand.Place.{Place}
+use Rattle.bpf_asm.specs.Operands.{register, register_text, number_text, unsigned, is_sign, within_half, memory_operand, memory_operand_within, offset_of_text, wanted, pair, ◌>>=◌, ◌>>?◌}
+use Rattle.bpf_asm.specs.Printing.{with_sign, source_text, memory_operand_text, behind_word_text}
+use Rattle.bpf_asm.specs.declared.operand.MemoryOperand.{MemoryOperand}
 use Rattle.bpf_asm.specs.declared.line.Statement.TheVariants as says
 use Rattle.bpf_asm.specs.Lines.{line_statement, body_statement, label_or, instruction, statement_of}
-use Rattle.bpf_asm.proofs.Statements.{ascii_line, instruction_some, place_in}
+use Rattle.bpf_asm.proofs.Statements.{ascii_line, instruction_some, memory_operand_in}
 use Rattle.bpf_asm.proofs.Plain.{plain, line_byte, and_l, and_r, both_true, all_more, all_so, plain_line, plain_blank, plain_colons, line_semicolon, line_ascii, stops_at, nowhere, front_of, back_of, not_yes, Ends, ends_line, trim_same, trim_plain, last_at, AreOperands, behind_read, behind_line, behind_stops, some_length}
 use Rattle.bpf_asm.proofs.Numbers.{register_read, decimal_begins, unsigned_read, magnitude}
 
@@ -157,8 +157,8 @@ words_wordy form.Exit = refl
 wordy_plain : (b : ℕ) → wordy b ≡ true → plain b ≡ true
 wordy_plain b h = and_l (plain b) (not (ends_word b)) h
 
-wordy_goes_on : (b : ℕ) → wordy b ≡ true → ends_word b ≡ false
-wordy_goes_on b h = not_yes (ends_word b) (and_r (plain b) (not (ends_word b)) h)
+wordy_continues : (b : ℕ) → wordy b ≡ true → ends_word b ≡ false
+wordy_continues b h = not_yes (ends_word b) (and_r (plain b) (not (ends_word b)) h)
 
 -- A line of a word and operands.
 no_label : (t : List ℕ) → Ends t → label_name t ≡ None
@@ -188,7 +188,7 @@ line_read (c ∷ cs) ops f h k g =
     ap (λ (n : ℕ). take n t) (nowhere line_byte (λ b. b == 59) line_semicolon t tl) ∙ take_all (length t) t (omega arith) in
     let same : trim t ≡ t = trim_same c (cs ++ tail) (plain_blank c (and_l (plain c) (list_all plain cs) wp)) ends in
     let body : body_of t ≡ t = ap trim whole ∙ same in
-    let at : position_or_len ends_word t ≡ length w = stops_at wordy ends_word wordy_goes_on w tail h (behind_stops ops) in
+    let at : position_or_len ends_word t ≡ length w = stops_at wordy ends_word wordy_continues w tail h (behind_stops ops) in
     let word : first_word t ≡ w = ap (λ (n : ℕ). take n t) at ∙ front_of w tail in
     let rest : behind_word t ≡ trim tail = ap (λ (s : List ℕ). trim (drop (length s) t)) word ∙ ap trim (back_of w tail) in
     ascii_line t (all_so line_byte (λ b. nat_le b 127) line_ascii t tl)
@@ -268,8 +268,8 @@ register_is_text r = (register_some r, register_plain r)
 inside_plain : (r : Reg) (z : ℤ) → magnitude z < 2 ^ 31 → list_all plain (register_text r ++ with_sign z) ≡ true
 inside_plain r z s = all_more plain (register_text r) (with_sign z) (register_plain r) (sign_text z s).1
 
-pub place_is_text : (r : Reg) (z : ℤ) → magnitude z < 2 ^ 31 → is_text (place_text r z)
-place_is_text r z s =
+pub memory_operand_is_text : (r : Reg) (z : ℤ) → magnitude z < 2 ^ 31 → is_text (memory_operand_text r z)
+memory_operand_is_text r z s =
     (omega arith, all_more plain (register_text r ++ with_sign z) (93 ∷ []) (inside_plain r z s) refl)
 
 abbrev pub SourceFits : Source → Type 0
@@ -280,7 +280,7 @@ pub source_is_text : (s : Source) → (SourceFits s) → is_text (source_text s)
 source_is_text (source.Imm v) h = signed_text v h
 source_is_text (source.Reg r) h = register_is_text r
 
--- A place.
+-- A memory operand.
 offset_read : (z : ℤ) → magnitude z < 2 ^ 15 → offset_of_text (with_sign z) ≡ Ok z
 offset_read (pos n) s =
     let b : n < 2 ^ 64 = omega arith in
@@ -299,21 +299,21 @@ sign_stops : (z : ℤ) → position_or_len is_sign (with_sign z) ≡ 0
 sign_stops (pos n) = refl
 sign_stops (negsuc n) = refl
 
-pub place_read : (r : Reg) (z : ℤ) → magnitude z < 2 ^ 15 → place (place_text r z) ≡ Ok (record { base = r; offset = z })
-place_read r z s =
+pub memory_operand_read : (r : Reg) (z : ℤ) → magnitude z < 2 ^ 15 → memory_operand (memory_operand_text r z) ≡ Ok (record { base = r; offset = z })
+memory_operand_read r z s =
     let reg : List ℕ = register_text r in
     let inside : List ℕ = register_text r ++ with_sign z in
-    let t : List ℕ = place_text r z in
+    let t : List ℕ = memory_operand_text r z in
     let n : length t - 1 - 1 ≡ length inside = omega (arith, length-append {A = ℕ}) in
     let cut : take (length t - 1 - 1) (drop 1 t) ≡ inside = ap (λ (k : ℕ). take k (inside ++ 93 ∷ [])) n ∙ front_of inside (93 ∷ []) in
     let at : position_or_len is_sign inside ≡ length reg =
     stops_at regy is_sign (λ b h. not_yes (is_sign b) (and_r (plain b) (not (is_sign b)) h)) reg (with_sign z) (number_regy r.number r.in_range) (sign_stops z) in
-    place_in t (omega (arith, length-append {A = ℕ})) refl (last_at (91 ∷ inside) 93)
-    ∙ ap (λ (x : List ℕ). place_within (trim x)) cut
-    ∙ ap place_within (trim_plain inside (inside_plain r z (omega arith)))
-    ∙ ap (λ (k : ℕ). both (register (trim (take k inside))) (offset_of_text (drop k inside)) >>= (λ p. let q : Place = record { base = p.0; offset = p.1 } in Ok q)) at
-    ∙ ap (λ (x : List ℕ). both (register (trim x)) (offset_of_text (drop (length reg) inside)) >>= (λ p. let q : Place = record { base = p.0; offset = p.1 } in Ok q)) (front_of reg (with_sign z))
-    ∙ ap (λ (x : List ℕ). both (register (trim reg)) (offset_of_text x) >>= (λ p. let q : Place = record { base = p.0; offset = p.1 } in Ok q)) (back_of reg (with_sign z))
-    ∙ ap (λ (x : List ℕ). both (register x) (offset_of_text (with_sign z)) >>= (λ p. let q : Place = record { base = p.0; offset = p.1 } in Ok q)) (trim_plain reg (register_plain r))
-    ∙ ap (λ (x : Result Reg AsmKind). both x (offset_of_text (with_sign z)) >>= (λ p. let q : Place = record { base = p.0; offset = p.1 } in Ok q)) (register_read r)
-    ∙ ap (λ (x : Result ℤ AsmKind). both (Ok r) x >>= (λ p. let q : Place = record { base = p.0; offset = p.1 } in Ok q)) (offset_read z s)
+    memory_operand_in t (omega (arith, length-append {A = ℕ})) refl (last_at (91 ∷ inside) 93)
+    ∙ ap (λ (x : List ℕ). memory_operand_within (trim x)) cut
+    ∙ ap memory_operand_within (trim_plain inside (inside_plain r z (omega arith)))
+    ∙ ap (λ (k : ℕ). pair (register (trim (take k inside))) (offset_of_text (drop k inside)) >>= (λ p. let q : MemoryOperand = record { base = p.0; offset = p.1 } in Ok q)) at
+    ∙ ap (λ (x : List ℕ). pair (register (trim x)) (offset_of_text (drop (length reg) inside)) >>= (λ p. let q : MemoryOperand = record { base = p.0; offset = p.1 } in Ok q)) (front_of reg (with_sign z))
+    ∙ ap (λ (x : List ℕ). pair (register (trim reg)) (offset_of_text x) >>= (λ p. let q : MemoryOperand = record { base = p.0; offset = p.1 } in Ok q)) (back_of reg (with_sign z))
+    ∙ ap (λ (x : List ℕ). pair (register x) (offset_of_text (with_sign z)) >>= (λ p. let q : MemoryOperand = record { base = p.0; offset = p.1 } in Ok q)) (trim_plain reg (register_plain r))
+    ∙ ap (λ (x : Result Reg AsmKind). pair x (offset_of_text (with_sign z)) >>= (λ p. let q : MemoryOperand = record { base = p.0; offset = p.1 } in Ok q)) (register_read r)
+    ∙ ap (λ (x : Result ℤ AsmKind). pair (Ok r) x >>= (λ p. let q : MemoryOperand = record { base = p.0; offset = p.1 } in Ok q)) (offset_read z s)

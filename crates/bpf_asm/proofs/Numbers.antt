@@ -17,7 +17,7 @@ use Rattle.bpf_asm.specs.declared.fault.AsmKind.{AsmKind}
 use Rattle.bpf_asm.specs.declared.fault.AsmKind.TheVariants.{Operand, Number}
 use Rattle.bpf_asm.specs.declared.operand.Target.TheVariants as target
 use Rattle.bpf_asm.specs.Text.{is_digit}
-use Rattle.bpf_asm.specs.Operands.{register, register_text, number_text, numbered, numeral, unsigned, signed, begins_number, is_sign, immediate, constant, immediate_of, constant_of, within_half, target_of, second_operand, ◌>>=◌, ◌>>?◌}
+use Rattle.bpf_asm.specs.Operands.{register, register_text, number_text, numbered, numeral, unsigned, signed, begins_number, is_sign, immediate, wide_immediate, immediate_of, wide_immediate_of, within_half, target_of, second_operand, ◌>>=◌, ◌>>?◌}
 use Rattle.bpf_asm.specs.Printing.{with_sign}
 use Rattle.bpf_asm.proofs.Numerals.{numeral_is}
 use Rattle.bpf_asm.proofs.Registers.{same_reg}
@@ -105,10 +105,10 @@ signed_read n s =
     ∙ ap (option_map (λ m. (false, m))) (unsigned_read n s)
 
 -- Numbers.
-pub constant_read : (n : ℕ) → n < 2 ^ 64 → constant (decimal n) ≡ Ok n
-constant_read n s =
-    ap (λ (b : Bool). cond b (ok_or (signed (decimal n) >>? constant_of) Number) (Err Operand)) (decimal_begins n s)
-    ∙ ap (λ (o : Option (Bool × ℕ)). ok_or (o >>? constant_of) Number) (signed_read n s)
+pub wide_immediate_read : (n : ℕ) → n < 2 ^ 64 → wide_immediate (decimal n) ≡ Ok n
+wide_immediate_read n s =
+    ap (λ (b : Bool). cond b (ok_or (signed (decimal n) >>? wide_immediate_of) Number) (Err Operand)) (decimal_begins n s)
+    ∙ ap (λ (o : Option (Bool × ℕ)). ok_or (o >>? wide_immediate_of) Number) (signed_read n s)
 
 immediate_plus : (n : ℕ) → n < 2 ^ 31 → immediate_of (false, n) ≡ Some (pos n)
 immediate_plus n s =

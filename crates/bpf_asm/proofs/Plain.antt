@@ -6,7 +6,7 @@ use Rattle.std.proofs.lemmas.Grind.{common_steps}
 use borrow.Author.Tests.{leb-true, le-true, apart_eqb}
 use Rattle.bpf_asm.specs.Text.{trim, trim_start, is_blank, pieces, operand_texts, ends_word}
 use Rattle.bpf_asm.specs.Printing.{behind_first, behind_word_text}
-use Rattle.bpf_asm.proofs.Places.{part_is, split_whole}
+use Rattle.bpf_asm.proofs.Positions.{part_is, split_whole}
 
 abbrev pub plain : ℕ → Bool
 plain b = nat_le 43 b && (nat_le b 122 && (not (b == 44) && (not (b == 58) && not (b == 59))))

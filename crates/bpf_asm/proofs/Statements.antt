@@ -12,7 +12,7 @@ use Rattle.bpf_asm.specs.declared.operand.Target.{Target}
 use Rattle.bpf_asm.specs.declared.operand.Target.TheVariants as target
 use Rattle.bpf_asm.specs.Text.{trim, body_of, first_word, behind_word, operand_texts, is_letter, is_name}
 use Rattle.bpf_asm.specs.Words.{form_of_word}
-use Rattle.bpf_asm.specs.Operands.{◌>>=◌, ◌>>?◌, numeral, within_half, target_of, is_sign, place, place_within}
+use Rattle.bpf_asm.specs.Operands.{◌>>=◌, ◌>>?◌, numeral, within_half, target_of, is_sign, memory_operand, memory_operand_within}
 use Rattle.bpf_asm.specs.Lines.{line_statement, body_statement, instruction, statement_of}
 use Rattle.bpf_asm.specs.Rounds.{IsNear}
 
@@ -34,12 +34,12 @@ three_true true true c ha hb hc = sym hc
 three_true true false c ha hb hc = cc
 three_true false b c ha hb hc = cc
 
-pub place_in : (t : List ℕ) → 2 ≤ length t → get_or t 0 0 ≡ 91 → get_or t (length t - 1) 0 ≡ 93 → place t ≡ place_within (trim (take (length t - 1 - 1) (drop 1 t)))
-place_in t two left right =
+pub memory_operand_in : (t : List ℕ) → 2 ≤ length t → get_or t 0 0 ≡ 91 → get_or t (length t - 1) 0 ≡ 93 → memory_operand t ≡ memory_operand_within (trim (take (length t - 1 - 1) (drop 1 t)))
+memory_operand_in t two left right =
     let n : length t - 2 ≡ length t - 1 - 1 = omega arith in
-    ap (λ (b : Bool). cond b (place_within (trim (take (length t - 2) (drop 1 t)))) (Err Operand))
+    ap (λ (b : Bool). cond b (memory_operand_within (trim (take (length t - 2) (drop 1 t)))) (Err Operand))
     (three_true (nat_le 2 (length t)) (get_or t 0 0 == 91) (get_or t (length t - 1) 0 == 93) (le-true 2 (length t) two) (eq-true (get_or t 0 0) 91 left) (eq-true (get_or t (length t - 1) 0) 93 right))
-    ∙ ap (λ (k : ℕ). place_within (trim (take k (drop 1 t)))) n
+    ∙ ap (λ (k : ℕ). memory_operand_within (trim (take k (drop 1 t)))) n
 
 -- Targets of 16 bits.
 abbrev value_or : Option ℤ → ℤ

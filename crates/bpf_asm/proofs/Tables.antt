@@ -16,7 +16,7 @@ use Rattle.bpf_asm.specs.declared.line.Statement.TheVariants as says
 use Rattle.bpf_asm.specs.declared.rounds.Label.{Label}
 use Rattle.bpf_asm.specs.Text.{label_name, body_of}
 use Rattle.bpf_asm.specs.Lines.{line_statement, label_or, instruction, defined_name, target_name}
-use Rattle.bpf_asm.specs.Assembly.{slots, line_slots, statement_slots, label_slot, is_named, is_defined, first_round, first_fault, told_or, line_number, second_round, code_then, code_from, listed, aimed}
+use Rattle.bpf_asm.specs.Assembly.{slots, line_slots, statement_slots, label_slot, is_named, is_defined, first_round, first_fault, reported_or, line_number, second_round, code_then, code_from, listed, aimed}
 use Rattle.bpf_asm.specs.Operands.{◌>>?◌}
 use Rattle.std.proofs.Common.{pos, ◌-ℤ◌, append-nil}
 use Rattle.bpf_asm.specs.Rounds.{texts, table_slot, IsTable}
@@ -129,18 +129,18 @@ survey_ends lines i slot number labels s l =
       subst (λ (ls : List (Bor (List ℕ))). IsTable labels (texts ls)) t s.table,
     )
 
-survey_next : (lines : List (Bor (List ℕ))) (i slot number : ℕ) (labels : List Label) (x : Bor (List ℕ)) → Surveyed lines i slot number labels → i < length lines → x ≡ get_or lines i x → first_fault [] (texts lines) ≡ told_or (first_round (texts (take i lines)) x.now (line_statement x.now)) (min (i + 1) (2 ^ 32 - 1)) (first_fault (texts (take i lines) ++ x.now ∷ []) (texts (drop (i + 1) lines)))
+survey_next : (lines : List (Bor (List ℕ))) (i slot number : ℕ) (labels : List Label) (x : Bor (List ℕ)) → Surveyed lines i slot number labels → i < length lines → x ≡ get_or lines i x → first_fault [] (texts lines) ≡ reported_or (first_round (texts (take i lines)) x.now (line_statement x.now)) (min (i + 1) (2 ^ 32 - 1)) (first_fault (texts (take i lines) ++ x.now ∷ []) (texts (drop (i + 1) lines)))
 survey_next lines i slot number labels x s l e =
     s.faults
     ∙ ap (λ (ls : List (List ℕ)). first_fault (texts (take i lines)) ls) (texts_next lines i x l e)
-    ∙ ap (λ (n : ℕ). told_or (first_round (texts (take i lines)) x.now (line_statement x.now)) n (first_fault (texts (take i lines) ++ x.now ∷ []) (texts (drop (i + 1) lines)))) (number_of lines i (omega arith))
+    ∙ ap (λ (n : ℕ). reported_or (first_round (texts (take i lines)) x.now (line_statement x.now)) n (first_fault (texts (take i lines) ++ x.now ∷ []) (texts (drop (i + 1) lines)))) (number_of lines i (omega arith))
 
 pub survey_fault : (lines : List (Bor (List ℕ))) (i slot number next : ℕ) (labels : List Label) (x : Bor (List ℕ)) (k : AsmKind) → Surveyed lines i slot number labels → i < length lines → x ≡ get_or lines i x → next ≡ min (number + 1) (2 ^ 32 - 1) → first_round (texts (take i lines)) x.now (line_statement x.now) ≡ Some k → first_fault [] (texts lines) ≡ Some (record { kind = k; line = next })
 survey_fault lines i slot number next labels x k s l e n f =
     let m = s.number_is in
     let q : min (i + 1) (2 ^ 32 - 1) ≡ next = omega arith in
     survey_next lines i slot number labels x s l e
-    ∙ ap (λ (o : Option AsmKind). told_or o (min (i + 1) (2 ^ 32 - 1)) (first_fault (texts (take i lines) ++ x.now ∷ []) (texts (drop (i + 1) lines)))) f
+    ∙ ap (λ (o : Option AsmKind). reported_or o (min (i + 1) (2 ^ 32 - 1)) (first_fault (texts (take i lines) ++ x.now ∷ []) (texts (drop (i + 1) lines)))) f
     ∙ ap (λ (j : ℕ). let fault : AsmFault = record { kind = k; line = j } in Some fault) q
 
 pub survey_step : (lines : List (Bor (List ℕ))) (i slot number slot' number' : ℕ) (labels labels' : List Label) (x : Bor (List ℕ)) → Surveyed lines i slot number labels → i < length lines → x ≡ get_or lines i x → number' ≡ min (number + 1) (2 ^ 32 - 1) → first_round (texts (take i lines)) x.now (line_statement x.now) ≡ None → slot' ≡ slot + line_slots x.now → ((name : List ℕ) → table_slot name labels' ≡ or_slot (table_slot name labels) (cond (is_named name (defined_name x.now)) (Some slot) None)) → Surveyed lines (i + 1) slot' number' labels'
@@ -150,7 +150,7 @@ survey_step lines i slot number slot' number' labels labels' x s l e n f d t =
     record {
       faults =
           survey_next lines i slot number labels x s l e
-          ∙ ap (λ (o : Option AsmKind). told_or o (min (i + 1) (2 ^ 32 - 1)) (first_fault (texts (take i lines) ++ x.now ∷ []) (texts (drop (i + 1) lines)))) f
+          ∙ ap (λ (o : Option AsmKind). reported_or o (min (i + 1) (2 ^ 32 - 1)) (first_fault (texts (take i lines) ++ x.now ∷ []) (texts (drop (i + 1) lines)))) f
           ∙ ap (λ (ls : List (List ℕ)). first_fault ls (texts (drop (i + 1) lines))) (sym more);
       table = record {
         slots_are = λ name.
@@ -213,24 +213,24 @@ prepend_then xs ys n (Err f) = refl
 
 -- What the second round has written of the first i lines.
 pub record Written (lines : List (Bor (List ℕ))) (i slot number : ℕ) (code : List Insn) : Type 0 where
-  pub goes_on : code_from (texts lines) [] (texts lines) ≡ prepend code (code_from (texts lines) (texts (take i lines)) (texts (drop i lines)))
+  pub continues : code_from (texts lines) [] (texts lines) ≡ prepend code (code_from (texts lines) (texts (take i lines)) (texts (drop i lines)))
   pub slot_is : slot ≡ slots (texts (take i lines))
   pub number_is : number ≡ min i (2 ^ 32 - 1)
 
 pub write_begins : (lines : List (Bor (List ℕ))) → Written lines 0 0 0 []
-write_begins lines = record { goes_on = prepend_none (code_from (texts lines) [] (texts lines)); slot_is = refl; number_is = refl }
+write_begins lines = record { continues = prepend_none (code_from (texts lines) [] (texts lines)); slot_is = refl; number_is = refl }
 
 pub write_ends : (lines : List (Bor (List ℕ))) (i slot number : ℕ) (code : List Insn) → Written lines i slot number code → length lines ≤ i → code_from (texts lines) [] (texts lines) ≡ Ok code
 write_ends lines i slot number code s l =
     let d : drop i lines ≡ [] = drop_all i lines l in
-    s.goes_on
+    s.continues
     ∙ ap (λ (ls : List (Bor (List ℕ))). prepend code (code_from (texts lines) (texts (take i lines)) (texts ls))) d
     ∙ ap Ok (append-nil code)
 
 write_next : (lines : List (Bor (List ℕ))) (i slot number : ℕ) (code : List Insn) (x : Bor (List ℕ)) (r : Result Statement AsmKind) → Written lines i slot number code → i < length lines → x ≡ get_or lines i x → r ≡ line_statement x.now → code_from (texts lines) [] (texts lines) ≡ prepend code (code_then (second_round (texts lines) (texts (take i lines)) x.now r) (min (i + 1) (2 ^ 32 - 1)) (code_from (texts lines) (texts (take i lines) ++ x.now ∷ []) (texts (drop (i + 1) lines))))
 write_next lines i slot number code x r s l e h =
     let rest : Result (List Insn) AsmFault = code_from (texts lines) (texts (take i lines) ++ x.now ∷ []) (texts (drop (i + 1) lines)) in
-    s.goes_on
+    s.continues
     ∙ ap (λ (ls : List (List ℕ)). prepend code (code_from (texts lines) (texts (take i lines)) ls)) (texts_next lines i x l e)
     ∙ ap (λ (n : ℕ). prepend code (code_then (second_round (texts lines) (texts (take i lines)) x.now (line_statement x.now)) n rest)) (number_of lines i (omega arith))
     ∙ ap (λ (y : Result Statement AsmKind). prepend code (code_then (second_round (texts lines) (texts (take i lines)) x.now y) (min (i + 1) (2 ^ 32 - 1)) rest)) (sym h)
@@ -241,7 +241,7 @@ write_step lines i slot number slot' number' code ys code' x r s l e n h f d c =
     let more = texts_more lines i x l e in
     let rest : Result (List Insn) AsmFault = code_from (texts lines) (texts (take i lines) ++ x.now ∷ []) (texts (drop (i + 1) lines)) in
     record {
-      goes_on =
+      continues =
           write_next lines i slot number code x r s l e h
           ∙ ap (λ (y : Result (List Insn) AsmKind). prepend code (code_then y (min (i + 1) (2 ^ 32 - 1)) rest)) f
           ∙ prepend_then code ys (min (i + 1) (2 ^ 32 - 1)) rest

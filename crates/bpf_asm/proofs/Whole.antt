@@ -20,21 +20,21 @@ use Rattle.bpf_asm.specs.declared.fault.AsmKind.{AsmKind}
 use Rattle.bpf_asm.specs.declared.form.Form.TheVariants as form
 use Rattle.bpf_asm.specs.declared.operand.Target.{Target}
 use Rattle.bpf_asm.specs.Words.{word_of}
-use Rattle.bpf_asm.specs.Operands.{register, register_text, immediate, constant, target_of, second_operand, place, both, ◌>>=◌}
-use Rattle.bpf_asm.specs.Printing.{form_of, alu_form, with_sign, source_text, place_text, operands_of, alu_operands, line_text}
-use Rattle.bpf_asm.specs.declared.operand.Place.{Place}
+use Rattle.bpf_asm.specs.Operands.{register, register_text, immediate, wide_immediate, target_of, second_operand, memory_operand, pair, ◌>>=◌}
+use Rattle.bpf_asm.specs.Printing.{form_of, alu_form, with_sign, source_text, memory_operand_text, operands_of, alu_operands, line_text}
+use Rattle.bpf_asm.specs.declared.operand.MemoryOperand.{MemoryOperand}
 use Rattle.bpf_asm.specs.declared.line.Statement.{Statement}
 use Rattle.bpf_asm.specs.declared.line.Statement.TheVariants as says
 use Rattle.bpf_asm.specs.Lines.{line_statement, statement_of, aims}
 use Rattle.bpf_asm.proofs.Plain.{line_byte, plain_line, Ends, last_at, AreOperands}
-use Rattle.bpf_asm.proofs.Numbers.{register_read, constant_read, immediate_read, imm_read, reg_read, target_read, magnitude}
+use Rattle.bpf_asm.proofs.Numbers.{register_read, wide_immediate_read, immediate_read, imm_read, reg_read, target_read, magnitude}
 use Rattle.bpf_asm.proofs.Inverse.{word_found}
 use Rattle.bpf_asm.specs.declared.fault.AsmFault.{AsmFault}
 use Rattle.bpf_asm.specs.Printing.{printed}
-use Rattle.bpf_asm.specs.Assembly.{assembly, assembly_of_lines, first_fault, first_round, told_or, line_number, code_from, code_then, second_round, fault_or}
+use Rattle.bpf_asm.specs.Assembly.{assembly, assembly_of_lines, first_fault, first_round, reported_or, line_number, code_from, code_then, second_round, fault_or}
 use Rattle.bpf_asm.proofs.Plain.{split_at, line_low}
-use Rattle.bpf_asm.proofs.Places.{part_is}
-use Rattle.bpf_asm.proofs.Lined.{words_wordy, is_text, signed_text, sign_text, decimal_text, register_is_text, place_is_text, source_is_text, SourceFits, place_read, line_read, line_firm}
+use Rattle.bpf_asm.proofs.Positions.{part_is}
+use Rattle.bpf_asm.proofs.Lined.{words_wordy, is_text, signed_text, sign_text, decimal_text, register_is_text, memory_operand_is_text, source_is_text, SourceFits, memory_operand_read, line_read, line_firm}
 
 small_16 : (z : ℤ) → FitsSigned w16 z → magnitude z < 2 ^ 15
 small_16 (pos n) h = h.sfits
@@ -90,9 +90,9 @@ texts_good (insn.Swap k w dst) h = op1 _ (register_is_text dst)
 texts_good (insn.LoadImm dst value) h =
     let s : value < 2 ^ 64 = h in
     op2 _ _ (register_is_text dst) (decimal_text value s)
-texts_good (insn.Load s b dst base offset) h = op2 (register_text dst) (place_text base offset) (register_is_text dst) (place_is_text base offset (wide_16 offset h.1))
-texts_good (insn.StoreImm s base offset imm) h = op2 (place_text base offset) (signed_decimal imm) (place_is_text base offset (wide_16 offset h.0)) (signed_text imm h.1)
-texts_good (insn.Store s base offset src) h = op2 (place_text base offset) (register_text src) (place_is_text base offset (wide_16 offset h)) (register_is_text src)
+texts_good (insn.Load s b dst base offset) h = op2 (register_text dst) (memory_operand_text base offset) (register_is_text dst) (memory_operand_is_text base offset (wide_16 offset h.1))
+texts_good (insn.StoreImm s base offset imm) h = op2 (memory_operand_text base offset) (signed_decimal imm) (memory_operand_is_text base offset (wide_16 offset h.0)) (signed_text imm h.1)
+texts_good (insn.Store s base offset src) h = op2 (memory_operand_text base offset) (register_text src) (memory_operand_is_text base offset (wide_16 offset h)) (register_is_text src)
 texts_good (insn.Jump offset) h = op1 _ (sign_text offset (wide_16 offset h))
 texts_good (insn.JumpLong offset) h = op1 _ (sign_text offset (small_32 offset h))
 texts_good (insn.Test narrow t dst (source.Imm v) offset) h = op3 _ _ _ (register_is_text dst) (signed_text v h.0) (sign_text offset (wide_16 offset h.1))
@@ -104,13 +104,13 @@ texts_good insn.Exit h = tt
 -- What each form's operands say.
 alu_said : (a : AluOp) (w : AluWidth) (dst : Reg) (src : Source) → SourceFits src → statement_of (form.Alu a w) (register_text dst ∷ source_text src ∷ []) ≡ Ok (says.Insn (insn.Alu w a dst src))
 alu_said a w dst src h =
-    ap (λ (r : Result Reg AsmKind). both r (second_operand (source_text src)) >>= (λ p. Ok (says.Insn (insn.Alu w a p.0 p.1)))) (register_read dst)
-    ∙ ap (λ (r : Result Source AsmKind). both (Ok dst) r >>= (λ p. Ok (says.Insn (insn.Alu w a p.0 p.1)))) (source_read src h)
+    ap (λ (r : Result Reg AsmKind). pair r (second_operand (source_text src)) >>= (λ p. Ok (says.Insn (insn.Alu w a p.0 p.1)))) (register_read dst)
+    ∙ ap (λ (r : Result Source AsmKind). pair (Ok dst) r >>= (λ p. Ok (says.Insn (insn.Alu w a p.0 p.1)))) (source_read src h)
 
 extend_said : (a : AluOp) (w : AluWidth) (dst src : Reg) → statement_of (form.Extend a w) (register_text dst ∷ register_text src ∷ []) ≡ Ok (says.Insn (insn.Alu w a dst (source.Reg src)))
 extend_said a w dst src =
-    ap (λ (r : Result Reg AsmKind). both r (register (register_text src)) >>= (λ p. Ok (says.Insn (insn.Alu w a p.0 (source.Reg p.1))))) (register_read dst)
-    ∙ ap (λ (r : Result Reg AsmKind). both (Ok dst) r >>= (λ p. Ok (says.Insn (insn.Alu w a p.0 (source.Reg p.1))))) (register_read src)
+    ap (λ (r : Result Reg AsmKind). pair r (register (register_text src)) >>= (λ p. Ok (says.Insn (insn.Alu w a p.0 (source.Reg p.1))))) (register_read dst)
+    ∙ ap (λ (r : Result Reg AsmKind). pair (Ok dst) r >>= (λ p. Ok (says.Insn (insn.Alu w a p.0 (source.Reg p.1))))) (register_read src)
 
 neg_said : (w : AluWidth) (dst : Reg) (v : ℤ) → v ≡ pos 0 → statement_of (form.Neg w) (register_text dst ∷ []) ≡ Ok (says.Insn (insn.Alu w op.Neg dst (source.Imm v)))
 neg_said w dst v h =
@@ -145,9 +145,9 @@ alu_all op.Movsx32 alu.W64 dst (source.Reg r) h = extend_said op.Movsx32 alu.W64
 
 test_said : (t : Test) (narrow : Bool) (dst : Reg) (src : Source) (z : ℤ) → SourceFits src → magnitude z < 2 ^ 15 → statement_of (form.Test t narrow) (register_text dst ∷ source_text src ∷ with_sign z ∷ []) ≡ Ok (says.Insn (insn.Test narrow t dst src z))
 test_said t narrow dst src z h s =
-    ap (λ (r : Result Reg AsmKind). both (both r (second_operand (source_text src))) (target_of (2 ^ 15) (with_sign z)) >>= (λ p. Ok (aims p.1 (λ y. insn.Test narrow t p.0.0 p.0.1 y)))) (register_read dst)
-    ∙ ap (λ (r : Result Source AsmKind). both (both (Ok dst) r) (target_of (2 ^ 15) (with_sign z)) >>= (λ p. Ok (aims p.1 (λ y. insn.Test narrow t p.0.0 p.0.1 y)))) (source_read src h)
-    ∙ ap (λ (r : Result Target AsmKind). let d : Reg × Source = (dst, src) in both (Ok d) r >>= (λ p. Ok (aims p.1 (λ y. insn.Test narrow t p.0.0 p.0.1 y)))) (target_read (2 ^ 15) z (omega arith) s)
+    ap (λ (r : Result Reg AsmKind). pair (pair r (second_operand (source_text src))) (target_of (2 ^ 15) (with_sign z)) >>= (λ p. Ok (aims p.1 (λ y. insn.Test narrow t p.0.0 p.0.1 y)))) (register_read dst)
+    ∙ ap (λ (r : Result Source AsmKind). pair (pair (Ok dst) r) (target_of (2 ^ 15) (with_sign z)) >>= (λ p. Ok (aims p.1 (λ y. insn.Test narrow t p.0.0 p.0.1 y)))) (source_read src h)
+    ∙ ap (λ (r : Result Target AsmKind). let d : Reg × Source = (dst, src) in pair (Ok d) r >>= (λ p. Ok (aims p.1 (λ y. insn.Test narrow t p.0.0 p.0.1 y)))) (target_read (2 ^ 15) z (omega arith) s)
 
 jump_said : (half : ℕ) (k : ℤ → Insn) (z : ℤ) → half ≤ 2 ^ 31 → magnitude z < half → (target_of half (with_sign z) >>= (λ t. Ok (aims t k))) ≡ Ok (says.Insn (k z))
 jump_said half k z l s = ap (λ (r : Result Target AsmKind). r >>= (λ t. Ok (aims t k))) (target_read half z l s)
@@ -157,17 +157,17 @@ said (insn.Alu w a dst src) h = alu_all a w dst src h
 said (insn.Swap k w dst) h = ap (λ (r : Result Reg AsmKind). r >>= (λ d. Ok (says.Insn (insn.Swap k w d)))) (register_read dst)
 said (insn.LoadImm dst value) h =
     let s : value < 2 ^ 64 = h in
-    ap (λ (r : Result Reg AsmKind). both r (constant (decimal value)) >>= (λ p. Ok (says.Insn (insn.LoadImm p.0 p.1)))) (register_read dst)
-    ∙ ap (λ (r : Result ℕ AsmKind). both (Ok dst) r >>= (λ p. Ok (says.Insn (insn.LoadImm p.0 p.1)))) (constant_read value s)
+    ap (λ (r : Result Reg AsmKind). pair r (wide_immediate (decimal value)) >>= (λ p. Ok (says.Insn (insn.LoadImm p.0 p.1)))) (register_read dst)
+    ∙ ap (λ (r : Result ℕ AsmKind). pair (Ok dst) r >>= (λ p. Ok (says.Insn (insn.LoadImm p.0 p.1)))) (wide_immediate_read value s)
 said (insn.Load s b dst base offset) h =
-    ap (λ (r : Result Reg AsmKind). both r (place (place_text base offset)) >>= (λ p. Ok (says.Insn (insn.Load s b p.0 p.1.base p.1.offset)))) (register_read dst)
-    ∙ ap (λ (r : Result Place AsmKind). both (Ok dst) r >>= (λ p. Ok (says.Insn (insn.Load s b p.0 p.1.base p.1.offset)))) (place_read base offset (small_16 offset h.1))
+    ap (λ (r : Result Reg AsmKind). pair r (memory_operand (memory_operand_text base offset)) >>= (λ p. Ok (says.Insn (insn.Load s b p.0 p.1.base p.1.offset)))) (register_read dst)
+    ∙ ap (λ (r : Result MemoryOperand AsmKind). pair (Ok dst) r >>= (λ p. Ok (says.Insn (insn.Load s b p.0 p.1.base p.1.offset)))) (memory_operand_read base offset (small_16 offset h.1))
 said (insn.StoreImm s base offset imm) h =
-    ap (λ (r : Result Place AsmKind). both r (immediate (signed_decimal imm)) >>= (λ p. Ok (says.Insn (insn.StoreImm s p.0.base p.0.offset p.1)))) (place_read base offset (small_16 offset h.0))
-    ∙ ap (λ (r : Result ℤ AsmKind). let at : Place = record { base = base; offset = offset } in both (Ok at) r >>= (λ p. Ok (says.Insn (insn.StoreImm s p.0.base p.0.offset p.1)))) (immediate_read imm h.1)
+    ap (λ (r : Result MemoryOperand AsmKind). pair r (immediate (signed_decimal imm)) >>= (λ p. Ok (says.Insn (insn.StoreImm s p.0.base p.0.offset p.1)))) (memory_operand_read base offset (small_16 offset h.0))
+    ∙ ap (λ (r : Result ℤ AsmKind). let at : MemoryOperand = record { base = base; offset = offset } in pair (Ok at) r >>= (λ p. Ok (says.Insn (insn.StoreImm s p.0.base p.0.offset p.1)))) (immediate_read imm h.1)
 said (insn.Store s base offset src) h =
-    ap (λ (r : Result Place AsmKind). both r (register (register_text src)) >>= (λ p. Ok (says.Insn (insn.Store s p.0.base p.0.offset p.1)))) (place_read base offset (small_16 offset h))
-    ∙ ap (λ (r : Result Reg AsmKind). let at : Place = record { base = base; offset = offset } in both (Ok at) r >>= (λ p. Ok (says.Insn (insn.Store s p.0.base p.0.offset p.1)))) (register_read src)
+    ap (λ (r : Result MemoryOperand AsmKind). pair r (register (register_text src)) >>= (λ p. Ok (says.Insn (insn.Store s p.0.base p.0.offset p.1)))) (memory_operand_read base offset (small_16 offset h))
+    ∙ ap (λ (r : Result Reg AsmKind). let at : MemoryOperand = record { base = base; offset = offset } in pair (Ok at) r >>= (λ p. Ok (says.Insn (insn.Store s p.0.base p.0.offset p.1)))) (register_read src)
 said (insn.Jump offset) h = jump_said (2 ^ 15) (λ z. insn.Jump z) offset (omega arith) (small_16 offset h)
 said (insn.JumpLong offset) h = jump_said (2 ^ 31) (λ z. insn.JumpLong z) offset (omega arith) (small_32 offset h)
 said (insn.Test narrow t dst (source.Imm v) offset) h = test_said t narrow dst (source.Imm v) offset h.0 (small_16 offset h.1)
@@ -214,7 +214,7 @@ lines_printed (x ∷ xs) h =
 no_fault : (before : List (List ℕ)) (code : List Insn) → AllByRecursion IsInsn code → first_fault before (map line_text code) ≡ None
 no_fault before [] h = refl
 no_fault before (x ∷ xs) h =
-    ap (λ (r : Result Statement AsmKind). told_or (first_round before (line_text x) r) (line_number before) (first_fault (before ++ line_text x ∷ []) (map line_text xs))) (line_said x h.0)
+    ap (λ (r : Result Statement AsmKind). reported_or (first_round before (line_text x) r) (line_number before) (first_fault (before ++ line_text x ∷ []) (map line_text xs))) (line_said x h.0)
     ∙ no_fault (before ++ line_text x ∷ []) xs h.1
 
 code_of : (all before : List (List ℕ)) (code : List Insn) → AllByRecursion IsInsn code → code_from all before (map line_text code) ≡ Ok code

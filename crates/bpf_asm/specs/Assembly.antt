@@ -42,7 +42,7 @@ label_slot name [] = None
 label_slot name (line ∷ rest) =
     if is_named name (defined_name line) then Some 0 else option_map (λ n. line_slots line + n) (label_slot name rest)
 
--- The number of a line behind others, from 1; past 2^32 - 1 it is told as that.
+-- The number of a line behind others, from 1; past 2^32 - 1 it is reported as that.
 abbrev pub line_number : List (List ℕ) → ℕ
 line_number before = min (length before + 1) (2 ^ 32 - 1)
 
@@ -59,15 +59,15 @@ first_round before line (Ok says.Blank) = None
 first_round before line (Ok (says.Insn x)) = None
 first_round before line (Ok (says.Aimed x)) = None
 
-abbrev pub told_or : Option AsmKind → ℕ → Option AsmFault → Option AsmFault
-told_or None number other = other
-told_or (Some kind) number other = Some (record { kind = kind; line = number })
+abbrev pub reported_or : Option AsmKind → ℕ → Option AsmFault → Option AsmFault
+reported_or None number other = other
+reported_or (Some kind) number other = Some (record { kind = kind; line = number })
 
 -- The first fault of the first round in some lines behind others.
 abbrev pub first_fault : List (List ℕ) → List (List ℕ) → Option AsmFault
 first_fault before [] = None
 first_fault before (line ∷ rest) =
-    told_or (first_round before line (line_statement line)) (line_number before) (first_fault (before ++ line ∷ []) rest)
+    reported_or (first_round before line (line_statement line)) (line_number before) (first_fault (before ++ line ∷ []) rest)
 
 -- A signed number whose magnitude is below `half`, or at it if negative.
 abbrev pub is_within : ℕ → ℤ → Bool

@@ -21,7 +21,7 @@ use Rattle.bpf_asm.specs.declared.line.Statement.{Statement}
 use Rattle.bpf_asm.specs.declared.line.Statement.TheVariants as statement
 use Rattle.bpf_asm.specs.Text.{body_of, first_word, behind_word, operand_texts, last_text, label_name}
 use Rattle.bpf_asm.specs.Words.{form_of_word}
-use Rattle.bpf_asm.specs.Operands.{◌>>=◌, both, as_none, as_one, as_two, as_three, register, immediate, constant, second_operand, target_of, place}
+use Rattle.bpf_asm.specs.Operands.{◌>>=◌, pair, as_none, as_one, as_two, as_three, register, immediate, wide_immediate, second_operand, target_of, memory_operand}
 
 -- An instruction whose operands are its own.
 abbrev pub says : Insn → Statement
@@ -34,34 +34,34 @@ aims target.Label with_offset = statement.Aimed (with_offset (pos 0))
 
 abbrev pub alu_statement : AluOp → AluWidth → List (List ℕ) → Result Statement AsmKind
 alu_statement o w xs =
-    as_two xs >>= (λ x. both (register x.0) (second_operand x.1) >>= (λ p. Ok (says (insn.Alu w o p.0 p.1))))
+    as_two xs >>= (λ x. pair (register x.0) (second_operand x.1) >>= (λ p. Ok (says (insn.Alu w o p.0 p.1))))
 
 abbrev pub neg_statement : AluWidth → List (List ℕ) → Result Statement AsmKind
 neg_statement w xs = as_one xs >>= (λ x. register x >>= (λ dst. Ok (says (insn.Alu w op.Neg dst (source.Imm (pos 0))))))
 
 abbrev pub extend_statement : AluOp → AluWidth → List (List ℕ) → Result Statement AsmKind
 extend_statement o w xs =
-    as_two xs >>= (λ x. both (register x.0) (register x.1) >>= (λ p. Ok (says (insn.Alu w o p.0 (source.Reg p.1)))))
+    as_two xs >>= (λ x. pair (register x.0) (register x.1) >>= (λ p. Ok (says (insn.Alu w o p.0 (source.Reg p.1)))))
 
-abbrev pub constant_statement : List (List ℕ) → Result Statement AsmKind
-constant_statement xs =
-    as_two xs >>= (λ x. both (register x.0) (constant x.1) >>= (λ p. Ok (says (insn.LoadImm p.0 p.1))))
+abbrev pub wide_immediate_statement : List (List ℕ) → Result Statement AsmKind
+wide_immediate_statement xs =
+    as_two xs >>= (λ x. pair (register x.0) (wide_immediate x.1) >>= (λ p. Ok (says (insn.LoadImm p.0 p.1))))
 
 abbrev pub load_statement : Size → Bool → List (List ℕ) → Result Statement AsmKind
 load_statement s signed xs =
-    as_two xs >>= (λ x. both (register x.0) (place x.1) >>= (λ p. Ok (says (insn.Load s signed p.0 p.1.base p.1.offset))))
+    as_two xs >>= (λ x. pair (register x.0) (memory_operand x.1) >>= (λ p. Ok (says (insn.Load s signed p.0 p.1.base p.1.offset))))
 
 abbrev pub store_number_statement : Size → List (List ℕ) → Result Statement AsmKind
 store_number_statement s xs =
-    as_two xs >>= (λ x. both (place x.0) (immediate x.1) >>= (λ p. Ok (says (insn.StoreImm s p.0.base p.0.offset p.1))))
+    as_two xs >>= (λ x. pair (memory_operand x.0) (immediate x.1) >>= (λ p. Ok (says (insn.StoreImm s p.0.base p.0.offset p.1))))
 
 abbrev pub store_statement : Size → List (List ℕ) → Result Statement AsmKind
 store_statement s xs =
-    as_two xs >>= (λ x. both (place x.0) (register x.1) >>= (λ p. Ok (says (insn.Store s p.0.base p.0.offset p.1))))
+    as_two xs >>= (λ x. pair (memory_operand x.0) (register x.1) >>= (λ p. Ok (says (insn.Store s p.0.base p.0.offset p.1))))
 
 abbrev pub test_statement : Tests → Bool → List (List ℕ) → Result Statement AsmKind
 test_statement t narrow xs =
-    as_three xs >>= (λ x. both (both (register x.0) (second_operand x.1)) (target_of (2 ^ 15) x.2)
+    as_three xs >>= (λ x. pair (pair (register x.0) (second_operand x.1)) (target_of (2 ^ 15) x.2)
     >>= (λ p. Ok (aims p.1 (λ z. insn.Test narrow t p.0.0 p.0.1 z))))
 
 -- A jump or a call whose one operand is its target.
@@ -75,7 +75,7 @@ statement_of (form.Alu o w) xs = alu_statement o w xs
 statement_of (form.Neg w) xs = neg_statement w xs
 statement_of (form.Extend o w) xs = extend_statement o w xs
 statement_of (form.Swap k w) xs = as_one xs >>= (λ x. register x >>= (λ dst. Ok (says (insn.Swap k w dst))))
-statement_of form.LoadImm xs = constant_statement xs
+statement_of form.LoadImm xs = wide_immediate_statement xs
 statement_of (form.Load s signed) xs = load_statement s signed xs
 statement_of (form.StoreImm s) xs = store_number_statement s xs
 statement_of (form.Store s) xs = store_statement s xs

@@ -1,4 +1,4 @@
--- Statement: what the text of an operand says: a register, a number, a place in memory or a target. Of two faults in
+-- Statement: what the text of an operand says: a register, a number, a memory operand or a target. Of two faults in
 -- a line `Operand` comes before `Number`.
 use Rattle.std.specs.Prelude.{ℕ, ◌+◌, ◌-◌, ◌≤◌, ◌^◌, ◌==◌, Bool, true, false, ◌&&◌, ◌||◌, nat_le, nat_lt, if◌then◌else◌, List, [], ◌∷◌, length, take, drop, slice_index, Option, Some, None, Result, Ok, Err, ℤ, pos, neg_ℤ, codes, find}
 use Rattle.std.proofs.Common.{lit≤}
@@ -16,7 +16,7 @@ use Rattle.bpf_asm.specs.declared.fault.AsmKind.TheVariants.{Operand, Number}
 use Rattle.bpf_asm.specs.declared.fault.AsmKind.TheVariants as kind
 use Rattle.bpf_asm.specs.declared.operand.Target.{Target}
 use Rattle.bpf_asm.specs.declared.operand.Target.TheVariants as target
-use Rattle.bpf_asm.specs.declared.operand.Place.{Place}
+use Rattle.bpf_asm.specs.declared.operand.MemoryOperand.{MemoryOperand}
 use Rattle.bpf_asm.specs.Text.{trim, is_digit, is_letter, is_name}
 
 -- First r, then k of what it gives; the first fault is the fault of both.
@@ -30,7 +30,7 @@ abbrev pub ◌>>?◌ : {A B : Type 0} → Option A → (A → Option B) → Opti
 None >>? k = None
 (Some x) >>? k = k x
 
--- Of two faults of a line's operands the one that is told.
+-- Of two faults of a line's operands the one that is reported.
 abbrev pub first_kind : AsmKind → AsmKind → AsmKind
 first_kind Operand f = Operand
 first_kind kind.Word f = f
@@ -39,11 +39,11 @@ first_kind kind.Label f = f
 first_kind kind.Memory f = f
 
 -- Both of two operands.
-abbrev pub both : {A B : Type 0} → Result A AsmKind → Result B AsmKind → Result (A × B) AsmKind
-both (Ok a) (Ok b) = Ok (a, b)
-both (Ok a) (Err f) = Err f
-both (Err e) (Ok b) = Err e
-both (Err e) (Err f) = Err (first_kind e f)
+abbrev pub pair : {A B : Type 0} → Result A AsmKind → Result B AsmKind → Result (A × B) AsmKind
+pair (Ok a) (Ok b) = Ok (a, b)
+pair (Ok a) (Err f) = Err f
+pair (Err e) (Ok b) = Err e
+pair (Err e) (Err f) = Err (first_kind e f)
 
 -- Exactly none, one, two or three operands.
 abbrev pub as_none : List (List ℕ) → Result (Unit {0}) AsmKind
@@ -123,12 +123,12 @@ immediate_of n =
 abbrev pub immediate : List ℕ → Result ℤ AsmKind
 immediate text = wanted text (signed text >>? immediate_of)
 
--- A constant of 64 bits: 0 to 2^64 - 1.
-abbrev pub constant_of : Bool × ℕ → Option ℕ
-constant_of n = if n.0 && nat_lt 0 n.1 then None else Some n.1
+-- A wide immediate: 0 to 2^64 - 1.
+abbrev pub wide_immediate_of : Bool × ℕ → Option ℕ
+wide_immediate_of n = if n.0 && nat_lt 0 n.1 then None else Some n.1
 
-abbrev pub constant : List ℕ → Result ℕ AsmKind
-constant text = wanted text (signed text >>? constant_of)
+abbrev pub wide_immediate : List ℕ → Result ℕ AsmKind
+wide_immediate text = wanted text (signed text >>? wide_immediate_of)
 
 -- A signed number whose magnitude is below `half`, or at it under a minus.
 abbrev pub within_half : ℕ → Bool → ℕ → Option ℤ
@@ -151,7 +151,7 @@ target_of half text =
     >>= (λ n. Ok (target.Offset n))
     else Err Operand
 
--- The offset of a place: a sign and a number without one of its own, or none for 0.
+-- The offset of a memory operand: a sign and a number without one of its own, or none for 0.
 abbrev pub offset_of_text : List ℕ → Result ℤ AsmKind
 offset_of_text [] = Ok (pos 0)
 offset_of_text (s ∷ rest) = wanted (trim rest) (unsigned (trim rest) >>? within_half (2 ^ 15) (s == 45))
@@ -167,11 +167,11 @@ abbrev pub from_sign : List ℕ → List ℕ
 from_sign inside = drop (position_or_len is_sign inside) inside
 
 -- A base register and an offset.
-abbrev pub place_within : List ℕ → Result Place AsmKind
-place_within inside =
-    both (register (trim (before_sign inside))) (offset_of_text (from_sign inside))
+abbrev pub memory_operand_within : List ℕ → Result MemoryOperand AsmKind
+memory_operand_within inside =
+    pair (register (trim (before_sign inside))) (offset_of_text (from_sign inside))
     >>= (λ p. Ok (record { base = p.0; offset = p.1 }))
 
--- A place in memory: `[r1]`, `[r1+n]` or `[r1-n]`.
-abbrev pub place : List ℕ → Result Place AsmKind
-place text = if in_brackets text then place_within (trim (take (length text - 2) (drop 1 text))) else Err Operand
+-- A memory operand: `[r1]`, `[r1+n]` or `[r1-n]`.
+abbrev pub memory_operand : List ℕ → Result MemoryOperand AsmKind
+memory_operand text = if in_brackets text then memory_operand_within (trim (take (length text - 2) (drop 1 text))) else Err Operand

@@ -1,5 +1,5 @@
 -- Statement: the text of instructions: a line for each, ended by LF. Numbers are decimal, targets have a sign, and a
--- place has its offset always.
+-- memory operand has its offset always.
 use Rattle.std.specs.Prelude.{ℕ, suc, List, [], ◌∷◌, ◌++◌, ℤ, pos, negsuc}
 use Rattle.std.specs.Fmt.{decimal, signed_decimal}
 use Rattle.std.specs.List.{flat_map}
@@ -62,8 +62,8 @@ with_sign (pos n) = 43 ∷ decimal n
 with_sign (negsuc n) = 45 ∷ decimal (suc n)
 
 -- `[r1+n]` or `[r1-n]`.
-abbrev pub place_text : Reg → ℤ → List ℕ
-place_text base offset = 91 ∷ (register_text base ++ with_sign offset ++ 93 ∷ [])
+abbrev pub memory_operand_text : Reg → ℤ → List ℕ
+memory_operand_text base offset = 91 ∷ (register_text base ++ with_sign offset ++ 93 ∷ [])
 
 -- The operands of arithmetic: one of NEG, else two.
 abbrev pub alu_operands : AluOp → Reg → Source → List (List ℕ)
@@ -91,9 +91,9 @@ abbrev pub operands_of : Insn → List (List ℕ)
 operands_of (insn.Alu width o dst src) = alu_operands o dst src
 operands_of (insn.Swap kind width dst) = register_text dst ∷ []
 operands_of (insn.LoadImm dst value) = register_text dst ∷ decimal value ∷ []
-operands_of (insn.Load size signed dst base offset) = register_text dst ∷ place_text base offset ∷ []
-operands_of (insn.StoreImm size base offset imm) = place_text base offset ∷ signed_decimal imm ∷ []
-operands_of (insn.Store size base offset src) = place_text base offset ∷ register_text src ∷ []
+operands_of (insn.Load size signed dst base offset) = register_text dst ∷ memory_operand_text base offset ∷ []
+operands_of (insn.StoreImm size base offset imm) = memory_operand_text base offset ∷ signed_decimal imm ∷ []
+operands_of (insn.Store size base offset src) = memory_operand_text base offset ∷ register_text src ∷ []
 operands_of (insn.Jump offset) = with_sign offset ∷ []
 operands_of (insn.JumpLong offset) = with_sign offset ∷ []
 operands_of (insn.Test narrow test dst src offset) = register_text dst ∷ source_text src ∷ with_sign offset ∷ []

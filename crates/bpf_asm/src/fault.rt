@@ -35,7 +35,7 @@ impl AsmKind {
     }
 }
 
-/// A fault and its line, counted from 1; lines past 4,294,967,295 are told as that number. Where
+/// A fault and its line, counted from 1; lines past 4,294,967,295 are reported as that number. Where
 /// memory ran out the line says nothing.
 #[derive(Clone, Copy, Debug, PartialEq, Eq, Error)]
 #[error("line {line} fault {} {kind}", .kind.number())]

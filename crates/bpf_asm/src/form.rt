@@ -19,7 +19,7 @@ pub enum Form {
     Extend(AluOp, AluWidth),
     /// A byte swap.
     Swap(SwapKind, Width),
-    /// A load of a constant of 64 bits.
+    /// A load of a wide immediate.
     LoadImm,
     /// A load, sign-extended where the flag is set.
     Load(Size, bool),

@@ -4,14 +4,14 @@ ghost use Rattle.std.specs.Prelude.{◌≡◌, nat_le};
 ghost use Rattle.std.specs.List.{list_all};
 ghost use Rattle.std.specs.Option.{option_map};
 ghost use Rattle.bpf_asm.specs.Text.{operand_texts};
-ghost use Rattle.bpf_asm.specs.Lines.{line_statement, body_statement, instruction, statement_of, alu_statement, neg_statement, extend_statement, constant_statement, load_statement, store_number_statement, store_statement, test_statement, defined_name, target_name};
+ghost use Rattle.bpf_asm.specs.Lines.{line_statement, body_statement, instruction, statement_of, alu_statement, neg_statement, extend_statement, wide_immediate_statement, load_statement, store_number_statement, store_statement, test_statement, defined_name, target_name};
 
 use crate::fault::AsmKind;
 use crate::form::Form;
 use crate::number::label_name;
 use crate::operand::{
-    Target, both, constant, far_target, immediate, near_target, read_place, register,
-    second_operand,
+    Target, far_target, immediate, near_target, pair, read_memory_operand, register,
+    second_operand, wide_immediate,
 };
 use crate::text::{
     body_of, last_operand, no_operand, one_operand, split_word, three_operands, two_operands,
@@ -89,7 +89,7 @@ fn read_operands(form: Form, text: &[u8]) -> Result<Statement, AsmKind>
         Form::Neg(width) => read_neg(width, text),
         Form::Extend(op, width) => read_extend(op, width, text),
         Form::Swap(kind, width) => read_swap(kind, width, text),
-        Form::LoadImm => read_constant(text),
+        Form::LoadImm => read_wide_immediate(text),
         Form::Load(size, signed) => read_load(size, signed, text),
         Form::StoreImm(size) => read_store_number(size, text),
         Form::Store(size) => read_store(size, text),
@@ -106,7 +106,7 @@ fn read_alu(op: AluOp, width: AluWidth, text: &[u8]) -> Result<Statement, AsmKin
     ensures { result ≡ alu_statement op width (operand_texts text.now) }
 {
     let (first, second) = two_operands(text)?;
-    let (dst, src) = both(register(first), second_operand(second))?;
+    let (dst, src) = pair(register(first), second_operand(second))?;
     Ok(Statement::Insn(Insn::Alu {
         width,
         op,
@@ -132,7 +132,7 @@ fn read_extend(op: AluOp, width: AluWidth, text: &[u8]) -> Result<Statement, Asm
     ensures { result ≡ extend_statement op width (operand_texts text.now) }
 {
     let (first, second) = two_operands(text)?;
-    let (dst, src) = both(register(first), register(second))?;
+    let (dst, src) = pair(register(first), register(second))?;
     let src = Source::Reg(src);
     Ok(Statement::Insn(Insn::Alu {
         width,
@@ -149,11 +149,11 @@ fn read_swap(kind: SwapKind, width: Width, text: &[u8]) -> Result<Statement, Asm
     Ok(Statement::Insn(Insn::Swap { kind, width, dst }))
 }
 
-fn read_constant(text: &[u8]) -> Result<Statement, AsmKind>
-    ensures { result ≡ constant_statement (operand_texts text.now) }
+fn read_wide_immediate(text: &[u8]) -> Result<Statement, AsmKind>
+    ensures { result ≡ wide_immediate_statement (operand_texts text.now) }
 {
     let (first, second) = two_operands(text)?;
-    let (dst, value) = both(register(first), constant(second))?;
+    let (dst, value) = pair(register(first), wide_immediate(second))?;
     Ok(Statement::Insn(Insn::LoadImm { dst, value }))
 }
 
@@ -161,7 +161,7 @@ fn read_load(size: Size, signed: bool, text: &[u8]) -> Result<Statement, AsmKind
     ensures { result ≡ load_statement size signed (operand_texts text.now) }
 {
     let (first, second) = two_operands(text)?;
-    let (dst, from) = both(register(first), read_place(second))?;
+    let (dst, from) = pair(register(first), read_memory_operand(second))?;
     Ok(Statement::Insn(Insn::Load {
         size,
         signed,
@@ -175,7 +175,7 @@ fn read_store_number(size: Size, text: &[u8]) -> Result<Statement, AsmKind>
     ensures { result ≡ store_number_statement size (operand_texts text.now) }
 {
     let (first, second) = two_operands(text)?;
-    let (to, imm) = both(read_place(first), immediate(second))?;
+    let (to, imm) = pair(read_memory_operand(first), immediate(second))?;
     Ok(Statement::Insn(Insn::StoreImm {
         size,
         base: to.base,
@@ -188,7 +188,7 @@ fn read_store(size: Size, text: &[u8]) -> Result<Statement, AsmKind>
     ensures { result ≡ store_statement size (operand_texts text.now) }
 {
     let (first, second) = two_operands(text)?;
-    let (to, src) = both(read_place(first), register(second))?;
+    let (to, src) = pair(read_memory_operand(first), register(second))?;
     Ok(Statement::Insn(Insn::Store {
         size,
         base: to.base,
@@ -221,8 +221,8 @@ fn read_test(test: Test, narrow: bool, text: &[u8]) -> Result<Statement, AsmKind
     ensures { result ≡ test_statement test narrow (operand_texts text.now) }
 {
     let (first, second, third) = three_operands(text)?;
-    let compared = both(register(first), second_operand(second));
-    let ((dst, src), target) = both(compared, near_target(third))?;
+    let compared = pair(register(first), second_operand(second));
+    let ((dst, src), target) = pair(compared, near_target(third))?;
     match target {
         Target::Offset(offset) => {
             let offset = offset as i16;

@@ -6,7 +6,7 @@ ghost use Rattle.std.specs.List.{list_all, position};
 ghost use Rattle.std.specs.Str.{bytes_eq};
 ghost use Rattle.std.specs.Char.{digit_value};
 ghost use Rattle.bpf_asm.specs.Text.{is_digit, is_letter, is_name_byte, is_name, label_name};
-ghost use Rattle.bpf_asm.specs.Operands.{numeral, unsigned, signed, is_sign, begins_number, within_half, immediate_of, constant_of, register_text, number_text, registers};
+ghost use Rattle.bpf_asm.specs.Operands.{numeral, unsigned, signed, is_sign, begins_number, within_half, immediate_of, wide_immediate_of, register_text, number_text, registers};
 
 use bpf_decode::Reg;
 
@@ -114,7 +114,7 @@ pub(crate) fn register(text: &[u8]) -> Option<Reg>
     find_numbered(&REGISTERS, text)
 }
 
-/// The same, told by the registers' numbers.
+/// The same, by the registers' numbers.
 fn find_numbered(regs: &[Reg], text: &[u8]) -> Option<Reg>
     ensures { option_map (λ r. r.number) result ≡
         find (λ n. bytes_eq (number_text n) text.now) (map (λ r. r.number) regs.now) }
@@ -225,9 +225,9 @@ pub(crate) fn immediate_of(number: Written) -> Option<i32>
     }
 }
 
-/// The constant that a number stands for, if it is in range.
-pub(crate) fn constant_of(number: Written) -> Option<u64>
-    ensures { result ≡ constant_of (number.minus, number.magnitude) }
+/// The wide immediate that a number stands for, if it is in range.
+pub(crate) fn wide_immediate_of(number: Written) -> Option<u64>
+    ensures { result ≡ wide_immediate_of (number.minus, number.magnitude) }
 {
     if number.minus && number.magnitude > 0 {
         None

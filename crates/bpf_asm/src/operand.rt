@@ -1,8 +1,8 @@
-//! What the text of an operand says: a register, a number, a place in memory or a target.
+//! What the text of an operand says: a register, a number, a memory operand or a target.
 
 ghost use Rattle.std.specs.Prelude.{◌≡◌, ◌≤◌, ◌^◌, IfOk};
 ghost use Rattle.bpf_asm.specs.Rounds.{IsNear};
-ghost use Rattle.bpf_asm.specs.Operands.{◌>>?◌, both, register, immediate, constant, second_operand, target_of, place, place_within, offset_of_text, numeral, within_half};
+ghost use Rattle.bpf_asm.specs.Operands.{◌>>?◌, pair, register, immediate, wide_immediate, second_operand, target_of, memory_operand, memory_operand_within, offset_of_text, numeral, within_half};
 
 use crate::fault::AsmKind;
 use crate::number::{self, begins_number, is_letter, is_name, is_sign};
@@ -24,19 +24,19 @@ pub enum Target {
     Label,
 }
 
-/// A place in memory.
+/// A memory operand.
 #[derive(Clone, Copy, Debug, PartialEq, Eq)]
-pub struct Place {
+pub struct MemoryOperand {
     pub(crate) base: Reg,
     pub(crate) offset: i16,
 }
 
-/// Both of two operands of a line, or the fault that is told.
-pub(crate) fn both<A: Drop, B: Drop>(
+/// Both of two operands of a line, or the fault that is reported.
+pub(crate) fn pair<A: Drop, B: Drop>(
     first: Result<A, AsmKind>,
     second: Result<B, AsmKind>,
 ) -> Result<(A, B), AsmKind>
-    ensures { result ≡ both first second }
+    ensures { result ≡ pair first second }
 {
     match (first, second) {
         (Ok(first), Ok(second)) => Ok((first, second)),
@@ -67,14 +67,14 @@ pub(crate) fn immediate(text: &[u8]) -> Result<i32, AsmKind>
 }
 
 /// A number of 0 to 18,446,744,073,709,551,615.
-pub(crate) fn constant(text: &[u8]) -> Result<u64, AsmKind>
-    ensures { result ≡ constant text.now }
+pub(crate) fn wide_immediate(text: &[u8]) -> Result<u64, AsmKind>
+    ensures { result ≡ wide_immediate text.now }
 {
     if !begins_number(text) {
         return Err(AsmKind::Operand);
     }
     match number::signed(text) {
-        Some(written) => number::constant_of(written).ok_or(AsmKind::Number),
+        Some(written) => number::wide_immediate_of(written).ok_or(AsmKind::Number),
         None => Err(AsmKind::Number),
     }
 }
@@ -137,31 +137,34 @@ fn signed_offset(minus: bool, digits: &[u8], half: u64) -> Option<i32>
     number::within_half(half, minus, magnitude)
 }
 
-/// A place in memory: `[r1]`, `[r1+n]` or `[r1-n]`.
-#[tactic(auto, using(crate::proofs::Statements::place_in))]
-pub(crate) fn read_place(text: &[u8]) -> Result<Place, AsmKind>
-    ensures { result ≡ place text.now }
+/// A memory operand: `[r1]`, `[r1+n]` or `[r1-n]`.
+#[tactic(auto, using(crate::proofs::Statements::memory_operand_in))]
+pub(crate) fn read_memory_operand(text: &[u8]) -> Result<MemoryOperand, AsmKind>
+    ensures { result ≡ memory_operand text.now }
 {
     if text.len() >= 2 && text[0] == b'[' && text[text.len() - 1] == b']' {
-        place_within(trim(&text[1..text.len() - 1]))
+        memory_operand_within(trim(&text[1..text.len() - 1]))
     } else {
         Err(AsmKind::Operand)
     }
 }
 
-fn place_within(inside: &[u8]) -> Result<Place, AsmKind>
-    ensures { result ≡ place_within inside.now }
+fn memory_operand_within(inside: &[u8]) -> Result<MemoryOperand, AsmKind>
+    ensures { result ≡ memory_operand_within inside.now }
 {
     let at = match number::find_sign(inside) {
         Some(at) => at,
         None => inside.len(),
     };
-    let (base, offset) = both(register(trim(&inside[..at])), place_offset(&inside[at..]))?;
-    Ok(Place { base, offset })
+    let (base, offset) = pair(
+        register(trim(&inside[..at])),
+        memory_operand_offset(&inside[at..]),
+    )?;
+    Ok(MemoryOperand { base, offset })
 }
 
-/// The offset of a place: a sign and a number without one of its own, or none for 0.
-fn place_offset(text: &[u8]) -> Result<i16, AsmKind>
+/// The offset of a memory operand: a sign and a number without one of its own, or none for 0.
+fn memory_operand_offset(text: &[u8]) -> Result<i16, AsmKind>
     ensures { result ≡ offset_of_text text.now }
 {
     let Some((sign, rest)) = text.split_first() else {

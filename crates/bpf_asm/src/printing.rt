@@ -4,7 +4,7 @@ ghost use Rattle.std.specs.Prelude.{◌≡◌, ◌++◌, [], ◌∷◌, IfOk, On
 ghost use Rattle.std.specs.String.{string_bytes};
 ghost use Rattle.std.specs.Fmt.{decimal, signed_decimal};
 ghost use Rattle.bpf_asm.specs.Operands.{register_text};
-ghost use Rattle.bpf_asm.specs.Printing.{printed, ended_line, source_text, with_sign, place_text, behind_word_text, operands_of, alu_operands};
+ghost use Rattle.bpf_asm.specs.Printing.{printed, ended_line, source_text, with_sign, memory_operand_text, behind_word_text, operands_of, alu_operands};
 
 use crate::form::Form;
 use bpf_decode::{Insn, Reg, Source};
@@ -12,7 +12,7 @@ use bpf_num::AluOp;
 use std::alloc::{AllocError, Global};
 
 /// The text of instructions: a line for each, ended by LF. Numbers are in decimal, targets have a
-/// sign, and places their offset. It is refused only where memory ran out.
+/// sign, and memory operands their offset. It is refused only where memory ran out.
 pub fn print(alloc: Global, code: &[Insn]) -> Result<String, AllocError>
     ensures { IfOk result (λ text. string_bytes text ≡ printed code.now) }
 {
@@ -39,7 +39,7 @@ fn push_operands(alloc: Global, text: &mut String, insn: Insn) -> Result<(), All
         Insn::Swap { dst, .. } => push_register(text, " ", dst),
         Insn::LoadImm { dst, value } => {
             push_register(text, " ", dst)?;
-            push_constant(alloc, text, value)
+            push_wide_immediate(alloc, text, value)
         }
         Insn::Load {
             dst,
@@ -80,10 +80,10 @@ fn push_load(
     base: Reg,
     offset: i16,
 ) -> Result<(), AllocError>
-    ensures { OnOk result (string_bytes text.new ≡ string_bytes text.old ++ behind_word_text (register_text dst ∷ place_text base offset ∷ [])) }
+    ensures { OnOk result (string_bytes text.new ≡ string_bytes text.old ++ behind_word_text (register_text dst ∷ memory_operand_text base offset ∷ [])) }
 {
     push_register(text, " ", dst)?;
-    push_place(alloc, text, ", ", base, offset)
+    push_memory_operand(alloc, text, ", ", base, offset)
 }
 
 fn push_store_number(
@@ -93,9 +93,9 @@ fn push_store_number(
     offset: i16,
     imm: i32,
 ) -> Result<(), AllocError>
-    ensures { OnOk result (string_bytes text.new ≡ string_bytes text.old ++ behind_word_text (place_text base offset ∷ signed_decimal imm ∷ [])) }
+    ensures { OnOk result (string_bytes text.new ≡ string_bytes text.old ++ behind_word_text (memory_operand_text base offset ∷ signed_decimal imm ∷ [])) }
 {
-    push_place(alloc, text, " ", base, offset)?;
+    push_memory_operand(alloc, text, " ", base, offset)?;
     push_number(alloc, text, ", ", imm)
 }
 
@@ -106,9 +106,9 @@ fn push_store(
     offset: i16,
     src: Reg,
 ) -> Result<(), AllocError>
-    ensures { OnOk result (string_bytes text.new ≡ string_bytes text.old ++ behind_word_text (place_text base offset ∷ register_text src ∷ [])) }
+    ensures { OnOk result (string_bytes text.new ≡ string_bytes text.old ++ behind_word_text (memory_operand_text base offset ∷ register_text src ∷ [])) }
 {
-    push_place(alloc, text, " ", base, offset)?;
+    push_memory_operand(alloc, text, " ", base, offset)?;
     push_register(text, ", ", src)
 }
 
@@ -179,13 +179,13 @@ fn push_number(
     text.push_str(&digits)
 }
 
-/// Adds a comma and a constant of 64 bits.
-fn push_constant(alloc: Global, text: &mut String, value: u64) -> Result<(), AllocError>
+/// Adds a comma and a wide immediate.
+fn push_wide_immediate(alloc: Global, text: &mut String, value: u64) -> Result<(), AllocError>
     ensures { OnOk result (string_bytes text.new ≡ string_bytes text.old ++ (44 ∷ 32 ∷ decimal value)) }
 {
     text.push_str(", ")?;
-    let constant = value.to_string(alloc)?;
-    text.push_str(&constant)
+    let wide_immediate = value.to_string(alloc)?;
+    text.push_str(&wide_immediate)
 }
 
 /// Adds `between` and a number with its sign.
@@ -204,15 +204,15 @@ fn push_target(
     push_number(alloc, text, "", offset)
 }
 
-/// Adds `between` and a place in memory.
-fn push_place(
+/// Adds `between` and a memory operand.
+fn push_memory_operand(
     alloc: Global,
     text: &mut String,
     between: &str,
     base: Reg,
     offset: i16,
 ) -> Result<(), AllocError>
-    ensures { OnOk result (string_bytes text.new ≡ string_bytes text.old ++ (between.now ++ place_text base offset)) }
+    ensures { OnOk result (string_bytes text.new ≡ string_bytes text.old ++ (between.now ++ memory_operand_text base offset)) }
 {
     text.push_str(between)?;
     push_register(text, "[", base)?;

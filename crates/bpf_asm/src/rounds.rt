@@ -22,7 +22,7 @@ pub struct Label<'a> {
     slot: u64,
 }
 
-/// Reads an assembler text, or tells its first fault: of the first round over the lines words,
+/// Reads an assembler text, or reports its first fault: of the first round over the lines words,
 /// operands, numbers and labels that are defined twice; only if it finds none, of the second labels
 /// that aren't defined or stand too far away. `Memory` says that memory ran out, and nothing of the text.
 pub fn assemble(alloc: Global, text: &[u8]) -> Result<Vec<Insn>, AsmFault>

@@ -23,7 +23,7 @@ pub(crate) fn text_lines<'a>(alloc: Global, text: &'a [u8]) -> Result<Vec<&'a [u
 }
 
 /// The first line, and what stands behind its end.
-#[tactic(auto, using(crate::proofs::Places::line_ends))]
+#[tactic(auto, using(crate::proofs::Positions::line_ends))]
 fn next_line(text: &[u8]) -> Option<(&[u8], &[u8])>
     ensures cases { MatchOption result (lines text.now ≡ [])
         (λ parts. lines text.now ≡ parts.0.now ∷ lines parts.1.now) }
@@ -107,7 +107,7 @@ pub(crate) fn body_of(line: &[u8]) -> &[u8]
 }
 
 /// The word that a line begins with, and what stands behind it.
-#[tactic(auto, using(crate::proofs::Places::words))]
+#[tactic(auto, using(crate::proofs::Positions::words))]
 pub(crate) fn split_word(body: &[u8]) -> (&[u8], &[u8])
     ensures word { result.0.now ≡ first_word body.now }
     ensures behind { result.1.now ≡ behind_word body.now }
@@ -133,7 +133,7 @@ fn ends_word(byte: u8) -> bool
 }
 
 /// The first of the texts between commas, and what stands behind its comma.
-#[tactic(auto, using(crate::proofs::Places::places))]
+#[tactic(auto, using(crate::proofs::Positions::positions))]
 fn first_piece(text: &[u8]) -> (&[u8], Option<&[u8]>)
     ensures { MatchOption result.1 (pieces text.now ≡ result.0.now ∷ [])
         (λ rest. pieces text.now ≡ result.0.now ∷ pieces rest.now) }
@@ -145,7 +145,7 @@ fn first_piece(text: &[u8]) -> (&[u8], Option<&[u8]>)
 }
 
 /// The last of the operands' texts, or nothing where there is none.
-#[tactic(auto, using(crate::proofs::Places::lasts))]
+#[tactic(auto, using(crate::proofs::Positions::lasts))]
 pub(crate) fn last_operand(text: &[u8]) -> &[u8]
     ensures { result.now ≡ last_text (operand_texts text.now) }
 {
@@ -157,7 +157,7 @@ pub(crate) fn last_operand(text: &[u8]) -> &[u8]
 }
 
 /// What stands behind the first comma.
-#[tactic(auto, using(crate::proofs::Places::lasts))]
+#[tactic(auto, using(crate::proofs::Positions::lasts))]
 fn behind_comma(text: &[u8]) -> Option<&[u8]>
     ensures last { MatchOption result (last_text (pieces text.now) ≡ trim text.now)
         (λ rest. last_text (pieces text.now) ≡ last_text (pieces rest.now)) }
@@ -170,7 +170,7 @@ fn behind_comma(text: &[u8]) -> Option<&[u8]>
 }
 
 /// No operand.
-#[tactic(auto, using(crate::proofs::Places::places))]
+#[tactic(auto, using(crate::proofs::Positions::positions))]
 pub(crate) fn no_operand(text: &[u8]) -> Result<(), AsmKind>
     ensures { result ≡ as_none (operand_texts text.now) }
 {
@@ -182,7 +182,7 @@ pub(crate) fn no_operand(text: &[u8]) -> Result<(), AsmKind>
 }
 
 /// The one operand, or `Operand` where there is another number of them.
-#[tactic(auto, using(crate::proofs::Places::places))]
+#[tactic(auto, using(crate::proofs::Positions::positions))]
 pub(crate) fn one_operand(text: &[u8]) -> Result<&[u8], AsmKind>
     ensures { MatchResult result (λ a. as_one (operand_texts text.now) ≡ Ok a.now)
         (λ e. as_one (operand_texts text.now) ≡ Err e) }
@@ -197,7 +197,7 @@ pub(crate) fn one_operand(text: &[u8]) -> Result<&[u8], AsmKind>
 }
 
 /// The two operands, or `Operand` where there is another number of them.
-#[tactic(auto, using(crate::proofs::Places::places))]
+#[tactic(auto, using(crate::proofs::Positions::positions))]
 pub(crate) fn two_operands(text: &[u8]) -> Result<(&[u8], &[u8]), AsmKind>
     ensures { MatchResult result (λ p. as_two (operand_texts text.now) ≡ Ok (p.0.now, p.1.now))
         (λ e. as_two (operand_texts text.now) ≡ Err e) }
@@ -212,7 +212,7 @@ pub(crate) fn two_operands(text: &[u8]) -> Result<(&[u8], &[u8]), AsmKind>
 }
 
 /// The three operands, or `Operand` where there is another number of them.
-#[tactic(auto, using(crate::proofs::Places::places))]
+#[tactic(auto, using(crate::proofs::Positions::positions))]
 pub(crate) fn three_operands(text: &[u8]) -> Result<(&[u8], &[u8], &[u8]), AsmKind>
     ensures { MatchResult result
         (λ p. as_three (operand_texts text.now) ≡ Ok (p.0.now, p.1.now, p.2.now))

@@ -1,4 +1,4 @@
--- The place where a test first passes, as `position` tells it, and the parts of a text that is cut there.
+-- The position where a test first passes, as `position` returns it, and the parts of a text that is cut there.
 use Rattle.std.proofs.Common.{◌≡◌, ℕ, ◌<◌, ◌≤◌, ◌+◌, ◌-◌, length-drop, Bool, true, false, cond, not, List, [], ◌∷◌, length, drop, take, map, Some, None, ap, sym, ◌∙◌, refl, suc, arith, nat_lt, ◌==◌}
 use Rattle.std.specs.List.{position, position_or_len, slice_split, onto_first, before_first}
 use Rattle.std.proofs.lemmas.List.Splits.{slice_split_first}
@@ -153,7 +153,7 @@ lines_none t h ne =
     by_test true k = absurd (k refl)
     by_test false k = refl
 
--- The same of a slice from behind the place to the end.
+-- The same of a slice from behind the position to the end.
 tail_is : (t : List ℕ) (n : ℕ) → take (length t - n) (drop n t) ≡ drop n t
 tail_is t n = take_all (length t - n) (drop n t) (omega (arith, length-drop {A = ℕ}))
 
@@ -172,7 +172,7 @@ behind_cut t k h = behind_some t k h ∙ ap trim (sym (tail_is t k))
 pub behind_end : (t : List ℕ) → position ends_word t ≡ None → behind_word t ≡ trim (take (length t - length t) (drop (length t) t))
 behind_end t h = behind_none t h ∙ ap trim (sym (tail_is t (length t)))
 
-pub ruleset places = (pieces_none, pieces_cut, none_wanted, one_wanted, two_wanted, three_wanted)
+pub ruleset positions = (pieces_none, pieces_cut, none_wanted, one_wanted, two_wanted, three_wanted)
 
 pub ruleset lasts = (last_cut, last_none, last_is)
 
