@@ -40,18 +40,18 @@ pub fn config(alloc: Global, replicas: &[Signer], key: [u8; 56]) -> Result<Arc<C
 }
 
 /// Replica, view, client, time, number and result of a Reply.
-pub type Told = (u8, u32, u32, u64, u8, u8);
+pub type ReplyFields = (u8, u32, u32, u64, u8, u8);
 
 /// The checked Reply of a replica.
 pub fn reply(
     alloc: Global,
     config: &Arc<Config>,
     replicas: &mut [Signer],
-    told: &Told,
+    fields: &ReplyFields,
 ) -> Result<Checked, Fail>
     ensures { IfOk result (λ c. c.config ≡ config.now.value) }
 {
-    let (replica, view, client, time, number, result) = *told;
+    let (replica, view, client, time, number, result) = *fields;
     let unsigned = Signed {
         role: Role::Replica,
         id: u32::from(replica),

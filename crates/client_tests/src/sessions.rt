@@ -1,6 +1,6 @@
 ghost use Rattle.std.specs.Prelude.{◌≡◌, ◌<◌, IfOk};
 
-use crate::messages::{Told, config, reply, signer, signers};
+use crate::messages::{ReplyFields, config, reply, signer, signers};
 use host_client::{Session, SessionFault};
 use host_types::{Bytes, ClientId, Config};
 use lms_tree::Signer;
@@ -44,7 +44,7 @@ fn is_request(message: &Checked, time: u64) -> bool {
     is_body && message.signer() == (Role::Client, 16)
 }
 
-// Makes requests up to the one of this time, and tells whether they are of the times from 1 on.
+// Makes requests up to the one of this time, and returns whether they are of the times from 1 on.
 fn ask_up_to(alloc: Global, session: &mut Session, last: u64) -> Result<bool, Fail>
     requires { last < 100 }
     ensures { session.new.config ≡ session.old.config }
@@ -74,34 +74,34 @@ fn offer(session: &mut Session, message: &Checked) -> Result<(), SessionFault>
     session.offer(message)
 }
 
-// Offers the replies one after another, and tells whether what is accepted after each is what its row says.
+// Offers the replies one after another, and returns whether what is accepted after each is what its row says.
 fn answers(
     alloc: Global,
     config: &Arc<Config>,
     replicas: &mut [Signer],
     session: &mut Session,
-    rows: &[(Told, Option<bool>)],
+    rows: &[(ReplyFields, Option<bool>)],
 ) -> Result<bool, Fail>
     requires { session.old.config ≡ config.now.value }
     ensures { session.new.config ≡ config.now.value }
 {
     let mut right = true;
-    for (told, accepted) in rows {
-        let message = reply(alloc, config, replicas, told)?;
+    for (fields, accepted) in rows {
+        let message = reply(alloc, config, replicas, fields)?;
         offer(session, &message)?;
-        right = right && accepts(session, told.3) == *accepted;
+        right = right && accepts(session, fields.3) == *accepted;
     }
     Ok(right)
 }
 
 // Replies at time 0, which no request has.
-static EARLY: [(Told, Option<bool>); 2] = [
+static EARLY: [(ReplyFields, Option<bool>); 2] = [
     ((0, 0, 16, 0, 5, 7), None),
     ((1, 0, 16, 0, 5, 7), None),
 ];
 
 // Replica, view, client, time, number and result of a Reply; what is accepted then.
-static LATER: [(Told, Option<bool>); 9] = [
+static LATER: [(ReplyFields, Option<bool>); 9] = [
     ((0, 0, 17, 2, 5, 7), None),
     ((3, 0, 16, 1, 5, 7), None),
     ((1, 0, 16, 2, 5, 7), None),
@@ -129,9 +129,9 @@ fn what_2_replicas_reply_is_accepted(rt: HostRuntime) -> Result<(), Fail> {
     Ok(())
 }
 
-static FIRST: [(Told, Option<bool>); 1] = [((2, 0, 16, 32, 5, 7), None)];
+static FIRST: [(ReplyFields, Option<bool>); 1] = [((2, 0, 16, 32, 5, 7), None)];
 
-static SECOND: [(Told, Option<bool>); 1] = [((3, 0, 16, 32, 5, 7), Some(true))];
+static SECOND: [(ReplyFields, Option<bool>); 1] = [((3, 0, 16, 32, 5, 7), Some(true))];
 
 #[test]
 fn a_refused_request_leaves_the_open_one(rt: HostRuntime) -> Result<(), Fail> {

@@ -19,7 +19,7 @@ const A_LEAF_TOO_FEW: Scenario = Scenario {
     ",
 };
 
-// With three leaves it opens the view. What takes no leaf goes on; what takes one stops it.
+// With three leaves it opens the view. What takes no leaf continues; what takes one stops it.
 const THE_LAST_LEAF: Scenario = Scenario {
     replica: 1,
     leaves: 3,

@@ -92,7 +92,7 @@ fn late_checkpoints(net: &mut Net) -> Result<Vec<Checked>, Fail> {
 }
 
 // Replica 0 hears of the Checkpoints, and fetches the state.
-fn tell_0(net: &mut Net, late: &[Checked]) -> Result<(), Fail> {
+fn report_0(net: &mut Net, late: &[Checked]) -> Result<(), Fail> {
     net.cut_off = None;
     for message in late {
         net.post(0, message)?;
@@ -106,7 +106,7 @@ fn catch_up(rt: &impl Abort, net: &mut Net) -> Result<(), Fail> {
     assert_eq!(rt; net.stands(0), Some((0, true, 0, 0)));
     let late = late_checkpoints(net)?;
     assert_eq!(rt; late.len(), 3);
-    tell_0(net, &late)?;
+    report_0(net, &late)?;
     assert_eq!(rt; net.stands(0), Some((0, true, 2, 2)));
     assert!(rt; net.all_stand(1, (1, true, 2, 2)));
     assert!(rt; net.has_one_state());

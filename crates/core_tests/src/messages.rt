@@ -58,8 +58,8 @@ impl Scene {
     // ---- votes
 
     fn pre_prepare(&self, said: &str) -> Result<PrePrepare, Fail> {
-        let (place, name) = halves(said, " ")?;
-        let (view, number) = halves(place, "/")?;
+        let (position, name) = halves(said, " ")?;
+        let (view, number) = halves(position, "/")?;
         Ok(PrePrepare {
             view: View(view.parse()?),
             number: SeqNo(number.parse()?),

@@ -3,7 +3,7 @@
 use crate::script::{Scenario, play_all};
 use std::test::Fail;
 
-// A backup, replica 1, tells what was prepared, with the Prepares; and again for the view after that.
+// A backup, replica 1, reports what was prepared, with the Prepares; and again for the view after that.
 const TIMEOUT: Scenario = Scenario {
     replica: 1,
     leaves: 32,

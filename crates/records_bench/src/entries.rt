@@ -71,7 +71,7 @@ fn note(table: &mut Checkpoints, message: &Checked) -> Result<()>
 }
 
 /// Records the Checkpoints in a message, as a replica does with those of a NewView that is valid, and
-/// tells how many there are.
+/// returns how many there are.
 pub(crate) fn record(alloc: Global, table: &mut Checkpoints, message: &Checked) -> Result<usize>
     requires { message.now.config ≡ table.old.config }
 {

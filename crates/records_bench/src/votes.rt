@@ -81,7 +81,7 @@ fn record_one(log: &mut QuorumLog, message: &Checked) -> Result<bool>
     Ok(is_prepared && is_committed)
 }
 
-/// Records votes, and tells after how many of them the number was committed.
+/// Records votes, and returns after how many of them the number was committed.
 pub(crate) fn record(log: &mut QuorumLog, votes: &CheckedList) -> Result<u32>
     requires { votes.now.config ≡ log.old.config }
 {

@@ -3,7 +3,7 @@
 use seal::Checked;
 use std::alloc::Global;
 
-/// What was delivered to a replica, and what the replicas signed and told the clients, in order.
+/// What was delivered to a replica, and what the replicas signed and answered the clients, in order.
 #[derive(Drop)]
 pub(crate) struct Traffic {
     /// One for each message and each replica that opened it.

@@ -4,7 +4,7 @@ use quorum_log::LogFault;
 use seal::{Vote, VoteKind};
 use std::alloc::{AllocError, Global};
 
-/// The votes that were accepted, in order, each with the place of its message in a pool. There are four
+/// The votes that were accepted, in order, each with the position of its message in a pool. There are four
 /// replicas, of which one may be faulty, and two numbers lie between the marks.
 #[derive(Drop)]
 pub struct FlatLog {
@@ -24,7 +24,7 @@ impl FlatLog {
         }
     }
 
-    pub fn accept(&mut self, vote: &Vote, place: usize) -> Result<(), LogFault> {
+    pub fn accept(&mut self, vote: &Vote, position: usize) -> Result<(), LogFault> {
         if vote.view.0 < self.view {
             return Err(LogFault::WrongView);
         }
@@ -34,12 +34,12 @@ impl FlatLog {
         match self.votes.iter().find(|(first, _)| is_alike(first, vote)) {
             Some((first, _)) if first.digest == vote.digest => Ok(()),
             Some(_) => Err(LogFault::OtherDigest),
-            None => Ok(self.record(vote, place)?),
+            None => Ok(self.record(vote, position)?),
         }
     }
 
-    fn record(&mut self, vote: &Vote, place: usize) -> Result<(), AllocError> {
-        self.votes.push((*vote, place))?;
+    fn record(&mut self, vote: &Vote, position: usize) -> Result<(), AllocError> {
+        self.votes.push((*vote, position))?;
         Ok(())
     }
 
@@ -52,7 +52,7 @@ impl FlatLog {
         above_floor && number > self.low && number - self.low <= 2
     }
 
-    /// The vote of this kind and signer, with its place.
+    /// The vote of this kind and signer, with its position.
     fn find(&self, kind: VoteKind, view: u32, number: u64, signer: u8) -> Option<&(Vote, usize)> {
         self.votes.iter().find(|(vote, _)| {
             vote.kind == kind
@@ -62,7 +62,7 @@ impl FlatLog {
         })
     }
 
-    /// The places of the PrePrepare and of the Prepares that match it, signers ascending.
+    /// The positions of the PrePrepare and of the Prepares that match it, signers ascending.
     pub fn matching(
         &self,
         alloc: Global,
@@ -70,20 +70,20 @@ impl FlatLog {
         view: u32,
         number: u64,
     ) -> Result<Vec<usize>, AllocError> {
-        let mut places = Vec::new(alloc);
+        let mut positions = Vec::new(alloc);
         let leader = (view % 4) as u8;
-        let Some((proposal, place)) = self.find(VoteKind::PrePrepare, view, number, leader) else {
-            return Ok(places);
+        let Some((proposal, position)) = self.find(VoteKind::PrePrepare, view, number, leader) else {
+            return Ok(positions);
         };
-        places.push(*place)?;
+        positions.push(*position)?;
         for signer in 0..4u8 {
-            if let Some((vote, place)) = self.find(kind, view, number, signer) {
+            if let Some((vote, position)) = self.find(kind, view, number, signer) {
                 if vote.digest == proposal.digest {
-                    places.push(*place)?;
+                    positions.push(*position)?;
                 }
             }
         }
-        Ok(places)
+        Ok(positions)
     }
 
     pub fn leave(&mut self, view: u32) {
@@ -107,9 +107,9 @@ impl FlatLog {
         });
         self.view = view;
         self.floor = Some(floor);
-        for (vote, place) in given {
+        for (vote, position) in given {
             if self.is_within(vote) {
-                self.votes.push((*vote, *place))?;
+                self.votes.push((*vote, *position))?;
             }
         }
         Ok(())

@@ -17,7 +17,7 @@ mod sealing;
 #[cfg(test)]
 mod stable;
 #[cfg(test)]
-mod telling;
+mod answers;
 #[cfg(test)]
 mod view_changes;
 #[cfg(test)]

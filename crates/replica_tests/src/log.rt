@@ -52,11 +52,11 @@ fn put(pool: &mut CheckedList, message: Checked) -> Result<(), AllocError>
     pool.push(message)
 }
 
-// The message at a place of the pool.
-fn at(pool: &CheckedList, place: usize) -> Option<&Checked>
+// The message at a position of the pool.
+fn at(pool: &CheckedList, position: usize) -> Option<&Checked>
     ensures { IfSome (option_copied result) (λ m. m.config ≡ pool.now.config) }
 {
-    pool.as_slice().get(place)
+    pool.as_slice().get(position)
 }
 
 fn is_proposal(message: &Checked, view: u32, number: u64) -> bool
@@ -71,29 +71,29 @@ fn is_proposal(message: &Checked, view: u32, number: u64) -> bool
     }
 }
 
-// The PrePrepares at these places that follow one another, for the numbers above the floor.
+// The PrePrepares at these positions that follow one another, for the numbers above the floor.
 fn opening(
     alloc: Global,
     config: &Arc<Config>,
     pool: &CheckedList,
     view: u32,
     floor: u64,
-    places: &[usize],
+    positions: &[usize],
 ) -> Result<(CheckedList, Vec<(Vote, usize)>), Fail>
     requires config { pool.now.config ≡ config.now.value }
     requires floor { floor < 3 }
-    requires few { length places.now ≤ 4 }
+    requires few { length positions.now ≤ 4 }
     ensures config { IfOk result (λ r. r.0.config ≡ config.now.value) }
     ensures proposals { IfOk result (λ r. AreProposals view (floor + 1) r.0.messages) }
-    ensures few { IfOk result (λ r. length r.0.messages ≤ length places.now) }
+    ensures few { IfOk result (λ r. length r.0.messages ≤ length positions.now) }
 {
     let mut list = CheckedList::new(alloc, config)?;
     let mut given = Vec::new(alloc);
-    for place in places {
-        if let Some(message) = at(pool, *place) {
+    for position in positions {
+        if let Some(message) = at(pool, *position) {
             if add(&mut list, message, view, floor)? {
                 if let Some(vote) = message.vote() {
-                    given.push((vote, *place))?;
+                    given.push((vote, *position))?;
                 }
             }
         }
@@ -126,7 +126,7 @@ struct Seen {
     entered: bool,
 }
 
-// Takes what was drawn to both logs, and tells whether they answer the same.
+// Takes what was drawn to both logs, and returns whether they answer the same.
 fn both(
     alloc: Global,
     config: &Arc<Config>,
@@ -140,7 +140,7 @@ fn both(
     requires log { log.old.config ≡ config.now.value }
     ensures { IfOk result (λ r. log.new.config ≡ config.now.value) }
 {
-    let place = (drawn >> 8) as usize % 64;
+    let position = (drawn >> 8) as usize % 64;
     let number = u64::from(drawn >> 4 & 3) % 3;
     let view = drawn >> 6 & 1;
     match drawn & 15 {
@@ -153,18 +153,18 @@ fn both(
             flat.leave(view);
         }
         2 if view >= log.view().0 => {
-            let places = [place % 12, place % 11, place % 9, place % 7];
-            let (list, given) = opening(alloc, config, pool, view, number, &places)?;
+            let positions = [position % 12, position % 11, position % 9, position % 7];
+            let (list, given) = opening(alloc, config, pool, view, number, &positions)?;
             log.enter(View(view), SeqNo(number), &list)?;
             flat.enter(view, number, number + given.len() as u64, &given)?;
             seen.entered |= !given.is_empty();
         }
         _ => {
-            if let Some(message) = at(pool, place) {
+            if let Some(message) = at(pool, position) {
                 if let Some(vote) = message.vote() {
                     let answer = log.accept(message);
                     seen.other_digest |= answer == Err(LogFault::OtherDigest);
-                    return Ok(answer == flat.accept(&vote, place));
+                    return Ok(answer == flat.accept(&vote, position));
                 }
             }
         }
@@ -172,16 +172,16 @@ fn both(
     Ok(true)
 }
 
-// Whether the certificate is made of the messages at these places.
+// Whether the certificate is made of the messages at these positions.
 fn is_made_of(
     certificate: &Option<CheckedCertificate>,
     pool: &CheckedList,
-    places: &[usize],
+    positions: &[usize],
 ) -> bool {
     let Some(certificate) = certificate else {
-        return places.len() < 3;
+        return positions.len() < 3;
     };
-    let Some((first, rest)) = places.split_first() else {
+    let Some((first, rest)) = positions.split_first() else {
         return false;
     };
     let Some(proposal) = at(pool, *first) else {
@@ -193,10 +193,10 @@ fn is_made_of(
         && are_at(certificate.prepares.as_slice(), pool, rest)
 }
 
-fn are_at(messages: &[Checked], pool: &CheckedList, places: &[usize]) -> bool {
+fn are_at(messages: &[Checked], pool: &CheckedList, positions: &[usize]) -> bool {
     for index in 0..messages.len() {
-        let same = match places.get(index) {
-            Some(place) => at(pool, *place).map(|m| m.bytes()) == Some(messages[index].bytes()),
+        let same = match positions.get(index) {
+            Some(position) => at(pool, *position).map(|m| m.bytes()) == Some(messages[index].bytes()),
             None => false,
         };
         if !same {
@@ -219,7 +219,7 @@ fn agree(
     let prepares = flat.matching(alloc, VoteKind::Prepare, view, number)?;
     let commits = flat.matching(alloc, VoteKind::Commit, view, number)?;
     let proposal = match prepares.get(0) {
-        Some(place) => at(pool, *place).and_then(|message| message.vote()),
+        Some(position) => at(pool, *position).and_then(|message| message.vote()),
         None => None,
     };
     let prepared = prepares.len() >= 3;

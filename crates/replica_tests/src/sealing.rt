@@ -18,9 +18,9 @@ fn votes_and_lists_of_messages(rt: HostRuntime) -> Result<(), Fail> {
     let alloc = rt.alloc();
     let mut signers = signers(alloc, 5)?;
     let config = config(alloc, &signers)?;
-    for (id, kind, digest, told) in &VOTES {
+    for (id, kind, digest, answer) in &VOTES {
         let message = vote(alloc, &config, &mut signers, *id, *kind, *digest)?;
-        let expected = match told {
+        let expected = match answer {
             None => None,
             Some(kind) => Some(Vote {
                 kind: *kind,

@@ -53,7 +53,7 @@ static NOTES: [Row; 8] = [
     (0, 0, 7, Some(CheckpointFault::Old), Some(7)),
 ];
 
-// Notes these Checkpoints one after another, and tells whether each answer and the stable digest are
+// Notes these Checkpoints one after another, and returns whether each answer and the stable digest are
 // as they must be.
 fn answers(
     alloc: Global,
@@ -66,7 +66,7 @@ fn answers(
     ensures { kept.new.config ≡ config.now.value }
 {
     let mut right = true;
-    for (id, number, digest, fault, told) in rows {
+    for (id, number, digest, fault, answer) in rows {
         if *number < 100 {
             let message = checkpoint(
                 alloc,
@@ -76,7 +76,7 @@ fn answers(
                 SeqNo(*number),
                 Digest([*digest; 32]),
             )?;
-            right = right && note(kept, &message) == *fault && stable(kept, 2) == *told;
+            right = right && note(kept, &message) == *fault && stable(kept, 2) == *answer;
         }
     }
     Ok(right)

@@ -97,7 +97,7 @@ pub fn signed<B: MessageBody>(
     })
 }
 
-fn put_counted(out: &mut Vec<u8>, bytes: &[u8]) -> Result<(), AllocError> {
+fn put_length_prefixed(out: &mut Vec<u8>, bytes: &[u8]) -> Result<(), AllocError> {
     out.extend_from_slice(&((bytes.len() % (1 << 32)) as u32).to_be_bytes())?;
     out.extend_from_slice(bytes)
 }
@@ -115,8 +115,8 @@ pub fn checked(
     let (text, signature) = sign(alloc, signers, id, body)?;
     let (signer, said) = text.split_at(text.len().min(5));
     let mut bytes = Vec::from_slice(alloc, signer)?;
-    put_counted(&mut bytes, said)?;
-    put_counted(&mut bytes, &signature)?;
+    put_length_prefixed(&mut bytes, said)?;
+    put_length_prefixed(&mut bytes, &signature)?;
     Ok(open(alloc, config, &bytes)?)
 }
 

@@ -40,7 +40,7 @@ impl FlatVotes {
     }
 }
 
-// Whether both have the same message of each replica, and as many for the digest, of which `many` are told.
+// Whether both have the same message of each replica, and as many for the digest, of which `many` are returned.
 fn agree(votes: &Votes, flat: &FlatVotes, digest: &Digest) -> bool {
     for signer in 0..10u8 {
         let one = votes.get(ReplicaId(signer)).map(|message| message.bytes());

@@ -382,7 +382,7 @@ fn worked_instructions(rt: HostRuntime) -> Result<(), Fail> {
         &[0x1803_0000_feff_ffff, 0x0000_0000_0100_0080],
         insn,
     )?;
-    assert!(rt; found, "a constant of 64 bits");
+    assert!(rt; found, "a wide immediate");
     Ok(())
 }
 

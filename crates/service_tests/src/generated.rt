@@ -84,12 +84,12 @@ fn step(alloc: Global, state: &mut State, numbers: &mut Numbers) -> Result<(), F
     Ok(())
 }
 
-/// The bytes with another one at a place that a generator gives.
+/// The bytes with another one at an offset that a generator gives.
 fn changed(alloc: Global, bytes: &[u8], numbers: &mut Numbers) -> Result<Vec<u8>, AllocError> {
-    let place = numbers.below(1 << 24) as usize % bytes.len().max(1);
-    let old = bytes.get(place).copied().unwrap_or(0);
+    let offset = numbers.below(1 << 24) as usize % bytes.len().max(1);
+    let old = bytes.get(offset).copied().unwrap_or(0);
     let by = 1 + numbers.below(255) as u8;
-    with_byte(alloc, bytes, place, old.wrapping_add(by))
+    with_byte(alloc, bytes, offset, old.wrapping_add(by))
 }
 
 /// 1,000 states: ten times a hundred requests from the first state on.

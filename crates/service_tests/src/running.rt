@@ -173,7 +173,7 @@ const EXIT: u64 = 0x9500_0000_0000_0000;
 fn arithmetic_of_every_kind(rt: HostRuntime) -> Result<(), Fail> {
     let rows = [
         (
-            "a wide constant takes one step",
+            "a wide immediate takes one step",
             [0x1800_0000_8877_6655u64, 0x0000_0000_4433_2211, EXIT, EXIT],
             0x1122_3344_5566_7788u64,
             2u32,

@@ -227,15 +227,15 @@ const EDITS: &[Edit] = &[
     ("a key out of order", false, (292, 3), (0, 0), &[], 0),
 ];
 
-/// The bytes with another one at a place.
+/// The bytes with another one at an offset.
 pub(crate) fn with_byte(
     alloc: Global,
     bytes: &[u8],
-    place: usize,
+    offset: usize,
     byte: u8,
 ) -> Result<Vec<u8>, AllocError> {
     let mut changed = bytes.to_vec(alloc)?;
-    if let Some(old) = changed.get_mut(place) {
+    if let Some(old) = changed.get_mut(offset) {
         *old = byte;
     }
     Ok(changed)
@@ -261,8 +261,8 @@ fn spliced(
 
 /// The bytes of a state that an edit changes.
 pub(crate) fn edited(alloc: Global, bytes: &[u8], edit: &Edit) -> Result<Vec<u8>, Fail> {
-    let (_, _, (place, byte), range, piece, times) = *edit;
-    let changed = with_byte(alloc, bytes, place, byte)?;
+    let (_, _, (offset, byte), range, piece, times) = *edit;
+    let changed = with_byte(alloc, bytes, offset, byte)?;
     spliced(alloc, &changed, range, piece, times)
 }
 
@@ -328,8 +328,8 @@ fn states_near<R: Abort + AllocGlobal>(
     let mut states = 0u32;
     for step in 0..tries {
         drawn = next(drawn);
-        let place = (step / 8) as usize;
-        let changed = with_byte(rt.alloc(), bytes, place, (drawn >> 24) as u8)?;
+        let offset = (step / 8) as usize;
+        let changed = with_byte(rt.alloc(), bytes, offset, (drawn >> 24) as u8)?;
         if is_exact(rt, config, &changed)? {
             states = states.saturating_add(1);
         }

@@ -375,7 +375,7 @@ fn refused_jumps(rt: HostRuntime) -> Result<(), Fail> {
         ),
         ("no exit", &[R0_IS_0], VerifyFault::FallsOffEnd, 0),
         (
-            "a constant of two slots ends the code",
+            "a wide immediate ends the code",
             &[0x1800_0000_0100_0000, 0x0000_0000_0000_0000],
             VerifyFault::FallsOffEnd,
             0,
@@ -508,7 +508,7 @@ fn bounds(rt: HostRuntime) -> Result<(), Fail> {
             5,
         ),
         (
-            "a constant of two slots",
+            "a wide immediate",
             &[0x1800_0000_0100_0000, 0x0000_0000_0000_0000, EXIT],
             2,
         ),

@@ -11,7 +11,7 @@ const QUEUE: u64 = 256 * 1024;
 /// What a delivery that a replica takes may keep, in bytes.
 const ROW: u64 = 16 * 1024;
 
-/// The most memory that this process has had in use, in KiB, as Linux tells it.
+/// The most memory that this process has had in use, in KiB, as Linux reports it.
 fn peak(rt: &HostRuntime) -> Result<u64> {
     let text = fs::read_to_string(rt, "/proc/self/status")?;
     for line in text.lines() {
@@ -20,7 +20,7 @@ fn peak(rt: &HostRuntime) -> Result<u64> {
             return Ok(number.parse::<u64>()?);
         }
     }
-    Err(anyhow!("the system tells no peak"))
+    Err(anyhow!("the system reports no peak"))
 }
 
 /// Prints a size, and says whether it is within its limit.

@@ -35,7 +35,7 @@ const DELIVERIES: u32 = 1000;
 /// What a delivery to who opens it may cost, in thousandths of an opening.
 const OPENING: u128 = 1500;
 
-/// The same of bytes that are refused: they are opened once more to tell why.
+/// The same of bytes that are refused: they are opened once more to report why.
 const REFUSING: u128 = 2500;
 
 /// The same of deliveries to a faulty replica.

@@ -151,7 +151,7 @@ fn request_at(alloc: Global, client: &mut Signer, time: u64, op: &[u8]) -> Resul
     signed(alloc, client, Role::Client, CLIENT, body)
 }
 
-fn put_counted(out: &mut Vec<u8>, bytes: &[u8]) -> Result<(), AllocError> {
+fn put_length_prefixed(out: &mut Vec<u8>, bytes: &[u8]) -> Result<(), AllocError> {
     out.extend_from_slice(&((bytes.len() % (1 << 32)) as u32).to_be_bytes())?;
     out.extend_from_slice(bytes)
 }
@@ -173,7 +173,7 @@ fn signed(
     let text = signed_bytes(alloc, &unsigned)?;
     let (head, said) = text.split_at(text.len().min(5));
     let mut bytes = Vec::from_slice(alloc, head)?;
-    put_counted(&mut bytes, said)?;
-    put_counted(&mut bytes, &signer.sign(&text)?)?;
+    put_length_prefixed(&mut bytes, said)?;
+    put_length_prefixed(&mut bytes, &signer.sign(&text)?)?;
     Ok(bytes)
 }

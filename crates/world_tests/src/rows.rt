@@ -1,4 +1,4 @@
-//! What replicas did, in words, and whether two reports tell the same.
+//! What replicas did, in words, and whether two reports are the same.
 
 use byz_world::{Outcome, Report, WorldFault};
 use pbft_codec::Body;
@@ -101,7 +101,7 @@ fn are_same_done(one: &Done, other: &Done) -> bool {
     }
 }
 
-// Whether two rows tell the same.
+// Whether two rows report the same.
 fn are_same_rows(one: &Row, other: &Row) -> bool {
     let (outputs, others) = (one.outputs(), other.outputs());
     let (done, others_done) = (one.done(), other.done());
@@ -129,7 +129,7 @@ fn are_same_outcomes(one: &Outcome, other: &Outcome) -> bool {
             .all(|(one, other)| are_same_rows(one, other))
 }
 
-/// Whether two reports tell the same.
+/// Whether two reports are the same.
 pub fn are_same(one: &Report, other: &Report) -> bool {
     let (one, other) = (one.outcomes(), other.outcomes());
     one.len() == other.len()

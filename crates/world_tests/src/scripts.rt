@@ -7,7 +7,7 @@
 //!     stands 2         => view 0 active low 0 executed 1
 //!
 //! `give 0.1 to 2` forwards output 1 of replica 0 to replica 2; `bytes` are no message. On the right: the
-//! kinds of the row's messages and what it did, or the fault. `stands` is no event: it tells a status.
+//! kinds of the row's messages and what it did, or the fault. `stands` is no event: it reports a status.
 
 use crate::group::Group;
 use crate::rows::answer_text;

@@ -1,4 +1,4 @@
-//! What tables and messages tell, and the NewView that is made of checked messages.
+//! What tables and messages answer, and the NewView that is made of checked messages.
 
 ghost use Rattle.std.specs.Prelude.{◌≡◌, ◌<◌, IfOk};
 
@@ -62,7 +62,7 @@ fn accept(log: &mut QuorumLog, message: &Checked) -> bool
 }
 
 #[test]
-fn a_log_tells_names_and_numbers(rt: HostRuntime) -> Result<(), Fail> {
+fn a_log_reports_names_and_numbers(rt: HostRuntime) -> Result<(), Fail> {
     let alloc = rt.alloc();
     let mut signers = signers(alloc, 9)?;
     let config = config(alloc, &signers)?;
@@ -190,7 +190,7 @@ fn three_changes(
 }
 
 #[test]
-fn a_new_view_is_made_and_told(rt: HostRuntime) -> Result<(), Fail> {
+fn a_new_view_is_made_and_reported(rt: HostRuntime) -> Result<(), Fail> {
     let alloc = rt.alloc();
     let (mut signers, config) = replicas(alloc, 12)?;
     let changes = three_changes(alloc, &config, &mut signers)?;
@@ -207,7 +207,7 @@ fn a_new_view_is_made_and_told(rt: HostRuntime) -> Result<(), Fail> {
 }
 
 #[test]
-fn the_messages_inside_are_told(rt: HostRuntime) -> Result<(), Fail> {
+fn the_nested_messages_are_reported(rt: HostRuntime) -> Result<(), Fail> {
     let alloc = rt.alloc();
     let (mut signers, config) = replicas(alloc, 13)?;
     let entry = new_view_of(alloc, &mut signers, &ENTRY)?;
