@@ -28,14 +28,14 @@ struct ends {
 };
 
 /* The name of the key of a queue's number i. */
-static u64 place(u32 queue, u64 i)
+static u64 position(u32 queue, u64 i)
 {
     return ((u64)queue << 32) | (i % 0xffffffff + 1);
 }
 
 FUNCTION u64 push(const struct arguments *arguments, struct ends *ends)
 {
-    struct key key = { "queue", place(arguments->name, ends->behind) };
+    struct key key = { "queue", position(arguments->name, ends->behind) };
     struct value value = { { arguments->number } };
 
     if (len() > MAX_ENTRIES - 2)
@@ -49,7 +49,7 @@ FUNCTION u64 push(const struct arguments *arguments, struct ends *ends)
 
 FUNCTION u64 pop(const struct arguments *arguments, struct ends *ends)
 {
-    struct key key = { "queue", place(arguments->name, ends->first) };
+    struct key key = { "queue", position(arguments->name, ends->first) };
     struct value value;
 
     if (ends->first == ends->behind)
