@@ -9,21 +9,21 @@ use Rattle.host_types.specs.declared.config.ClientEntry.{ClientEntry}
 use Rattle.host_types.specs.Configuration.{insert_sorted}
 
 module _ {X : Type 0} (number : X → ℕ) where
-  -- how many stand before the place of t
+  -- how many are before the index of t
   abbrev pub index_of : X → List X → ℕ
   index_of t us = length (take_while (λ u. ltb (number u) (number t)) us)
 
-  place-cons : (t u : X) (us : List X) → index_of t (u ∷ us) ≡ cond (ltb (number u) (number t)) (suc (index_of t us)) 0
-  place-cons t u us = ap length (take_while-cons (λ (v : X). ltb (number v) (number t)) u us) ∙ cases (ltb (number u) (number t)) where
+  index-cons : (t u : X) (us : List X) → index_of t (u ∷ us) ≡ cond (ltb (number u) (number t)) (suc (index_of t us)) 0
+  index-cons t u us = ap length (take_while-cons (λ (v : X). ltb (number v) (number t)) u us) ∙ cases (ltb (number u) (number t)) where
     cases : (b : Bool) → length (cond b (u ∷ take_while (λ v. ltb (number v) (number t)) us) []) ≡ cond b (suc (index_of t us)) 0
     cases true = refl
     cases false = refl
 
-  place_after : (t u : X) (us : List X) → (number u) < (number t) → index_of t (u ∷ us) ≡ suc (index_of t us)
-  place_after t u us h = place-cons t u us ∙ ap (λ (b : Bool). cond b (suc (index_of t us)) 0) (lt-ltb (number u) (number t) h)
+  index_after : (t u : X) (us : List X) → (number u) < (number t) → index_of t (u ∷ us) ≡ suc (index_of t us)
+  index_after t u us h = index-cons t u us ∙ ap (λ (b : Bool). cond b (suc (index_of t us)) 0) (lt-ltb (number u) (number t) h)
 
-  place_first : (t u : X) (us : List X) → (number t) ≤ (number u) → let none : ℕ = 0 in index_of t (u ∷ us) ≡ none
-  place_first t u us h = place-cons t u us ∙ ap (λ (b : Bool). cond b (suc (index_of t us)) 0) (le-ltb (number u) (number t) h)
+  index_first : (t u : X) (us : List X) → (number t) ≤ (number u) → let none : ℕ = 0 in index_of t (u ∷ us) ≡ none
+  index_first t u us h = index-cons t u us ∙ ap (λ (b : Bool). cond b (suc (index_of t us)) 0) (le-ltb (number u) (number t) h)
 
   pub insert_sorted_after : (t u : X) (us : List X) → (number u) < (number t) → insert_sorted number t (u ∷ us) ≡ u ∷ insert_sorted number t us
   insert_sorted_after t u us h =
@@ -38,15 +38,15 @@ module _ {X : Type 0} (number : X → ℕ) where
   pub insert_sorted_before : (t u : X) (us : List X) → (number t) < (number u) → insert_sorted number t (u ∷ us) ≡ t ∷ u ∷ us
   insert_sorted_before t u us h = ap (λ (b : Bool). cond b (t ∷ u ∷ us) (cond (eqb (number t) (number u)) (u ∷ us) (u ∷ insert_sorted number t us))) (lt-ltb (number t) (number u) h)
 
-  -- what stands in its place is there once
+  -- what is at its index is there once
   pub insert_sorted_there : (t : X) (us : List X) (d : X) → index_of t us < length us → number (get_or us (index_of t us) d) ≡ (number t) → insert_sorted number t us ≡ us
   insert_sorted_there t [] d h e = absurd (omega arith)
   insert_sorted_there t (u ∷ us) d h e = elim (cases_lt (number u) (number t)) [
     | inl lt ↦
-        let at = place_after t u us lt in
+        let at = index_after t u us lt in
         insert_sorted_after t u us lt ∙ ap (λ (vs : List X). u ∷ vs) (insert_sorted_there t us d (omega (arith, at, h)) (ap (λ (k : ℕ). number (get_or (u ∷ us) k d)) (sym at) ∙ e))
     | inr le ↦
-        let at = place_first t u us le in
+        let at = index_first t u us le in
         insert_sorted_here t u us (sym (ap (λ (k : ℕ). number (get_or (u ∷ us) k d)) (sym at) ∙ e))
   ]
 
@@ -55,12 +55,12 @@ module _ {X : Type 0} (number : X → ℕ) where
   insert_sorted_new t [] h = refl
   insert_sorted_new t (u ∷ us) h = elim (cases_lt (number u) (number t)) [
     | inl lt ↦
-        let at = place_after t u us lt in
+        let at = index_after t u us lt in
         insert_sorted_after t u us lt
         ∙ ap (λ (vs : List X). u ∷ vs) (insert_sorted_new t us (λ (less : index_of t us < length us) (e : number (get_or us (index_of t us) t) ≡ (number t)). h (omega (arith, at, less)) (ap (λ (k : ℕ). number (get_or (u ∷ us) k t)) at ∙ e)))
         ∙ ap (λ (k : ℕ). insert (u ∷ us) k t) (sym at)
     | inr le ↦
-        let at = place_first t u us le in
+        let at = index_first t u us le in
         let apart : (number u) ≢ (number t) = λ (e : (number u) ≡ (number t)). h (omega (arith, at)) (ap (λ (k : ℕ). number (get_or (u ∷ us) k t)) at ∙ e) in
         insert_sorted_before t u us (above le apart) ∙ ap (λ (k : ℕ). insert (u ∷ us) k t) (sym at)
   ] where
@@ -77,14 +77,14 @@ module _ {X : Type 0} (number : X → ℕ) where
     ]
   ]
 
-  pub place_inside : (t : X) (us : List X) → index_of t us ≤ length us
-  place_inside t [] = omega arith
-  place_inside t (u ∷ us) = elim (cases_lt (number u) (number t)) [
-    | inl lt ↦ omega (arith, place_after t u us lt, place_inside t us)
-    | inr le ↦ omega (arith, place_first t u us le)
+  pub index_within : (t : X) (us : List X) → index_of t us ≤ length us
+  index_within t [] = omega arith
+  index_within t (u ∷ us) = elim (cases_lt (number u) (number t)) [
+    | inl lt ↦ omega (arith, index_after t u us lt, index_within t us)
+    | inr le ↦ omega (arith, index_first t u us le)
   ]
 
-  -- the same of a place that was looked for in one reading of the list and tested in another
+  -- the same of an index that was looked for in one reading of the list and tested in another
   pub there : (t : X) (us xs ys : List X) (at : ℕ) → xs ≡ us → ys ≡ us → at ≡ index_of t xs → (at < length ys) × (number (get_or ys at t) ≡ (number t)) → us ≡ insert_sorted number t us
   there t us xs ys at ex ey e h =
       let is : at ≡ index_of t us = e ∙ ap (index_of t) ex in
@@ -99,7 +99,7 @@ module _ {X : Type 0} (number : X → ℕ) where
   pub one_more : (t : X) (us xs ys : List X) (at : ℕ) {max : ℕ} → xs ≡ us → ys ≡ us → at ≡ index_of t xs → (at < length ys → number (get_or ys at t) ≢ (number t)) → length us ≡ max → max < length (insert_sorted number t us)
   one_more t us xs ys at ex ey e h full =
       let is : at ≡ index_of t us = e ∙ ap (index_of t) ex in
-      let inside : at ≤ length us = omega (arith, is, place_inside t us) in
+      let inside : at ≤ length us = omega (arith, is, index_within t us) in
       omega (arith, ap length (new t us xs ys at ex ey e h), length-insert us at t inside, full)
 
 -- what is read of each client, in order, after some that are there

@@ -32,7 +32,7 @@ pub trait MapPort {
         ensures refused_key { OnErr result (map.get (entries self.old) key ≡ None) }
         ensures refused_count { OnErr result (map.len (entries self.old) < 4096) };
 
-    /// Takes out the entry of the key, and tells whether there was one.
+    /// Takes out the entry of the key, and returns whether there was one.
     fn del(&mut self, key: &[u8; 16]) -> bool
         ensures found { result ≡ map.contains_key (entries self.old) key.now }
         ensures after { entries self.new ≡ map.remove (entries self.old) key.now };

@@ -1,6 +1,6 @@
 use Rattle.std.proofs.Common.{sym, ◌∙◌, ap, arith, length, rules}
 use Rattle.std.proofs.lemmas.Bool.{eqb-true, eqb-false}
-use Rattle.host_types.proofs.InsertSorted.{there, new, one_more, place_inside}
+use Rattle.host_types.proofs.InsertSorted.{there, new, one_more, index_within}
 use Rattle.host_types.proofs.ascending.insert_sorted.Goals as goal
 
 pub returns-then-is_at : goal.returns-then-is_at
@@ -14,7 +14,7 @@ insert-requires g c =
     let w = c.well_formed in (
       search rules,
       (
-        omega (arith, c.index_of-at.ensures, ap length c.as_slice.ensures.value, place_inside g.T.Numbered.number c.args.one c.as_slice.result.now),
+        omega (arith, c.index_of-at.ensures, ap length c.as_slice.ensures.value, index_within g.T.Numbered.number c.args.one c.as_slice.result.now),
         omega (arith, c.is_full.ensures.fits, eqb-false _ _ (sym c.if-is_full.ensures.value)),
       ),
     )
