@@ -163,7 +163,7 @@ module _ (c : Setup) (family : Family) (u : IsUnforged c family) where
   low_at i low correct x y h k below =
       holds_on c i (family.signer i) (λ s. low ≤ s.low) (λ s a reached ok is. let up = low_up c i s a reached ok in omega arith) x y h (history_at c i (family.signer i) y (family.acts i) k (u.histories i correct)) below
 
-  -- A ViewChange for a higher view was said after the Commit, and complete of it.
+  -- A ViewChange for a higher view was said after the Commit, and shows it.
   shows_commit : (i : ℕ) (x : Fields) (v : ViewChange) → IsCorrect c family.faulty i → CommittedTo c family u i x → Said c family i (bodies.ViewChange v) → x.view < v.view.0
       → (x.number ≤ v.low.0) ⊎ ((y : Certificate) × IsIn y v.certificates × (y.pre_prepare.body.number.0 ≡ x.number) × (x.view ≤ y.pre_prepare.body.view.0))
   shows_commit i x v correct (b, w, is) w' higher = elim (two_said c family u i (bodies.Commit b) (bodies.ViewChange v) w w') [

@@ -1,4 +1,4 @@
--- Internal: the slot of a number in a view, as the log represents it.
+-- Internal: the slot of a number in a view, as the log has it.
 use Rattle.std.specs.Prelude.{◌≡◌, ℕ, ◌<◌}
 use Rattle.host_types.specs.Configuration.{Configuration}
 use Rattle.pbft_model.specs.Tables.{at, vote_key}

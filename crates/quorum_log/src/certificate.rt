@@ -1,4 +1,4 @@
-//! What represents that a number was prepared in a view.
+//! What shows that a number was prepared in a view.
 
 ghost use Rattle.std.specs.Prelude.{◌≡◌, IfOk};
 

@@ -172,7 +172,7 @@ impl Window {
         }
     }
 
-    // Clears the first numbers.
+    // Clears the slots of the first numbers.
     fn clear(&mut self, many: usize)
         requires { many ≤ length self.old.numbers.items }
         ensures cleared { IsCleared many self.old.numbers.items self.new.numbers.items }

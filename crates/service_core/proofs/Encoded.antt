@@ -1,4 +1,4 @@
--- Bytes that begin with the encoding of a value: what they determine, and what is not.
+-- Bytes that begin with the encoding of a value: what they determine, and what they don't.
 use Rattle.std.proofs.Common.{◌≡◌, ℕ, ◌+◌, ◌^◌, ◌<◌, ◌≤◌, List, [], ◌∷◌, ◌++◌, length, take, drop, get_or, Result, Ok, Err, refl, sym, ap, subst, ◌∙◌, inl, inr, append_assoc, arith}
 use Rattle.std.specs.Prelude.{flat_map, All, IfErr}
 use Rattle.std.specs.Int.{w32, w64, from_be_bytes}
