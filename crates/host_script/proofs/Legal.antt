@@ -68,10 +68,10 @@ no_fault f k cs keys es legal long same =
     ∙ legal
 
 -- The keys that are made for a head are those of a configuration.
-pub never : (h : HeadFacts) (f k : ℕ) (replicas shown : List SigningState) (keys : List (List ℕ)) (es : List ClientEntry) (fault : ConfigFault)
-    → IsLegal h.f h.k h.clients → f ≡ h.f → k ≡ h.k → length replicas ≡ replicas_for h.f → keys ≡ map key_of shown → shown ≡ replicas
+pub never : (h : HeadFacts) (f k : ℕ) (replicas made_signers : List SigningState) (keys : List (List ℕ)) (es : List ClientEntry) (fault : ConfigFault)
+    → IsLegal h.f h.k h.clients → f ≡ h.f → k ≡ h.k → length replicas ≡ replicas_for h.f → keys ≡ map key_of made_signers → made_signers ≡ replicas
     → map unkeyed es ≡ map keyless h.clients → fault_of (record { f = f; k = k; keys = keys; clients = es }) ≡ Some fault → ⊥
-never h f k replicas shown keys es fault legal f_is k_is long keys_are same entries wrong =
+never h f k replicas made_signers keys es fault legal f_is k_is long keys_are same entries wrong =
     none_some (sym (no_fault f k h.clients keys es legal_here long_here entries) ∙ wrong) where
       none_some : {X : Type 0} {x : X} → None ≡ Some x → ⊥
       none_some h = cc h
@@ -80,4 +80,4 @@ never h f k replicas shown keys es fault legal f_is k_is long keys_are same entr
       legal_here = subst (λ (n : ℕ). IsLegal n k h.clients) (sym f_is) (subst (λ (n : ℕ). IsLegal h.f n h.clients) (sym k_is) legal)
 
       long_here : length keys ≡ replicas_for f
-      long_here = ap length keys_are ∙ length-map shown key_of ∙ ap length same ∙ long ∙ ap replicas_for (sym f_is)
+      long_here = ap length keys_are ∙ length-map made_signers key_of ∙ ap length same ∙ long ∙ ap replicas_for (sym f_is)

@@ -24,12 +24,12 @@ nothing (Some xs) = sym (append-nil xs)
 pub same_appends : (a b : Option (List ℕ)) (s t : List ℕ) → Appends a b s → s ≡ t → Appends a b t
 same_appends a b s t w same = subst (Appends a b) same w
 
-pub front_at : (a b : Option (List ℕ)) (n : ℕ) (text shown : List ℕ) → shown ≡ text → n < length shown → Appends a b (take n shown) → AppendsFront a b text
-front_at a b n text shown same below w = record {
-  front = take n shown;
-  rest = drop n shown;
-  is = sym same ∙ sym (take-append-drop n shown);
-  is_left = let left = length-drop n shown in omega (arith, below, left);
+pub front_at : (a b : Option (List ℕ)) (n : ℕ) (text printed : List ℕ) → printed ≡ text → n < length printed → Appends a b (take n printed) → AppendsFront a b text
+front_at a b n text printed same below w = record {
+  front = take n printed;
+  rest = drop n printed;
+  is = sym same ∙ sym (take-append-drop n printed);
+  is_left = let left = length-drop n printed in omega (arith, below, left);
   appends = w;
 }
 

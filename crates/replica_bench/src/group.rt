@@ -19,7 +19,7 @@ pub(crate) const REPLICAS: u8 = 4;
 const FIRST_CLIENT: u8 = 16;
 
 /// More messages than a round of requests makes.
-const MOST_MESSAGES: u32 = 100_000;
+const MAX_MESSAGES: u32 = 100_000;
 
 /// The kind of a group: how many leaves each key has, a checkpoint's interval, and how many clients.
 #[derive(Clone, Copy)]
@@ -148,7 +148,7 @@ impl Group {
     /// the bytes of each message that it is sent.
     pub(crate) fn run(&mut self) -> Result<Traffic> {
         let mut traffic = Traffic::new(self.alloc);
-        for _ in 0..MOST_MESSAGES {
+        for _ in 0..MAX_MESSAGES {
             let Some(letter) = self.queue.pop_front() else {
                 return Ok(traffic);
             };
