@@ -1,12 +1,13 @@
 -- Bytes of the frame as bits of words.
-use Rattle.std.proofs.Common.{◌≡◌, ◌≢◌, ℕ, zero, suc, ◌+◌, ◌*◌, ◌/◌, ◌%◌, ◌^◌, ◌<◌, ◌≤◌, Bool, true, false, ◌&&◌, ◌||◌, not, eqb, leb, ltb, min, List, length, replicate, get_or, set, refl, sym, ap, ◌∙◌, arith, inl, inr, bit_and, bit_or}
+use Rattle.std.proofs.Common.{◌≡◌, ◌≢◌, ℕ, zero, suc, ◌+◌, ◌*◌, ◌/◌, ◌%◌, ◌^◌, ◌<◌, ◌≤◌, Bool, true, false, ◌&&◌, ◌||◌, not, eqb, leb, ltb, min, max, List, length, replicate, get_or, set, refl, sym, ap, ◌∙◌, arith, inl, inr, bit_and, bit_or}
 use Rattle.std.specs.Int.{w64, bit_at}
+use Rattle.std.proofs.Math.Nat.{le-max_left, le-max_right}
 use Rattle.std.proofs.lemmas.Bool.{eq-eqb, le-leb, lt-leb, lt-ltb, le-ltb, cases_lt}
 use Rattle.std.proofs.lemmas.Bool.Decides.{eqb_tells, leb_tells}
-use Rattle.std.proofs.lemmas.List.{get_or-set_same, get_or-set_other, get_or_default, length-set}
+use Rattle.std.proofs.lemmas.List.{ext_get_or, get_or-set_same, get_or-set_other, get_or_default, length-set}
 use Rattle.std.proofs.lemmas.Nat.Bits.{bit_at-zero, bit_at_and, bit_at-lt, bit_at_set_same, bit_at_set_other}
 use Rattle.bpf_model.specs.Machine.{frame_start, frame_end, is_in_frame}
-use Rattle.bpf_verifier.specs.FrameBytes.{has_byte}
+use Rattle.bpf_verifier.specs.FrameBytes.{has_byte, AreZeroFrom}
 
 pub not_equal : (a b : ℕ) → a ≢ b → eqb a b ≡ false
 not_equal a b h = elim (eqb_tells a b) [ inl (e, same) ↦ absurd (h same) | inr (e, other) ↦ e ]
@@ -102,10 +103,50 @@ met_more k now old other x d e m inside there is = record {
       ∙ ap (λ (v : ℕ). bit_and v (get_or other k e)) (get_or_default now k d 0 inside ∙ m.rest k (omega arith))
       ∙ ap (λ (v : ℕ). bit_and (get_or old k 0) v) (get_or_default other k e 0 there)
 
-pub met_all : (now old other : List ℕ) (words : ℕ) → words ≡ 64 → AreMet words now old other → (i : ℕ) → i < 4096 → has_byte now i ≡ (has_byte old i && has_byte other i)
-met_all now old other words many m i h =
-    let small : i / 64 < words = omega (arith, h, many) in
-    ap (λ (v : ℕ). eqb (bit_at v (i % 64)) 1) (m.met (i / 64) small) ∙ both_bits (get_or old (i / 64) 0) (get_or other (i / 64) 0) (i % 64)
+pub met_all : (now old other : List ℕ) (used : ℕ) → AreMet used now old other → AreZeroFrom used old → (i : ℕ) → has_byte now i ≡ (has_byte old i && has_byte other i)
+met_all now old other used m none i =
+    elim (cases_lt (i / 64) used) [
+      | inl low ↦ ap (λ (v : ℕ). eqb (bit_at v (i % 64)) 1) (m.met (i / 64) low) ∙ both_bits (get_or old (i / 64) 0) (get_or other (i / 64) 0) (i % 64)
+      | inr past ↦ (
+          let absent : has_byte old i ≡ false = ap (λ (v : ℕ). eqb (bit_at v (i % 64)) 1) (none (i / 64) past) ∙ ap (λ (v : ℕ). eqb v 1) (bit_at-zero (i % 64)) in
+          ap (λ (v : ℕ). eqb (bit_at v (i % 64)) 1) (m.rest (i / 64) past) ∙ absent ∙ sym (ap (λ (b : Bool). b && has_byte other i) absent)
+          )
+    ]
+
+-- the first k words are the other's
+pub record AreCopied (k : ℕ) (now old other : List ℕ) : Type 0 where
+  pub long : length now ≡ length old
+  pub copied : (n : ℕ) → n < k → get_or now n 0 ≡ get_or other n 0
+  pub rest : (n : ℕ) → k ≤ n → get_or now n 0 ≡ get_or old n 0
+
+pub copied_none : (old other : List ℕ) → AreCopied 0 old old other
+copied_none old other = record { long = refl; copied = λ n h. absurd (omega (arith, h)); rest = λ n h. refl }
+
+pub copied_more : (k : ℕ) (now old other : List ℕ) (x d : ℕ) → AreCopied k now old other → k < length old → k < length other → x ≡ get_or other k d → AreCopied (k + 1) (set now k x) old other
+copied_more k now old other x d m inside there is = record {
+  long = length-set now k x ∙ m.long;
+  copied = λ n less. elim (eqb_tells n k) [
+    | inl (_, same) ↦ (
+        let within : k < length now = let long = m.long in omega (arith, long, inside) in
+        ap (λ (j : ℕ). get_or (set now k x) j 0) same ∙ get_or-set_same now k x 0 within ∙ is ∙ get_or_default other k d 0 there ∙ ap (λ (j : ℕ). get_or other j 0) (sym same)
+        )
+    | inr (_, apart) ↦ get_or-set_other now k n x 0 apart ∙ m.copied n (below n less apart)
+  ];
+  rest = λ n past. get_or-set_other now k n x 0 (λ (same : n ≡ k). absurd (omega (arith, past, same))) ∙ m.rest n (omega (arith, past));
+} where
+  below : (n : ℕ) → n < k + 1 → (n ≡ k → ⊥) → n < k
+  below n less apart = elim (cases_lt n k) [ inl lt ↦ lt | inr le ↦ absurd (apart (omega (arith, less, le))) ]
+
+pub copied_all : (now old other : List ℕ) (k mine yours : ℕ) → k ≡ max mine yours → length old ≡ length other → AreCopied k now old other → AreZeroFrom mine old → AreZeroFrom yours other → now ≡ other
+copied_all now old other k mine yours end long m none_here none_there =
+    ext_get_or 0 now other (m.long ∙ long) (λ n inside. elim (cases_lt n k) [
+      | inl less ↦ m.copied n less
+      | inr past ↦ (
+          let low = le-max_left mine yours in
+          let high = le-max_right mine yours in
+          m.rest n past ∙ none_here n (omega (arith, past, end, low)) ∙ sym (none_there n (omega (arith, past, end, high)))
+          )
+    ])
 
 -- the words from one on and before another are 0, the others as they were
 pub record AreCleared (from to : ℕ) (now old : List ℕ) : Type 0 where
@@ -171,9 +212,10 @@ cleared_frame depth to now old end m i =
       gone same there = ap (λ (v : ℕ). eqb (bit_at v (i % 64)) 1) same ∙ ap (λ (v : ℕ). eqb v 1) (bit_at-zero (i % 64)) ∙ none (has_byte old i) ∙ ap (λ (b : Bool). has_byte old i && not b) (sym there)
 
 -- no byte at all
+pub zeros : (n k : ℕ) → get_or {A = ℕ} (replicate n 0) k 0 ≡ 0
+zeros zero k = refl
+zeros (suc n) zero = refl
+zeros (suc n) (suc k) = zeros n k
+
 pub no_byte_set : (i : ℕ) → i < 4096 → has_byte (replicate 64 0) i ≡ false
-no_byte_set i h = ap (λ (v : ℕ). eqb (bit_at v (i % 64)) 1) (zeros 64 (i / 64)) ∙ ap (λ (v : ℕ). eqb v 1) (bit_at-zero (i % 64)) where
-  zeros : (n k : ℕ) → get_or {A = ℕ} (replicate n 0) k 0 ≡ 0
-  zeros zero k = refl
-  zeros (suc n) zero = refl
-  zeros (suc n) (suc k) = zeros n k
+no_byte_set i h = ap (λ (v : ℕ). eqb (bit_at v (i % 64)) 1) (zeros 64 (i / 64)) ∙ ap (λ (v : ℕ). eqb v 1) (bit_at-zero (i % 64))

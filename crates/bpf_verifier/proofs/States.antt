@@ -110,6 +110,13 @@ joined_is x y z ranges bytes a b ra rb = record {
   initialized_are = λ i h. bytes i h ∙ rw (ra.initialized_are i h, rb.initialized_are i h) refl;
 }
 
+-- a state with the same ranges and words represents the same
+pub represents_same : (x y : AbstractState) (of : model.AbstractState) → x.ranges ≡ y.ranges → x.initialized.words ≡ y.initialized.words → Represents y of → Represents x of
+represents_same x y of ranges words is = record {
+  ranges_are = λ r. ap (λ (rs : List (Option Range)). ranges_of rs r) ranges ∙ is.ranges_are r;
+  initialized_are = λ i h. ap (λ (ws : List ℕ). has_byte ws i) words ∙ is.initialized_are i h;
+}
+
 pub join_visit : (before state after : AbstractState) (s : model.AbstractState) → ((a b : model.AbstractState) → Represents before a → Represents state b → Represents after (join_with (Some a) b)) → Represents state s → (o : Option model.AbstractState) → RepresentsOption (Some before) o → Represents after (join_with o s)
 join_visit before state after s joins is None h = absurd h
 join_visit before state after s joins is (Some a) h = joins a s h is

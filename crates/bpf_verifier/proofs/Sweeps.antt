@@ -19,6 +19,7 @@ use Rattle.bpf_model.specs.Verdict.{max_visits}
 use Rattle.bpf_verifier.specs.declared.abstract_state.AbstractState.{AbstractState}
 use Rattle.bpf_verifier.specs.declared.dataflow.Visit.{Visit}
 use Rattle.bpf_verifier.specs.FrameBytes.{has_byte, Marks}
+use Rattle.bpf_verifier.proofs.States.{represents_same}
 use Rattle.bpf_verifier.specs.Represents.{state_of, Represents, join_with}
 use Rattle.bpf_verifier.specs.Sweep.{Pending, visit_in, RepresentsVisit, Brings, pending_at, VisitJoined, Pushed, Flowed, HasAtLeast, OfSteps, AreFew}
 
@@ -248,7 +249,7 @@ pub onward_same : (v visit : Visit) (x : Insn) (after : AbstractState) → v ≡
 onward_same v visit x after e is marked marks =
     (subst (λ (w : Visit). (marked : ℕ → Bool) → Marks w.state.initialized.words marked → Represents after (after_insn (state_of w.state.ranges marked) x)) e is marked marks, ap (λ (w : Visit). w.steps) e)
 
--- what holds of a visit holds of its copy
-pub copied_state : {E : Type 0} (r : Result (Box Visit Global) E) (P : Visit → Type 0) (v : Visit) → IfOk r (λ copy. copy.value ≡ v) → P v → IfOk r (λ copy. P copy.value)
-copied_state (Ok copy) P v is h = subst P (sym is) h
-copied_state (Err e) P v is h = tt
+-- what a state represents, a copy of it represents
+pub copied_state : {E : Type 0} (r : Result (Box Visit Global) E) (s : AbstractState) (P : model.AbstractState → Type 0) (f : model.AbstractState → model.AbstractState) → IfOk r (λ copy. copy.value.state.ranges ≡ s.ranges) → IfOk r (λ copy. copy.value.state.initialized.words ≡ s.initialized.words) → ((of : model.AbstractState) → P of → Represents s (f of)) → IfOk r (λ copy. (of : model.AbstractState) → P of → Represents copy.value.state (f of))
+copied_state (Ok copy) s P f ranges words is = λ of h. represents_same copy.value.state s (f of) ranges words (is of h)
+copied_state (Err e) s P f ranges words is = tt

@@ -1,5 +1,5 @@
 -- Statement: the bytes of the stack as bits of 64-bit words, the least bit first.
-use Rattle.std.specs.Prelude.{◌≡◌, ℕ, ◌+◌, ◌/◌, ◌%◌, ◌<◌, ◌==◌, Bool, List, slice_index_or}
+use Rattle.std.specs.Prelude.{◌≡◌, ℕ, ◌+◌, ◌/◌, ◌%◌, ◌<◌, ◌≤◌, ◌==◌, Bool, List, slice_index_or}
 use Rattle.std.specs.Int.{bit_at}
 use Rattle.bpf_model.specs.Machine.{frame_start}
 
@@ -10,3 +10,7 @@ has_byte words i = bit_at (slice_index_or words (i / 64) 0) (i % 64) == 1
 -- The words hold the bytes of the stack's eight frames that are marked.
 abbrev pub Marks : List ℕ → (ℕ → Bool) → Type 0
 Marks words marked = (i : ℕ) → i < 4096 → has_byte words i ≡ marked (frame_start 0 + i)
+
+-- From one on the words are 0.
+abbrev pub AreZeroFrom : ℕ → List ℕ → Type 0
+AreZeroFrom used words = (n : ℕ) → used ≤ n → slice_index_or words n 0 ≡ 0

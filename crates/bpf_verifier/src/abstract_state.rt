@@ -103,6 +103,15 @@ impl AbstractState {
         }
     }
 
+    /// Becomes the other state.
+    pub(crate) fn copy_from(&mut self, other: &AbstractState)
+        ensures ranges { self.new.ranges ≡ other.now.ranges }
+        ensures initialized { self.new.initialized.words ≡ other.now.initialized.words }
+    {
+        self.ranges = other.ranges;
+        self.initialized.copy_from(&other.initialized);
+    }
+
     /// Gives a register a range, or none.
     pub(crate) fn set(&mut self, register: Reg, range: Option<Range>)
         ensures ranges { self.new.ranges ≡ slice_set self.old.ranges register.number range }

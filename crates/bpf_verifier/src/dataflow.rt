@@ -75,12 +75,16 @@ impl Pass {
 
     /// A copy of a visit.
     fn copied(&mut self, visit: &Visit) -> Result<Box<Visit>, AllocError>
-        ensures copy { IfOk result (λ copy. copy.value ≡ visit.now) }
+        ensures ranges { IfOk result (λ copy. copy.value.state.ranges ≡ visit.now.state.ranges) }
+        ensures initialized { IfOk result (λ copy.
+            copy.value.state.initialized.words ≡ visit.now.state.initialized.words) }
+        ensures steps { IfOk result (λ copy. copy.value.steps ≡ visit.now.steps) }
         ensures visits { self.new.visits ≡ self.old.visits }
     {
         match self.spare.take() {
             Some(mut copy) => {
-                *copy = *visit;
+                copy.state.copy_from(&visit.state);
+                copy.steps = visit.steps;
                 Ok(copy)
             }
             None => Ok(Box::new(self.alloc, *visit)?),

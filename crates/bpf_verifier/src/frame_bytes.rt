@@ -1,5 +1,8 @@
 //! A set of bytes of the stack.
 
+ghost use Rattle.std.specs.Prelude.{◌≤◌};
+ghost use Rattle.bpf_verifier.specs.FrameBytes.{AreZeroFrom};
+
 use bpf_model::layout::{FRAME_SIZE, STACK_SIZE};
 
 /// The bits of a word.
@@ -11,10 +14,14 @@ const WORDS: usize = STACK_SIZE / BITS;
 /// The words that a frame's bytes take.
 const FRAME_WORDS: usize = FRAME_SIZE / BITS;
 
-/// Which bytes of the stack are initialized for certain.
+/// Which bytes of the stack are initialized for certain. Words behind those in use hold none, so that a
+/// join or a copy goes over the frames in use alone.
 #[derive(Clone, Copy)]
 pub struct FrameBytes {
     pub words: [u64; WORDS],
+    used: usize,
+    ghost few: { used ≤ 64 },
+    ghost rest: { AreZeroFrom used words },
 }
 
 impl FrameBytes {
@@ -26,7 +33,10 @@ impl FrameBytes {
     pub fn none() -> FrameBytes
         ensures { (i : ℕ) → i < 4096 → has_byte result.words i ≡ false }
     {
-        FrameBytes { words: [0; WORDS] }
+        FrameBytes {
+            words: [0; WORDS],
+            used: 0,
+        }
     }
 
     /// Whether a byte is in the set.
@@ -57,7 +67,9 @@ impl FrameBytes {
         requires { index < 4096 }
         ensures { (i : ℕ) → has_byte self.new.words i ≡ (i == index || has_byte self.old.words i) }
     {
-        self.words[index / BITS] |= 1 << (index % BITS);
+        let word = index / BITS;
+        self.words[word] |= 1 << (index % BITS);
+        self.used = self.used.max(word + 1);
     }
 
     /// Puts in all bytes from one on and before another.
@@ -77,9 +89,20 @@ impl FrameBytes {
         ensures { (i : ℕ) → i < 4096 → has_byte self.new.words i ≡
             (has_byte self.old.words i && has_byte other.now.words i) }
     {
-        for word in 0..WORDS {
+        for word in 0..self.used {
             self.words[word] &= other.words[word];
         }
+    }
+
+    /// Becomes the other set.
+    pub fn copy_from(&mut self, other: &FrameBytes)
+        ensures { self.new.words ≡ other.now.words }
+    {
+        self.used = self.used.max(other.used);
+        for word in 0..self.used {
+            self.words[word] = other.words[word];
+        }
+        self.used = other.used;
     }
 
     /// Takes out the bytes of the frame of a depth.

@@ -3,16 +3,15 @@ use Rattle.std.specs.Prelude.{IfErr}
 use Rattle.bpf_decode.specs.declared.insn.Insn.{Insn}
 use Rattle.bpf_model.specs.AbstractState.{start_state}
 use Rattle.bpf_model.specs.declared.fault.Refusal.{Refusal}
-use Rattle.bpf_verifier.specs.declared.dataflow.Visit.{Visit}
-use Rattle.bpf_verifier.specs.Represents.{Represents}
 use Rattle.bpf_model.proofs.Visits.{no_faults}
+use Rattle.bpf_verifier.proofs.States.{represents_same}
 use Rattle.bpf_verifier.proofs.Visiting.{main_of, is_main, main_told, fails_first, handed_on}
 use Rattle.bpf_verifier.proofs.dataflow.check_dataflow.Goals as goal
 
 pub follow-requires-clause-told : goal.follow-requires-clause-told
 follow-requires-clause-told g c =
     let h = c.requires.code in
-    (main_of h.0, main_told c.args.slots.now h.0 h.1 h.2 c.requires.some, refl, sym c.in_ok-visit.ensures.visits, subst (λ (u : Visit). Represents u.state start_state) (sym c.in_ok-visit.ensures.copy) c.at_start.ensures)
+    (main_of h.0, main_told c.args.slots.now h.0 h.1 h.2 c.requires.some, refl, sym c.in_ok-visit.ensures.visits, represents_same _ _ start_state c.in_ok-visit.ensures.ranges c.in_ok-visit.ensures.initialized c.at_start.ensures)
 
 pub returns-in_err-returned-clause-refused : goal.returns-in_err-returned-clause-refused
 returns-in_err-returned-clause-refused g c =
@@ -21,16 +20,16 @@ returns-in_err-returned-clause-refused g c =
     (elim c.in_err-returned.ensures.refused [
       | inl memory ↦ inl memory
       | inr fails ↦ inr (λ code at structured.
-          fails_first code c.in_err-returned.field-0.0.fault c.in_err-returned.field-0.0.slot (fails (main_of code) at refl refl (sym c.in_ok-visit.ensures.visits) (is_main code structured (subst (λ (l : List (Option Insn)). 0 < length l) at c.requires.some)) (subst (λ (u : Visit). Represents u.state start_state) (sym c.in_ok-visit.ensures.copy) c.at_start.ensures)))
+          fails_first code c.in_err-returned.field-0.0.fault c.in_err-returned.field-0.0.slot (fails (main_of code) at refl refl (sym c.in_ok-visit.ensures.visits) (is_main code structured (subst (λ (l : List (Option Insn)). 0 < length l) at c.requires.some)) (represents_same _ _ start_state c.in_ok-visit.ensures.ranges c.in_ok-visit.ensures.initialized c.at_start.ensures)))
     ])
 
 pub returns-clause-right : goal.returns-clause-right
 returns-clause-right g c = λ code at structured.
-    let g = c.in_ok-returned.ensures.right (main_of code) at refl refl (sym c.in_ok-visit.ensures.visits) (is_main code structured (subst (λ (l : List (Option Insn)). 0 < length l) at c.requires.some)) (subst (λ (u : Visit). Represents u.state start_state) (sym c.in_ok-visit.ensures.copy) c.at_start.ensures) in
+    let g = c.in_ok-returned.ensures.right (main_of code) at refl refl (sym c.in_ok-visit.ensures.visits) (is_main code structured (subst (λ (l : List (Option Insn)). 0 < length l) at c.requires.some)) (represents_same _ _ start_state c.in_ok-visit.ensures.ranges c.in_ok-visit.ensures.initialized c.at_start.ensures) in
     let few = c.in_ok-returned.ensures.few.1 in
     let count = g.count in
     no_faults code g.right (omega (arith, few, count))
 
 pub returns-clause-bound : goal.returns-clause-bound
 returns-clause-bound g c = λ code at structured.
-    (c.in_ok-returned.ensures.right (main_of code) at refl refl (sym c.in_ok-visit.ensures.visits) (is_main code structured (subst (λ (l : List (Option Insn)). 0 < length l) at c.requires.some)) (subst (λ (u : Visit). Represents u.state start_state) (sym c.in_ok-visit.ensures.copy) c.at_start.ensures)).bound
+    (c.in_ok-returned.ensures.right (main_of code) at refl refl (sym c.in_ok-visit.ensures.visits) (is_main code structured (subst (λ (l : List (Option Insn)). 0 < length l) at c.requires.some)) (represents_same _ _ start_state c.in_ok-visit.ensures.ranges c.in_ok-visit.ensures.initialized c.at_start.ensures)).bound

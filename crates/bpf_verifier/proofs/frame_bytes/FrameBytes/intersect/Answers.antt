@@ -1,4 +1,5 @@
 use Rattle.std.proofs.Common.{◌≡◌, rules, refl, length, arith}
+use Rattle.bpf_verifier.specs.FrameBytes.{AreZeroFrom}
 use Rattle.bpf_verifier.proofs.Bits.{met_none, met_more, met_all}
 use Rattle.bpf_verifier.proofs.frame_bytes.FrameBytes.intersect.Goals as goal
 
@@ -13,4 +14,6 @@ loop-word-preserved c =
 
 pub returns : goal.returns
 returns c = λ i h.
-    met_all c.loop-word.self.words c.args.self.now.words c.args.other.now.words c.loop-word.word (omega (arith, c.loop-word-test.false, c.loop-word.auto.word-end)) c.loop-word.invariant i h
+    let end : c.loop-word.word ≡ c.args.self.now.used = omega (arith, c.loop-word-test.false, c.loop-word.auto.word-end) in
+    let zero : AreZeroFrom c.loop-word.word c.args.self.now.words = λ n past. c.args.self.now.rest n (omega (arith, past, end)) in
+    met_all c.loop-word.self.words c.args.self.now.words c.args.other.now.words c.loop-word.word c.loop-word.invariant zero i
