@@ -466,8 +466,7 @@ fn split(
         visit.value.steps) }
     ensures visits { pass.new.visits ≡ pass.old.visits }
 {
-    let onward = visit.state.tested(narrow, test, dst, src, false);
-    let taken = visit.state.tested(narrow, test, dst, src, true);
+    let (onward, taken) = visit.state.ranges_on_edges(narrow, test, dst, src);
     match onward {
         Some(onward) => {
             let other = match taken {

@@ -13,7 +13,7 @@ use map_helpers::{Access, Helper};
 use reg_ranges::{Range, refine, swap_range, transfer32, transfer64};
 
 impl AbstractState {
-    ghost use Rattle.std.specs.Prelude.{◌≡◌, ℕ, ◌+◌, ◌<◌, ◌||◌, Bool};
+    ghost use Rattle.std.specs.Prelude.{◌≡◌, ℕ, ◌+◌, ◌<◌, ◌||◌, Bool, true, false};
     ghost use Rattle.std.specs.Option.{option_map};
     ghost use Rattle.reg_ranges.specs.RangeOf.{range_of, ranges_of as pair_of};
     ghost use Rattle.bpf_model.specs.Machine.{frame_start};
@@ -155,23 +155,30 @@ impl AbstractState {
             .insert_all((from - FRAME_START) as usize, (to - FRAME_START) as usize);
     }
 
-    /// The ranges of a test's operands where it is taken, or isn't; none where that can't be.
+    /// The ranges of a test's operands on both edges, first the one that isn't taken; none on an edge that
+    /// can't be.
     #[inline(always)]
-    pub(crate) fn tested(
+    pub(crate) fn ranges_on_edges(
         &self,
         narrow: bool,
         test: Test,
         dst: Reg,
         src: Source,
-        taken: bool,
-    ) -> Option<(Range, Range)>
-        ensures { (marked : ℕ → Bool) →
-            option_map (λ r. with_ranges (state_of self.now.ranges marked) dst.number src (pair_of r)) result ≡
-            after_test (state_of self.now.ranges marked) narrow test dst.number src taken }
+    ) -> (Option<(Range, Range)>, Option<(Range, Range)>)
+        ensures onward { (marked : ℕ → Bool) →
+            option_map (λ r. with_ranges (state_of self.now.ranges marked) dst.number src (pair_of r)) result.0 ≡
+            after_test (state_of self.now.ranges marked) narrow test dst.number src false }
+        ensures taken { (marked : ℕ → Bool) →
+            option_map (λ r. with_ranges (state_of self.now.ranges marked) dst.number src (pair_of r)) result.1 ≡
+            after_test (state_of self.now.ranges marked) narrow test dst.number src true }
     {
-        let b = self.tested_range(narrow, src)?;
-        let a = self.range_of(dst.number)?;
-        refine(test, narrow, a, b, taken)
+        let (Some(a), Some(b)) = (self.range_of(dst.number), self.tested_range(narrow, src)) else {
+            return (None, None);
+        };
+        (
+            refine(test, narrow, a, b, false),
+            refine(test, narrow, a, b, true),
+        )
     }
 
     /// Gives the operands of a test these ranges. Where both are one register, it keeps its own.
