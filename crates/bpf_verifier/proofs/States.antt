@@ -15,14 +15,14 @@ use Rattle.bpf_model.specs.AbstractState as model
 use Rattle.bpf_model.specs.AbstractState.{join_option, all_initialized, extent, in_bounds, is_initialized, is_written, entry_state, after_call, after_helper}
 use Rattle.bpf_model.proofs.Memories.{in_bounds_cases}
 use Rattle.bpf_verifier.specs.declared.abstract_state.AbstractState.{AbstractState}
-use Rattle.bpf_verifier.specs.FrameBytes.{has_byte, Marks}
+use Rattle.bpf_verifier.specs.FrameBytes.{has_byte, AreBitsOf}
 use Rattle.bpf_verifier.specs.Represents.{ranges_of, state_of, Represents, RepresentsOption, join_with}
 use Rattle.bpf_verifier.proofs.Bits.{not_equal}
 use Rattle.bpf_verifier.proofs.Loops.{all_true, one_false}
 
 -- ---- bytes that are read
 
-module _ (words : List ℕ) (range : reg.Range) (size d : ℕ) (shallow : d < 8) (ordered : range.lo ≤ range.hi) (inside : in_bounds d (Some range) size ≡ true) (near : range.lo < arguments_start) (marked : ℕ → Bool) (marks : Marks words marked) where
+module _ (words : List ℕ) (range : reg.Range) (size d : ℕ) (shallow : d < 8) (ordered : range.lo ≤ range.hi) (inside : in_bounds d (Some range) size ≡ true) (near : range.lo < arguments_start) (init : ℕ → Bool) (bits : AreBitsOf words init) where
   in_frame : (frame_start 0 ≤ range.lo) × (range.hi + size ≤ frame_end d)
   in_frame =
       elim (in_bounds_cases d range.lo (extent range size) inside) [
@@ -33,25 +33,25 @@ module _ (words : List ℕ) (range : reg.Range) (size d : ℕ) (shallow : d < 8)
   near_test : leb arguments_start range.lo ≡ false
   near_test = elim (leb_tells arguments_start range.lo) [ inl (e, far) ↦ absurd (omega arith) | inr (e, h) ↦ e ]
 
-  uninitialized : (index : ℕ) → range.lo - frame_start 0 ≤ index → index < range.hi + size - frame_start 0 → has_byte words index ≡ false → false ≡ is_initialized marked (Some range) size
+  uninitialized : (index : ℕ) → range.lo - frame_start 0 ≤ index → index < range.hi + size - frame_start 0 → has_byte words index ≡ false → false ≡ is_initialized init (Some range) size
   uninitialized index low high e =
       let frame = in_frame in
       let start : frame_start 0 ≤ range.lo = frame.0 in
       let end : range.hi + size ≤ frame_end d = frame.1 in
-      let here = sym (marks index (omega arith)) ∙ e in
-      sym (ap (λ (b : Bool). b || all_initialized marked range.lo (extent range size)) near_test ∙ one_false marked range.lo (extent range size) (frame_start 0 + index) (omega arith) (omega arith) here)
+      let here = sym (bits index (omega arith)) ∙ e in
+      sym (ap (λ (b : Bool). b || all_initialized init range.lo (extent range size)) near_test ∙ one_false init range.lo (extent range size) (frame_start 0 + index) (omega arith) (omega arith) here)
 
-  all_there : ((k : ℕ) → range.lo - frame_start 0 ≤ k → k < range.hi + size - frame_start 0 → has_byte words k ≡ true) → true ≡ is_initialized marked (Some range) size
+  all_there : ((k : ℕ) → range.lo - frame_start 0 ≤ k → k < range.hi + size - frame_start 0 → has_byte words k ≡ true) → true ≡ is_initialized init (Some range) size
   all_there all =
       let frame = in_frame in
       let start : frame_start 0 ≤ range.lo = frame.0 in
       let end : range.hi + size ≤ frame_end d = frame.1 in
-      let each : (k : ℕ) → range.lo ≤ k → k < range.lo + extent range size → marked k ≡ true = λ k low high.
+      let each : (k : ℕ) → range.lo ≤ k → k < range.lo + extent range size → init k ≡ true = λ k low high.
       let at : frame_start 0 + (k - frame_start 0) ≡ k = omega arith in
-      subst (λ (j : ℕ). marked j ≡ true) at (sym (marks (k - frame_start 0) (omega arith)) ∙ all (k - frame_start 0) (omega arith) (omega arith)) in
-      sym (ap (λ (b : Bool). b || all_initialized marked range.lo (extent range size)) near_test ∙ all_true marked range.lo (extent range size) each)
+      subst (λ (j : ℕ). init j ≡ true) at (sym (bits (k - frame_start 0) (omega arith)) ∙ all (k - frame_start 0) (omega arith) (omega arith)) in
+      sym (ap (λ (b : Bool). b || all_initialized init range.lo (extent range size)) near_test ∙ all_true init range.lo (extent range size) each)
 
-  pub stack_bytes : (n : ℕ) → n ≡ size → (b : Bool) → (b ≡ true → (i : ℕ) → range.lo - frame_start 0 ≤ i → i < range.hi + n - frame_start 0 → has_byte words i ≡ true) → (b ≡ false → (i : ℕ) × (range.lo - frame_start 0 ≤ i) × (i < range.hi + n - frame_start 0) × (has_byte words i ≡ false)) → b ≡ is_initialized marked (Some range) size
+  pub stack_bytes : (n : ℕ) → n ≡ size → (b : Bool) → (b ≡ true → (i : ℕ) → range.lo - frame_start 0 ≤ i → i < range.hi + n - frame_start 0 → has_byte words i ≡ true) → (b ≡ false → (i : ℕ) × (range.lo - frame_start 0 ≤ i) × (i < range.hi + n - frame_start 0) × (has_byte words i ≡ false)) → b ≡ is_initialized init (Some range) size
   stack_bytes n same true present absent = all_there (λ k low high. present refl k low (omega (arith, high, same)))
   stack_bytes n same false present absent =
       let one = absent refl in let high = one.2 in uninitialized one.0 one.1 (omega (arith, high, same)) one.3
@@ -123,8 +123,8 @@ join_visit before state after s joins is (Some a) h = joins a s h is
 
 -- ---- after a helper
 
-module _ (ranges : List (Option Range)) (long : length ranges ≡ 11) (marked : ℕ → Bool) (most : ℕ) (answer : Range) (is : range_of answer ≡ reg.range 0 most) (written : List Access) where
-  pub called_ranges : (x6 x7 x8 x9 x10 : Option Range) → x6 ≡ get_or ranges 6 None → x7 ≡ get_or ranges 7 None → x8 ≡ get_or ranges 8 None → x9 ≡ get_or ranges 9 None → x10 ≡ get_or ranges 10 None → (r : ℕ) → ranges_of (Some answer ∷ None ∷ None ∷ None ∷ None ∷ None ∷ x6 ∷ x7 ∷ x8 ∷ x9 ∷ x10 ∷ []) r ≡ (after_helper (state_of ranges marked) most written).ranges r
+module _ (ranges : List (Option Range)) (long : length ranges ≡ 11) (init : ℕ → Bool) (most : ℕ) (answer : Range) (is : range_of answer ≡ reg.range 0 most) (written : List Access) where
+  pub called_ranges : (x6 x7 x8 x9 x10 : Option Range) → x6 ≡ get_or ranges 6 None → x7 ≡ get_or ranges 7 None → x8 ≡ get_or ranges 8 None → x9 ≡ get_or ranges 9 None → x10 ≡ get_or ranges 10 None → (r : ℕ) → ranges_of (Some answer ∷ None ∷ None ∷ None ∷ None ∷ None ∷ x6 ∷ x7 ∷ x8 ∷ x9 ∷ x10 ∷ []) r ≡ (after_helper (state_of ranges init) most written).ranges r
   called_ranges x6 x7 x8 x9 x10 e6 e7 e8 e9 e10 zero = ap Some is
   called_ranges x6 x7 x8 x9 x10 e6 e7 e8 e9 e10 (suc zero) = refl
   called_ranges x6 x7 x8 x9 x10 e6 e7 e8 e9 e10 (suc (suc zero)) = refl
@@ -145,12 +145,12 @@ module _ (ranges : List (Option Range)) (long : length ranges ≡ 11) (marked : 
       ∙ ap (λ (b : Bool). cond b (ranges_of ranges n) None) six
       ∙ ap (option_map range_of) none)
 
-module _ (ranges next : List (Option Range)) (words after_words : List ℕ) (most : ℕ) (writes : List Access) (marked : ℕ → Bool) where
+module _ (ranges next : List (Option Range)) (words after_words : List ℕ) (most : ℕ) (writes : List Access) (init : ℕ → Bool) where
   -- the state after a helper, of the bytes that it wrote
-  pub represents_helper : (state : AbstractState) → ((r : ℕ) → ranges_of state.ranges r ≡ (after_helper (state_of ranges marked) most writes).ranges r) → state.initialized.words ≡ after_words → Marks words marked → ((i : ℕ) → i < 4096 → has_byte after_words i ≡ (list_any (λ access. is_written (ranges_of ranges access.register) (fixed_size access.size) (frame_start 0 + i)) writes || has_byte words i)) → Represents state (after_helper (state_of ranges marked) most writes)
-  represents_helper state are same marks bytes = record {
+  pub represents_helper : (state : AbstractState) → ((r : ℕ) → ranges_of state.ranges r ≡ (after_helper (state_of ranges init) most writes).ranges r) → state.initialized.words ≡ after_words → AreBitsOf words init → ((i : ℕ) → i < 4096 → has_byte after_words i ≡ (list_any (λ access. is_written (ranges_of ranges access.register) (fixed_size access.size) (frame_start 0 + i)) writes || has_byte words i)) → Represents state (after_helper (state_of ranges init) most writes)
+  represents_helper state are same bits bytes = record {
     ranges_are = are;
-    initialized_are = λ i h. ap (λ (ws : List ℕ). has_byte ws i) same ∙ bytes i h ∙ ap (λ (b : Bool). list_any (λ (access : Access). is_written (ranges_of ranges access.register) (fixed_size access.size) (frame_start 0 + i)) writes || b) (marks i h);
+    initialized_are = λ i h. ap (λ (ws : List ℕ). has_byte ws i) same ∙ bytes i h ∙ ap (λ (b : Bool). list_any (λ (access : Access). is_written (ranges_of ranges access.register) (fixed_size access.size) (frame_start 0 + i)) writes || b) (bits i h);
   }
 
 -- ---- around a call

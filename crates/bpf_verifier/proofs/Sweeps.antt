@@ -18,7 +18,7 @@ use Rattle.bpf_model.specs.Dataflow.{flows_to}
 use Rattle.bpf_model.specs.Verdict.{max_visits}
 use Rattle.bpf_verifier.specs.declared.abstract_state.AbstractState.{AbstractState}
 use Rattle.bpf_verifier.specs.declared.dataflow.Visit.{Visit}
-use Rattle.bpf_verifier.specs.FrameBytes.{has_byte, Marks}
+use Rattle.bpf_verifier.specs.FrameBytes.{has_byte, AreBitsOf}
 use Rattle.bpf_verifier.proofs.States.{represents_same}
 use Rattle.bpf_verifier.specs.Represents.{state_of, Represents, join_with}
 use Rattle.bpf_verifier.specs.Sweep.{Pending, visit_in, RepresentsVisit, Brings, pending_at, VisitJoined, Pushed, Flowed, HasAtLeast, OfSteps, AreFew}
@@ -200,17 +200,17 @@ few_visited base visits after slot old new bound more own v es few e counted sma
       greater (inl lt) = let short : base + v.steps ≤ visits = steps_few base visits slot old bound v few e in omega (arith, lt, most, short, counted)
       greater (inr le) = let low = few.bound_few in omega (arith, le, most, low, counted)
 
--- the marks that the words have
-unfoldable pub own_marks : List ℕ → ℕ → Bool
-own_marks words a = has_byte words (a - frame_start 0)
+-- the bytes whose bits the words have
+unfoldable pub own_bytes : List ℕ → ℕ → Bool
+own_bytes words a = has_byte words (a - frame_start 0)
 
-pub own_marks_are : (words : List ℕ) → Marks words (own_marks words)
-unfolding own_marks
-own_marks_are words i h = let same : i ≡ frame_start 0 + i - frame_start 0 = omega arith in ap (has_byte words) same
+pub own_bytes_are : (words : List ℕ) → AreBitsOf words (own_bytes words)
+unfolding own_bytes
+own_bytes_are words i h = let same : i ≡ frame_start 0 + i - frame_start 0 = omega arith in ap (has_byte words) same
 
 -- ---- the code's steps
 
--- a visit has come to a slot: what stands there now is joined of both
+-- a visit has come to a slot: what is pending there now is the join of both
 pub push_flows : (old : Pending) (t : ℕ) (v after : Box Visit Global) (b d z : Option (Box Visit Global)) → b ≡ get_or old t d → ((of : model.AbstractState) → Represents v.value.state of → VisitJoined (visit_in b) of v.value.steps (Some after.value)) → t < length old → (target : Option ℕ) → target ≡ Some t → (visit : Option (Box Visit Global)) → visit ≡ Some v → (of : Option model.AbstractState) (steps : ℕ) → Brings visit of steps → Flowed (edge_if target of) steps old (set (set old t z) t (Some after))
 push_flows old t v after b d z is joins inside target te visit ve of steps r =
     subst (λ (q : Option ℕ). Flowed (edge_if q of) steps old (set (set old t z) t (Some after))) (sym te) (there of (subst (λ (q : Option (Box Visit Global)). Brings q of steps) ve r)) where
@@ -245,9 +245,9 @@ joined_same b v before visit after be ve joins =
     subst (λ (x : Visit). (of : model.AbstractState) → Represents visit.state of → VisitJoined (Some x) of visit.steps (Some after)) be
     (subst (λ (x : Visit). (of : model.AbstractState) → Represents x.state of → VisitJoined (Some b) of x.steps (Some after)) ve joins)
 
-pub onward_same : (v visit : Visit) (x : Insn) (after : AbstractState) → v ≡ visit → ((marked : ℕ → Bool) → Marks v.state.initialized.words marked → Represents after (after_insn (state_of v.state.ranges marked) x)) → (marked : ℕ → Bool) → Marks visit.state.initialized.words marked → Represents after (after_insn (state_of visit.state.ranges marked) x) × (v.steps ≡ visit.steps)
-onward_same v visit x after e is marked marks =
-    (subst (λ (w : Visit). (marked : ℕ → Bool) → Marks w.state.initialized.words marked → Represents after (after_insn (state_of w.state.ranges marked) x)) e is marked marks, ap (λ (w : Visit). w.steps) e)
+pub onward_same : (v visit : Visit) (x : Insn) (after : AbstractState) → v ≡ visit → ((init : ℕ → Bool) → AreBitsOf v.state.initialized.words init → Represents after (after_insn (state_of v.state.ranges init) x)) → (init : ℕ → Bool) → AreBitsOf visit.state.initialized.words init → Represents after (after_insn (state_of visit.state.ranges init) x) × (v.steps ≡ visit.steps)
+onward_same v visit x after e is init bits =
+    (subst (λ (w : Visit). (init : ℕ → Bool) → AreBitsOf w.state.initialized.words init → Represents after (after_insn (state_of w.state.ranges init) x)) e is init bits, ap (λ (w : Visit). w.steps) e)
 
 -- what a state represents, a copy of it represents
 pub copied_state : {E : Type 0} (r : Result (Box Visit Global) E) (s : AbstractState) (P : model.AbstractState → Type 0) (f : model.AbstractState → model.AbstractState) → IfOk r (λ copy. copy.value.state.ranges ≡ s.ranges) → IfOk r (λ copy. copy.value.state.initialized.words ≡ s.initialized.words) → ((of : model.AbstractState) → P of → Represents s (f of)) → IfOk r (λ copy. (of : model.AbstractState) → P of → Represents copy.value.state (f of))

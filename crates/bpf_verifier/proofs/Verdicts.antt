@@ -30,8 +30,8 @@ accepted_by code a b bound is-a is-b structure dataflow longest = record {
 
 -- code that was accepted makes a procedure, with its table
 pub procedure_of : (bytes : List ℕ) (code : List Insn) (table : List FlatInsn) (bound : ℕ) (calls : Bool) → IsCode bytes code → IsTable code table → IsAccepted code bound → calls ≡ has_local_calls code → IsProcedure bytes code table bound calls
-procedure_of bytes code table bound calls is flat accepted told =
-    record { is_code = is; is_table = flat; safe = safe bytes code bound is accepted; small = bounded bytes code bound is accepted; calls_are = told }
+procedure_of bytes code table bound calls is flat accepted same_calls =
+    record { is_code = is; is_table = flat; safe = safe bytes code bound is accepted; small = bounded bytes code bound is accepted; calls_are = same_calls }
 
 pub safe_of : (bytes : List ℕ) (code : List Insn) (bound : ℕ) → IsCode bytes code → IsAccepted code bound → (insns : List Insn) → IsCode bytes insns → IsSafe insns bound
 safe_of bytes code bound is accepted insns other =

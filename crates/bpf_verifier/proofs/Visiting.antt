@@ -22,16 +22,16 @@ use Rattle.bpf_model.proofs.Slots.{first_at}
 use Rattle.bpf_model.proofs.Visits.{visits_here, first_visit}
 use Rattle.bpf_verifier.specs.declared.dataflow.Visit.{Visit}
 use Rattle.bpf_verifier.specs.declared.dataflow.Returned.{Returned}
-use Rattle.bpf_verifier.specs.FrameBytes.{Marks}
+use Rattle.bpf_verifier.specs.FrameBytes.{AreBitsOf}
 use Rattle.bpf_verifier.specs.Represents.{state_of, Represents}
-use Rattle.bpf_verifier.specs.Sweep.{Pending, visit_in, RepresentsVisit, pending_at, VisitJoined, Brings, Flowed, IsStructured, AreRight, Fails, Entered, activation_of, IsEntered, SweepAt, Followed, callee_of, CalledBack, FailsInCall, IsTold}
+use Rattle.bpf_verifier.specs.Sweep.{Pending, visit_in, RepresentsVisit, pending_at, VisitJoined, Brings, Flowed, IsStructured, AreRight, Fails, Entered, activation_of, IsEntered, SweepAt, Followed, callee_of, CalledBack, FailsInCall, IsRunning}
 use Rattle.bpf_verifier.specs.Observed.{IsActive}
-use Rattle.bpf_verifier.proofs.Sweeps.{visit_of, taken, own_marks, own_marks_are}
+use Rattle.bpf_verifier.proofs.Sweeps.{visit_of, taken, own_bytes, own_bytes_are}
 use Rattle.bpf_verifier.proofs.Functions.{same_state, state_here, sweep_visited, fails_own, fails_in_call}
 
--- what a fault is found by, for whatever marks the words have
+-- what a fault is found by, for whatever bits the words have
 abbrev Finds : Visit → Insn → ℕ → Option VerifyFault → Type 0
-Finds v x d fault = (marked : ℕ → Bool) → Marks v.state.initialized.words marked → insn_dataflow_fault d (state_of v.state.ranges marked) x ≡ fault
+Finds v x d fault = (init : ℕ → Bool) → AreBitsOf v.state.initialized.words init → insn_dataflow_fault d (state_of v.state.ranges init) x ≡ fault
 
 pub at_next : (f : Entered) (slot : ℕ) (pending : Pending) (returned : Returned) (visits : ℕ) → SweepAt f (suc slot) pending returned visits → SweepAt f (slot + 1) pending returned visits
 at_next f slot pending returned visits h =
@@ -87,7 +87,7 @@ module _ (f : Entered) (is : IsEntered f) (slot : ℕ) (old : Pending) (returned
         ap (λ (n : ℕ). insn_dataflow_fault n known.0 x) (sym depth) ∙ ap (λ (s : model.AbstractState). insn_dataflow_fault d s x) (sym (same_state v.state known.0 known.2)) ∙ finds (known.0).initialized (known.2).initialized_are,
       )
 
-  pub begin_fails : (fault : VerifyFault) → visits ≤ max_visits → ((marked : ℕ → Bool) → Marks v.state.initialized.words marked → visit_fault visits (Some (record { slot = slot; fault = insn_dataflow_fault d (state_of v.state.ranges marked) x })) ≡ Some fault) → Fails f.base (visits_in f.code (suc f.left) f.entry f.state) fault slot
+  pub begin_fails : (fault : VerifyFault) → visits ≤ max_visits → ((init : ℕ → Bool) → AreBitsOf v.state.initialized.words init → visit_fault visits (Some (record { slot = slot; fault = insn_dataflow_fault d (state_of v.state.ranges init) x })) ≡ Some fault) → Fails f.base (visits_in f.code (suc f.left) f.entry f.state) fault slot
   begin_fails fault few bad =
       let known = state_here f is slot old returned visits p inside v here in
       fails_own f is slot old returned visits p inside v x known.0 fault x-is known.1 few
@@ -101,7 +101,7 @@ module _ (f : Entered) (is : IsEntered f) (slot : ℕ) (old : Pending) (returned
 
   module _ (new : Pending) (after : Returned) (count : ℕ) (finds : Finds v x d None) where
     -- an instruction that calls no function and is no exit
-    pub other_visited : ((offset : ℤ) → x ≡ insn.CallLocal offset → ⊥) → (x ≡ insn.Exit → ⊥) → ((b : ℕ → model.AbstractState → Option model.AbstractState) (marked : ℕ → Bool) → Marks v.state.initialized.words marked → Flowed (edges b slot (state_of v.state.ranges marked) x) (v.steps + 1) (taken old slot) new) → count ≡ visits + 1 → after.exit ≡ returned.exit → after.bound ≡ max returned.bound (v.steps + 1) → SweepAt f (slot + 1) new after count
+    pub other_visited : ((offset : ℤ) → x ≡ insn.CallLocal offset → ⊥) → (x ≡ insn.Exit → ⊥) → ((b : ℕ → model.AbstractState → Option model.AbstractState) (init : ℕ → Bool) → AreBitsOf v.state.initialized.words init → Flowed (edges b slot (state_of v.state.ranges init) x) (v.steps + 1) (taken old slot) new) → count ≡ visits + 1 → after.exit ≡ returned.exit → after.bound ≡ max returned.bound (v.steps + 1) → SweepAt f (slot + 1) new after count
     other_visited nc ne flows counted same most =
         let m = found_here None finds in
         let none = other_called slot x nc in
@@ -187,31 +187,31 @@ is_callee f is slot offset m t l visits x-is leads =
     record { structured = is.structured; insn = begins.0; begins = begins.1 }
 
 -- and runs one deeper
-pub callee_told : (slots : List (Option Insn)) (before left slot t : ℕ) (offset : ℤ) (visits : ℕ) (f : Entered) (m : model.AbstractState) → IsTold slots before f → state_at f.code (activation_of f) slot ≡ Some m → insn_at f.code slot ≡ Some (insn.CallLocal offset) → target_of slot offset ≡ Some t → before ≡ suc left → before < 8 → IsTold slots left (callee_of f m t left visits)
-callee_told slots before left slot t offset visits f m told known x-is leads one deep =
+pub callee_running : (slots : List (Option Insn)) (before left slot t : ℕ) (offset : ℤ) (visits : ℕ) (f : Entered) (m : model.AbstractState) → IsRunning slots before f → state_at f.code (activation_of f) slot ≡ Some m → insn_at f.code slot ≡ Some (insn.CallLocal offset) → target_of slot offset ≡ Some t → before ≡ suc left → before < 8 → IsRunning slots left (callee_of f m t left visits)
+callee_running slots before left slot t offset visits f m running known x-is leads one deep =
     let deeper : suc (7 - before) ≡ 7 - left = omega (arith, one, deep) in
     let within : left + suc (7 - before) ≡ frames - 1 = omega (arith, one, deep) in
     record {
-      slots_are = told.slots_are;
+      slots_are = running.slots_are;
       left_is = refl;
-      entered = is_callee f told.entered slot offset m t left visits x-is leads;
-      active = subst (λ (d : ℕ). IsActive f.code d (activation_of (callee_of f m t left visits))) deeper (activation_of f, slot, m, insn.CallLocal offset, t, left, told.active, known, x-is, leads, within, refl);
+      entered = is_callee f running.entered slot offset m t left visits x-is leads;
+      active = subst (λ (d : ℕ). IsActive f.code d (activation_of (callee_of f m t left visits))) deeper (activation_of f, slot, m, insn.CallLocal offset, t, left, running.active, known, x-is, leads, within, refl);
     }
 
 -- ---- a state for what the arrays hold
 
 pub own_state : (v : Visit) → (m : model.AbstractState) × Represents v.state m
 own_state v =
-    (state_of v.state.ranges (own_marks v.state.initialized.words), record { ranges_are = λ r. refl; initialized_are = own_marks_are v.state.initialized.words })
+    (state_of v.state.ranges (own_bytes v.state.initialized.words), record { ranges_are = λ r. refl; initialized_are = own_bytes_are v.state.initialized.words })
 
 pub own_exit : (o : Option (Box Visit Global)) → (gone : Option model.AbstractState) × RepresentsVisit (visit_in o) gone
 own_exit None = (None, tt)
 own_exit (Some b) = let m = own_state b.value in (Some m.0, m.1)
 
 -- a fault that is found of a copy
-pub finds_same : (v w : Visit) (x : Insn) (d : ℕ) (fault : Option VerifyFault) → v ≡ w → ((marked : ℕ → Bool) → Marks v.state.initialized.words marked → insn_dataflow_fault d (state_of v.state.ranges marked) x ≡ fault) → (marked : ℕ → Bool) → Marks w.state.initialized.words marked → insn_dataflow_fault d (state_of w.state.ranges marked) x ≡ fault
+pub finds_same : (v w : Visit) (x : Insn) (d : ℕ) (fault : Option VerifyFault) → v ≡ w → ((init : ℕ → Bool) → AreBitsOf v.state.initialized.words init → insn_dataflow_fault d (state_of v.state.ranges init) x ≡ fault) → (init : ℕ → Bool) → AreBitsOf w.state.initialized.words init → insn_dataflow_fault d (state_of w.state.ranges init) x ≡ fault
 finds_same v w x d fault e finds =
-    subst (λ (u : Visit). (marked : ℕ → Bool) → Marks u.state.initialized.words marked → insn_dataflow_fault d (state_of u.state.ranges marked) x ≡ fault) e finds
+    subst (λ (u : Visit). (init : ℕ → Bool) → AreBitsOf u.state.initialized.words init → insn_dataflow_fault d (state_of u.state.ranges init) x ≡ fault) e finds
 
 -- an error that is handed on
 pub handed_on : {X E : Type 0} (r : Result X E) (x : E) (P : E → Type 0) → IfErr r (λ e. e ≡ x) → P x → IfErr r P
@@ -261,8 +261,8 @@ pub is_main : (code : List Insn) → IsStructured code → 0 < length (insns_by_
 is_main code structured some =
     let first = first_at code some in record { structured = structured; insn = first.0; begins = first.1 }
 
-pub main_told : (slots : List (Option Insn)) (code : List Insn) → slots ≡ insns_by_slot code → IsStructured code → 0 < length slots → IsTold slots 7 (main_of code)
-main_told slots code same structured some = record {
+pub main_running : (slots : List (Option Insn)) (code : List Insn) → slots ≡ insns_by_slot code → IsStructured code → 0 < length slots → IsRunning slots 7 (main_of code)
+main_running slots code same structured some = record {
   slots_are = same;
   left_is = refl;
   entered = is_main code structured (subst (λ (l : List (Option Insn)). 0 < length l) same some);

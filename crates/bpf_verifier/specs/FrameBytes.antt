@@ -7,9 +7,9 @@ use Rattle.bpf_model.specs.Machine.{frame_start}
 abbrev pub has_byte : List ℕ → ℕ → Bool
 has_byte words i = bit_at (slice_index_or words (i / 64) 0) (i % 64) == 1
 
--- The words hold the bytes of the stack's eight frames that are marked.
-abbrev pub Marks : List ℕ → (ℕ → Bool) → Type 0
-Marks words marked = (i : ℕ) → i < 4096 → has_byte words i ≡ marked (frame_start 0 + i)
+-- The words hold the bytes of the stack's eight frames that are initialized, a bit each.
+abbrev pub AreBitsOf : List ℕ → (ℕ → Bool) → Type 0
+AreBitsOf words init = (i : ℕ) → i < 4096 → has_byte words i ≡ init (frame_start 0 + i)
 
 -- From one on the words are 0.
 abbrev pub AreZeroFrom : ℕ → List ℕ → Type 0

@@ -1,4 +1,4 @@
--- Statement: what is told of a visit: what the data flow says holds before the instruction.
+-- Statement: what the verifier reports of a visit: what the data flow says holds before the instruction.
 use Rattle.std.specs.Prelude.{◌≡◌, ℕ, zero, suc, ◌+◌, ◌-◌, List, Option, Some}
 use Rattle.bpf_decode.specs.declared.insn.Insn.{Insn}
 use Rattle.bpf_model.specs.AbstractState as model
@@ -34,6 +34,6 @@ pub record IsVisit (slots : List (Option Insn)) (depth slot : ℕ) (insn : Insn)
   pub running : Activation
   pub active : IsActive code depth running
   pub insn_is : insn_at code slot ≡ Some insn
-  pub known : model.AbstractState
-  pub known_is : state_at code running slot ≡ Some known
-  pub represents : Represents state known
+  pub of : model.AbstractState
+  pub of_is : state_at code running slot ≡ Some of
+  pub represents : Represents state of

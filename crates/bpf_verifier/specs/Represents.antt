@@ -6,20 +6,20 @@ use Rattle.reg_ranges.specs.RangeOf.{range_of}
 use Rattle.reg_ranges.specs.declared.range.Range.{Range}
 use Rattle.bpf_model.specs.AbstractState as model
 use Rattle.bpf_verifier.specs.declared.abstract_state.AbstractState.{AbstractState}
-use Rattle.bpf_verifier.specs.FrameBytes.{Marks}
+use Rattle.bpf_verifier.specs.FrameBytes.{AreBitsOf}
 
 -- The range of each register that has one.
 abbrev pub ranges_of : List (Option Range) → ℕ → Option reg.Range
 ranges_of ranges r = option_map range_of (slice_index_or ranges r None)
 
--- The state of these registers, with these marks.
+-- The state of these registers, with these initialized bytes.
 abbrev pub state_of : List (Option Range) → (ℕ → Bool) → model.AbstractState
-state_of ranges marked = record { ranges = ranges_of ranges; initialized = marked }
+state_of ranges init = record { ranges = ranges_of ranges; initialized = init }
 
 -- The ranges are those of the state, and the words hold the initialized bytes of the stack.
 pub record Represents (state : AbstractState) (of : model.AbstractState) : Type 0 where
   pub ranges_are : (r : ℕ) → ranges_of state.ranges r ≡ of.ranges r
-  pub initialized_are : Marks state.initialized.words of.initialized
+  pub initialized_are : AreBitsOf state.initialized.words of.initialized
 
 -- The same, where there may be no state.
 abbrev pub RepresentsOption : Option AbstractState → Option model.AbstractState → Type 0

@@ -19,7 +19,7 @@ use Rattle.bpf_verifier.specs.Represents.{Represents, RepresentsOption, join_wit
 abbrev pub Pending : Type 0
 Pending = List (Option (Box Visit Global))
 
--- What stands where a visit may be.
+-- The visit that is there, if one is.
 abbrev pub visit_in : Option (Box Visit Global) → Option Visit
 visit_in o = option_map (λ (b : Box Visit Global). b.value) o
 
@@ -115,7 +115,7 @@ pub record IsEntered (f : Entered) : Type 0 where
   pub begins : insn_at f.code f.entry ≡ Some insn
 
 -- A function of these slots, for whose callees so many frames are left, and that runs at its depth.
-pub record IsTold (slots : List (Option Insn)) (left : ℕ) (f : Entered) : Type 0 where
+pub record IsRunning (slots : List (Option Insn)) (left : ℕ) (f : Entered) : Type 0 where
   pub slots_are : slots ≡ insns_by_slot f.code
   pub left_is : f.left ≡ left
   pub entered : IsEntered f

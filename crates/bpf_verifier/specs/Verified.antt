@@ -22,7 +22,7 @@ abbrev pub has_local_calls : List Insn → Bool
 has_local_calls insns = list_any is_local_call insns
 
 -- What holds of every procedure: its code cannot go wrong, and ends within the bound; its table is that of its
--- instructions; and what it tells of their calls is true.
+-- instructions; and what it says of their calls is true.
 pub record IsProcedure (bytes : List ℕ) (code : List Insn) (table : List FlatInsn) (bound : ℕ) (calls : Bool) : Type 0 where
   pub is_code : IsCode bytes code
   pub is_table : IsTable code table

@@ -127,13 +127,13 @@ impl AbstractState {
             Represents self.new (join_with (Some a) b) }
     {
         for register in 0..REGISTERS {
-            self.ranges[register] = joined_range(self.ranges[register], other.ranges[register]);
+            self.ranges[register] = join_ranges(self.ranges[register], other.ranges[register]);
         }
         self.initialized.intersect(&other.initialized);
     }
 
     /// The state in which a function is entered at a depth, by a call in this state.
-    pub(crate) fn entered(&self, depth: u32) -> AbstractState
+    pub(crate) fn entry_state(&self, depth: u32) -> AbstractState
         requires { depth < 8 }
         ensures { (of : ModelState) → Represents self.now of →
             Represents result (entry_state depth of) }
@@ -180,7 +180,7 @@ impl AbstractState {
     }
 }
 
-fn joined_range(a: Option<Range>, b: Option<Range>) -> Option<Range>
+fn join_ranges(a: Option<Range>, b: Option<Range>) -> Option<Range>
     ensures { option_map range_of result ≡
         join_option (option_map range_of a) (option_map range_of b) }
 {

@@ -35,15 +35,15 @@ impl AbstractState {
     ghost use Rattle.bpf_model.specs.Access.{bytes_of};
     ghost use Rattle.bpf_model.specs.AbstractState.{operands, has_all, has_operands, has_accesses, has_bytes, in_bounds, is_initialized, max_size, access_in_bounds, access_initialized, all_in_bounds, are_initialized, address_range};
     ghost use Rattle.bpf_model.specs.Verdict.{insn_dataflow_fault};
-    ghost use Rattle.bpf_verifier.specs.FrameBytes.{Marks};
+    ghost use Rattle.bpf_verifier.specs.FrameBytes.{AreBitsOf};
     ghost use Rattle.bpf_verifier.specs.Represents.{ranges_of, state_of};
 
     /// What is wrong with an instruction that is reached in the frame of a depth: an operand, then an
     /// access, then bytes that are read, then a local call for which no frame is left.
     pub(crate) fn insn_dataflow_fault(&self, depth: u32, insn: &Insn) -> Option<VerifyFault>
         requires { depth < 8 }
-        ensures { (marked : ℕ → Bool) → Marks self.now.initialized.words marked →
-            result ≡ insn_dataflow_fault depth (state_of self.now.ranges marked) insn.now }
+        ensures { (init : ℕ → Bool) → AreBitsOf self.now.initialized.words init →
+            result ≡ insn_dataflow_fault depth (state_of self.now.ranges init) insn.now }
     {
         if !self.has_operands(insn) {
             return Some(VerifyFault::UninitRegister);
@@ -85,8 +85,8 @@ impl AbstractState {
 
     fn has_accesses(&self, depth: u32, insn: &Insn) -> bool
         requires { depth < 8 }
-        ensures { (marked : ℕ → Bool) → result ≡
-            has_accesses depth (state_of self.now.ranges marked) insn.now }
+        ensures { (init : ℕ → Bool) → result ≡
+            has_accesses depth (state_of self.now.ranges init) insn.now }
     {
         match insn {
             Insn::Load {
@@ -119,10 +119,10 @@ impl AbstractState {
     }
 
     fn has_bytes(&self, insn: &Insn) -> bool
-        requires { (depth : ℕ) × (depth < 8) × ((marked : ℕ → Bool) →
-            has_accesses depth (state_of self.now.ranges marked) insn.now ≡ true) }
-        ensures { (marked : ℕ → Bool) → Marks self.now.initialized.words marked →
-            result ≡ has_bytes (state_of self.now.ranges marked) insn.now }
+        requires { (depth : ℕ) × (depth < 8) × ((init : ℕ → Bool) →
+            has_accesses depth (state_of self.now.ranges init) insn.now ≡ true) }
+        ensures { (init : ℕ → Bool) → AreBitsOf self.now.initialized.words init →
+            result ≡ has_bytes (state_of self.now.ranges init) insn.now }
     {
         match insn {
             Insn::Load {
@@ -142,8 +142,8 @@ impl AbstractState {
     /// Whether all bytes that a load or a store may touch are in bounds.
     fn has_access(&self, depth: u32, size: Size, base: Reg, offset: i16) -> bool
         requires { depth < 8 }
-        ensures { (marked : ℕ → Bool) → result ≡
-            in_bounds depth (address_range (state_of self.now.ranges marked) base.number offset)
+        ensures { (init : ℕ → Bool) → result ≡
+            in_bounds depth (address_range (state_of self.now.ranges init) base.number offset)
             (bytes_of size) }
     {
         is_in_bounds(
@@ -155,11 +155,11 @@ impl AbstractState {
 
     /// Whether all bytes that a load may read are initialized.
     fn has_bytes_at(&self, size: Size, base: Reg, offset: i16) -> bool
-        requires { (depth : ℕ) × (depth < 8) × ((marked : ℕ → Bool) →
-            in_bounds depth (address_range (state_of self.now.ranges marked) base.number offset)
+        requires { (depth : ℕ) × (depth < 8) × ((init : ℕ → Bool) →
+            in_bounds depth (address_range (state_of self.now.ranges init) base.number offset)
             (bytes_of size) ≡ true) }
-        ensures { (marked : ℕ → Bool) → Marks self.now.initialized.words marked → result ≡
-            is_initialized marked (address_range (state_of self.now.ranges marked) base.number offset)
+        ensures { (init : ℕ → Bool) → AreBitsOf self.now.initialized.words init → result ≡
+            is_initialized init (address_range (state_of self.now.ranges init) base.number offset)
             (bytes_of size) }
     {
         self.is_initialized(self.address_range(base, offset), u64::from(bytes_of(size)))
@@ -168,9 +168,9 @@ impl AbstractState {
     /// The range of the address that a load or a store accesses: what its base may hold and its offset;
     /// none where the base may hold nothing.
     pub fn address_range(&self, base: Reg, offset: i16) -> Option<Range>
-        ensures { (marked : ℕ → Bool) →
+        ensures { (init : ℕ → Bool) →
             option_map range_of result ≡
-            address_range (state_of self.now.ranges marked) base.number offset }
+            address_range (state_of self.now.ranges init) base.number offset }
     {
         let range = self.range_of(base.number)?;
         let offset = Range::single(i64::from(offset).cast_unsigned());
@@ -202,8 +202,8 @@ impl AbstractState {
     fn access_initialized(&self, access: Access) -> bool
         requires { (depth : ℕ) × (depth < 8) ×
             (access_in_bounds depth (ranges_of self.now.ranges) access ≡ true) }
-        ensures { (marked : ℕ → Bool) → Marks self.now.initialized.words marked →
-            result ≡ access_initialized marked (ranges_of self.now.ranges) access }
+        ensures { (init : ℕ → Bool) → AreBitsOf self.now.initialized.words init →
+            result ≡ access_initialized init (ranges_of self.now.ranges) access }
     {
         match self.max_size(access.size) {
             Some(size) => size == 0 || self.is_initialized(self.range_of(access.register), size),
@@ -226,8 +226,8 @@ impl AbstractState {
     fn are_initialized(&self, accesses: &[Access]) -> bool
         requires { (depth : ℕ) × (depth < 8) ×
             (all_in_bounds depth (ranges_of self.now.ranges) accesses.now ≡ true) }
-        ensures { (marked : ℕ → Bool) → Marks self.now.initialized.words marked →
-            result ≡ are_initialized marked (ranges_of self.now.ranges) accesses.now }
+        ensures { (init : ℕ → Bool) → AreBitsOf self.now.initialized.words init →
+            result ≡ are_initialized init (ranges_of self.now.ranges) accesses.now }
     {
         for access in accesses {
             if !self.access_initialized(*access) {
@@ -241,8 +241,8 @@ impl AbstractState {
     fn is_initialized(&self, range: Option<Range>, size: u64) -> bool
         requires { (depth : ℕ) × (depth < 8) ×
             (in_bounds depth (option_map range_of range) size ≡ true) }
-        ensures { (marked : ℕ → Bool) → Marks self.now.initialized.words marked →
-            result ≡ is_initialized marked (option_map range_of range) size }
+        ensures { (init : ℕ → Bool) → AreBitsOf self.now.initialized.words init →
+            result ≡ is_initialized init (option_map range_of range) size }
     {
         let Some(range) = range else {
             return false;

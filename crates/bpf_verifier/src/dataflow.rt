@@ -1,5 +1,5 @@
 //! The data flow over the code: each function in one sweep of ascending slots, and each local call
-//! followed where it stands.
+//! followed at its slot.
 
 ghost use Rattle.std.specs.Prelude.{◌≡◌, ◌⊎◌, ℕ, ◌+◌, ◌-◌, ◌≤◌, ◌<◌, Bool, List, length, true, false, None, Some, Option, IfOk, IfErr, IfSome, OnOk, ℤ, suc};
 ghost use Rattle.std.specs.Option.{option_map};
@@ -10,9 +10,9 @@ ghost use Rattle.bpf_model.specs.AbstractState.{AbstractState as ModelState, edg
 ghost use Rattle.bpf_model.specs.Dataflow.{IsBound, state_at};
 ghost use Rattle.bpf_model.specs.Verdict.{insn_dataflow_fault, visits_in, visit_fault, max_visits, dataflow_fault, IsFirstVisit};
 ghost use Rattle.bpf_model.specs.declared.fault.VerifyFault.TheVariants.{Memory};
-ghost use Rattle.bpf_verifier.specs.FrameBytes.{Marks};
+ghost use Rattle.bpf_verifier.specs.FrameBytes.{AreBitsOf};
 ghost use Rattle.bpf_verifier.specs.Represents.{Represents, RepresentsOption, state_of};
-ghost use Rattle.bpf_verifier.specs.Sweep.{visit_in, RepresentsVisit, Brings, VisitJoined, Flowed, AreFew, SweepAt, IsStart, IsStructured, Fails, Entered, IsEntered, activation_of, nothing_returned, Followed, CalledBack, FailsInCall, IsTold};
+ghost use Rattle.bpf_verifier.specs.Sweep.{visit_in, RepresentsVisit, Brings, VisitJoined, Flowed, AreFew, SweepAt, IsStart, IsStructured, Fails, Entered, IsEntered, activation_of, nothing_returned, Followed, CalledBack, FailsInCall, IsRunning};
 
 use crate::abstract_state::AbstractState;
 use crate::observer::Observer;
@@ -70,11 +70,11 @@ impl Pass {
     ghost use Rattle.std.specs.Prelude.{◌≡◌, ◌⊎◌, ℕ, ◌+◌, ◌-◌, ◌<◌, ◌≤◌, Bool, Some, None, IfOk, IfErr};
     ghost use Rattle.bpf_model.specs.AbstractState.{AbstractState as ModelState, entry_state};
     ghost use Rattle.bpf_model.specs.Verdict.{insn_dataflow_fault, visit_fault, max_visits};
-    ghost use Rattle.bpf_verifier.specs.FrameBytes.{Marks};
+    ghost use Rattle.bpf_verifier.specs.FrameBytes.{AreBitsOf};
     ghost use Rattle.bpf_verifier.specs.Represents.{Represents, state_of};
 
     /// A copy of a visit.
-    fn copied(&mut self, visit: &Visit) -> Result<Box<Visit>, AllocError>
+    fn copy_of(&mut self, visit: &Visit) -> Result<Box<Visit>, AllocError>
         ensures ranges { IfOk result (λ copy. copy.value.state.ranges ≡ visit.now.state.ranges) }
         ensures initialized { IfOk result (λ copy.
             copy.value.state.initialized.words ≡ visit.now.state.initialized.words) }
@@ -92,7 +92,7 @@ impl Pass {
     }
 
     /// The visit with which a function is entered at a depth, by a call in this state.
-    fn entered(&mut self, depth: u32, state: &AbstractState) -> Result<Box<Visit>, AllocError>
+    fn entry_visit(&mut self, depth: u32, state: &AbstractState) -> Result<Box<Visit>, AllocError>
         requires { depth < 8 }
         ensures state { IfOk result (λ callee. (of : ModelState) → Represents state.now of →
             Represents callee.value.state (entry_state depth of)) }
@@ -100,10 +100,10 @@ impl Pass {
         ensures visits { self.new.visits ≡ self.old.visits }
     {
         let visit = Visit {
-            state: state.entered(depth),
+            state: state.entry_state(depth),
             steps: 0,
         };
-        self.copied(&visit)
+        self.copy_of(&visit)
     }
 
     /// Counts a visit of a slot, and checks the instruction there. Fails with what is wrong.
@@ -117,15 +117,15 @@ impl Pass {
         requires deep { depth < 8 }
         requires short { slot < 1024 }
         requires few { self.old.visits ≤ max_visits }
-        ensures right { IfOk result (λ _. (marked : ℕ → Bool) → Marks state.now.initialized.words marked →
-            insn_dataflow_fault depth (state_of state.now.ranges marked) insn.now ≡ None) }
+        ensures right { IfOk result (λ _. (init : ℕ → Bool) → AreBitsOf state.now.initialized.words init →
+            insn_dataflow_fault depth (state_of state.now.ranges init) insn.now ≡ None) }
         ensures count { IfOk result (λ _. (self.new.visits ≡ self.old.visits + 1)
             × (self.old.visits < max_visits)) }
         ensures refused { IfErr result (λ refusal. (refusal.slot ≡ slot) ×
-            ((marked : ℕ → Bool) → Marks state.now.initialized.words marked →
+            ((init : ℕ → Bool) → AreBitsOf state.now.initialized.words init →
             visit_fault self.old.visits (Some (record {
               slot = slot;
-              fault = insn_dataflow_fault depth (state_of state.now.ranges marked) insn.now;
+              fault = insn_dataflow_fault depth (state_of state.now.ranges init) insn.now;
             })) ≡ Some refusal.fault)) }
     {
         if self.visits >= MAX_VISITS {
@@ -173,7 +173,7 @@ pub fn check_dataflow<O: Observer>(
         state: AbstractState::at_start(),
         steps: 0,
     };
-    let visit = pass.copied(&start)?;
+    let visit = pass.copy_of(&start)?;
     let returned = follow(&mut pass, observer, slots, FRAMES as u32 - 1, 0, visit)?;
     Ok(returned.bound)
 }
@@ -193,7 +193,7 @@ fn follow<O: Observer>(
     requires inside { entry < length slots.now }
     requires steps { visit.value.steps ≡ 0 }
     requires few { pass.old.visits ≤ max_visits }
-    requires told { (f : Entered) × IsTold slots.now left f × (f.entry ≡ entry)
+    requires running { (f : Entered) × IsRunning slots.now left f × (f.entry ≡ entry)
         × (f.base ≡ pass.old.visits) × Represents visit.value.state f.state }
     ensures few { IfOk result (λ returned. (pass.old.visits + returned.bound ≤ pass.new.visits)
         × (pass.new.visits ≤ max_visits)) }
@@ -225,7 +225,7 @@ fn sweep<O: Observer>(
     requires inside { entry < length slots.now }
     requires long { length pending.old ≡ length slots.now }
     requires few { AreFew pass.old.visits pass.old.visits pending.old 0 }
-    requires told { (f : Entered) × IsTold slots.now left f
+    requires running { (f : Entered) × IsRunning slots.now left f
         × SweepAt f entry pending.old nothing_returned pass.old.visits }
     ensures few { IfOk result (λ returned. (pass.old.visits + returned.bound ≤ pass.new.visits)
         × (pass.new.visits ≤ max_visits)) }
@@ -282,7 +282,7 @@ fn visit_slot<O: Observer>(
     requires inside { slot < length slots.now }
     requires long { length pending.old ≡ length slots.now }
     requires few { AreFew 0 pass.old.visits pending.old returned.old.bound }
-    requires told { (f : Entered) × IsTold slots.now left f
+    requires running { (f : Entered) × IsRunning slots.now left f
         × SweepAt f slot pending.old returned.old pass.old.visits }
     ensures long { IfOk result (λ _. length pending.new ≡ length pending.old) }
     ensures few { IfOk result (λ _. (base : ℕ) →
@@ -315,7 +315,7 @@ fn visit_slot<O: Observer>(
             visit.steps += 1;
             returned.bound = returned.bound.max(visit.steps);
             let before = returned.exit.take();
-            returned.exit = Some(joined(before, visit, pass));
+            returned.exit = Some(join_visits(before, visit, pass));
         }
         _ => {
             visit.steps += 1;
@@ -342,7 +342,7 @@ fn call<O: Observer>(
     requires deep { left < 8 }
     requires inside { slot < length slots.now }
     requires few { pass.old.visits ≤ max_visits }
-    requires told { (f : Entered) × (of : ModelState) × IsTold slots.now left f
+    requires running { (f : Entered) × (of : ModelState) × IsRunning slots.now left f
         × Represents state.now of × (state_at f.code (activation_of f) slot ≡ Some of)
         × (insn_at f.code slot ≡ Some (CallLocal offset)) }
     ensures none { IfOk result (λ callee. callee ≡ None → pass.new.visits ≡ pass.old.visits) }
@@ -365,7 +365,7 @@ fn call<O: Observer>(
     if target >= slots.len() {
         return Ok(None);
     }
-    let callee = pass.entered(FRAMES as u32 - 1 - left, state)?;
+    let callee = pass.entry_visit(FRAMES as u32 - 1 - left, state)?;
     Ok(Some(follow(pass, observer, slots, left, target, callee)?))
 }
 
@@ -406,10 +406,10 @@ fn flow(
     mut visit: Box<Visit>,
 ) -> Result<(), AllocError>
     requires { slot < 1024 }
-    ensures flowed { OnOk result ((behind : ℕ → ModelState → Option ModelState) (marked : ℕ → Bool) →
+    ensures flowed { OnOk result ((behind : ℕ → ModelState → Option ModelState) (init : ℕ → Bool) →
         ((offset : ℤ) → insn.now ≡ CallLocal offset → ⊥) →
-        Marks visit.value.state.initialized.words marked →
-        Flowed (edges behind slot (state_of visit.value.state.ranges marked) insn.now)
+        AreBitsOf visit.value.state.initialized.words init →
+        Flowed (edges behind slot (state_of visit.value.state.ranges init) insn.now)
         visit.value.steps pending.old pending.new) }
     ensures visits { pass.new.visits ≡ pass.old.visits }
 {
@@ -454,15 +454,15 @@ fn split(
     dst: Reg,
     src: Source,
 ) -> Result<(Option<Box<Visit>>, Option<Box<Visit>>), AllocError>
-    ensures onward { IfOk result (λ edges. (marked : ℕ → Bool) →
-        Marks visit.value.state.initialized.words marked →
+    ensures onward { IfOk result (λ edges. (init : ℕ → Bool) →
+        AreBitsOf visit.value.state.initialized.words init →
         Brings edges.0
-        (after_test (state_of visit.value.state.ranges marked) narrow test dst.number src false)
+        (after_test (state_of visit.value.state.ranges init) narrow test dst.number src false)
         visit.value.steps) }
-    ensures taken { IfOk result (λ edges. (marked : ℕ → Bool) →
-        Marks visit.value.state.initialized.words marked →
+    ensures taken { IfOk result (λ edges. (init : ℕ → Bool) →
+        AreBitsOf visit.value.state.initialized.words init →
         Brings edges.1
-        (after_test (state_of visit.value.state.ranges marked) narrow test dst.number src true)
+        (after_test (state_of visit.value.state.ranges init) narrow test dst.number src true)
         visit.value.steps) }
     ensures visits { pass.new.visits ≡ pass.old.visits }
 {
@@ -471,7 +471,7 @@ fn split(
         Some(onward) => {
             let other = match taken {
                 Some(taken) => {
-                    let mut other = pass.copied(&visit)?;
+                    let mut other = pass.copy_of(&visit)?;
                     other.state.set_tested(dst, src, taken);
                     Some(other)
                 }
@@ -505,14 +505,14 @@ fn push(
     if let (Some(target), Some(visit)) = (target, visit) {
         if target < pending.len() {
             let before = pending[target].take();
-            pending[target] = Some(joined(before, visit, pass));
+            pending[target] = Some(join_visits(before, visit, pass));
         }
     }
 }
 
 /// What is pending after one more edge.
 #[inline(always)]
-fn joined(before: Option<Box<Visit>>, visit: Box<Visit>, pass: &mut Pass) -> Box<Visit>
+fn join_visits(before: Option<Box<Visit>>, visit: Box<Visit>, pass: &mut Pass) -> Box<Visit>
     ensures visit { (of : ModelState) → Represents visit.value.state of →
         VisitJoined (visit_in before) of visit.value.steps (Some result.value) }
     ensures visits { pass.new.visits ≡ pass.old.visits }

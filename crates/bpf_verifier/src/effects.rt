@@ -19,13 +19,13 @@ impl AbstractState {
     ghost use Rattle.bpf_model.specs.Machine.{frame_start};
     ghost use Rattle.bpf_model.specs.Access.{bytes_of};
     ghost use Rattle.bpf_model.specs.AbstractState.{after_insn, after_store, address_range, after_helper, after_test, with_ranges, alu_range, source_range, tested_range, is_written};
-    ghost use Rattle.bpf_verifier.specs.FrameBytes.{has_byte, Marks};
+    ghost use Rattle.bpf_verifier.specs.FrameBytes.{has_byte, AreBitsOf};
     ghost use Rattle.bpf_verifier.specs.Represents.{Represents, state_of};
 
     /// Goes over an instruction, by the edge to the slot behind it.
     pub(crate) fn after_insn(&mut self, insn: &Insn)
-        ensures { (marked : ℕ → Bool) → Marks self.old.initialized.words marked →
-            Represents self.new (after_insn (state_of self.old.ranges marked) insn.now) }
+        ensures { (init : ℕ → Bool) → AreBitsOf self.old.initialized.words init →
+            Represents self.new (after_insn (state_of self.old.ranges init) insn.now) }
     {
         match insn {
             Insn::Alu {
@@ -77,9 +77,9 @@ impl AbstractState {
 
     /// What an arithmetic instruction makes of its operands.
     fn alu_range(&self, width: AluWidth, op: AluOp, dst: Reg, src: Source) -> Option<Range>
-        ensures { (marked : ℕ → Bool) →
+        ensures { (init : ℕ → Bool) →
             option_map range_of result ≡
-            alu_range (state_of self.now.ranges marked) width op dst.number src }
+            alu_range (state_of self.now.ranges init) width op dst.number src }
     {
         let b = self.source_range(src)?;
         let a = if op.reads_destination() {
@@ -91,8 +91,8 @@ impl AbstractState {
     }
 
     fn source_range(&self, src: Source) -> Option<Range>
-        ensures { (marked : ℕ → Bool) →
-            option_map range_of result ≡ source_range (state_of self.now.ranges marked) src }
+        ensures { (init : ℕ → Bool) →
+            option_map range_of result ≡ source_range (state_of self.now.ranges init) src }
     {
         match src {
             Source::Imm(value) => Some(Range::single(i64::from(value).cast_unsigned())),
@@ -103,8 +103,8 @@ impl AbstractState {
     /// After a helper r0 has its answer, and r1 to r5 hold nothing. What it wrote is initialized
     /// where its address is a single number.
     fn after_helper(&mut self, max_answer: u64, writes: &[Access])
-        ensures { (marked : ℕ → Bool) → Marks self.old.initialized.words marked →
-            Represents self.new (after_helper (state_of self.old.ranges marked) max_answer writes.now) }
+        ensures { (init : ℕ → Bool) → AreBitsOf self.old.initialized.words init →
+            Represents self.new (after_helper (state_of self.old.ranges init) max_answer writes.now) }
     {
         for access in writes {
             let range = self.range_of(access.register);
@@ -127,9 +127,9 @@ impl AbstractState {
 
     /// Initializes what a store writes.
     fn store(&mut self, size: Size, base: Reg, offset: i16)
-        ensures { (marked : ℕ → Bool) → Marks self.old.initialized.words marked →
-            Represents self.new (after_store (state_of self.old.ranges marked)
-            (address_range (state_of self.old.ranges marked) base.number offset) (bytes_of size)) }
+        ensures { (init : ℕ → Bool) → AreBitsOf self.old.initialized.words init →
+            Represents self.new (after_store (state_of self.old.ranges init)
+            (address_range (state_of self.old.ranges init) base.number offset) (bytes_of size)) }
     {
         let range = self.address_range(base, offset);
         self.initialize(range, bytes_of(size));
@@ -165,12 +165,12 @@ impl AbstractState {
         dst: Reg,
         src: Source,
     ) -> (Option<(Range, Range)>, Option<(Range, Range)>)
-        ensures onward { (marked : ℕ → Bool) →
-            option_map (λ r. with_ranges (state_of self.now.ranges marked) dst.number src (pair_of r)) result.0 ≡
-            after_test (state_of self.now.ranges marked) narrow test dst.number src false }
-        ensures taken { (marked : ℕ → Bool) →
-            option_map (λ r. with_ranges (state_of self.now.ranges marked) dst.number src (pair_of r)) result.1 ≡
-            after_test (state_of self.now.ranges marked) narrow test dst.number src true }
+        ensures onward { (init : ℕ → Bool) →
+            option_map (λ r. with_ranges (state_of self.now.ranges init) dst.number src (pair_of r)) result.0 ≡
+            after_test (state_of self.now.ranges init) narrow test dst.number src false }
+        ensures taken { (init : ℕ → Bool) →
+            option_map (λ r. with_ranges (state_of self.now.ranges init) dst.number src (pair_of r)) result.1 ≡
+            after_test (state_of self.now.ranges init) narrow test dst.number src true }
     {
         let (Some(a), Some(b)) = (self.range_of(dst.number), self.tested_range(narrow, src)) else {
             return (None, None);
@@ -183,9 +183,9 @@ impl AbstractState {
 
     /// Gives the operands of a test these ranges. Where both are one register, it keeps its own.
     pub(crate) fn set_tested(&mut self, dst: Reg, src: Source, ranges: (Range, Range))
-        ensures { (marked : ℕ → Bool) → Marks self.old.initialized.words marked →
+        ensures { (init : ℕ → Bool) → AreBitsOf self.old.initialized.words init →
             Represents self.new
-            (with_ranges (state_of self.old.ranges marked) dst.number src (pair_of ranges)) }
+            (with_ranges (state_of self.old.ranges init) dst.number src (pair_of ranges)) }
     {
         let (a, b) = ranges;
         match src {
@@ -201,8 +201,8 @@ impl AbstractState {
 
     /// What a test compares with.
     fn tested_range(&self, narrow: bool, src: Source) -> Option<Range>
-        ensures { (marked : ℕ → Bool) →
-            option_map range_of result ≡ tested_range (state_of self.now.ranges marked) narrow src }
+        ensures { (init : ℕ → Bool) →
+            option_map range_of result ≡ tested_range (state_of self.now.ranges init) narrow src }
     {
         match src {
             Source::Imm(value) => Some(Range::single(if narrow {

@@ -1,11 +1,11 @@
-//! Who is told of the verifier's visits.
+//! To whom the verifier reports its visits.
 
 ghost use Rattle.bpf_verifier.specs.Observed.{IsVisit};
 
 use crate::abstract_state::AbstractState;
 use bpf_decode::Insn;
 
-/// Is told of each visit of the verifier as it begins, before anything is checked there.
+/// Receives each visit of the verifier as it begins, before anything is checked there.
 pub trait Observer {
     /// A visit of an instruction at a slot of the code, in the frame of a depth from 0 on, with what
     /// holds for certain before it runs. It is what the data flow's definition says of this visit. The

@@ -11,13 +11,13 @@ use Rattle.bpf_model.specs.Verdict.{insn_dataflow_fault, visits_in, visit_fault}
 use Rattle.bpf_model.specs.declared.fault.Refusal.{Refusal}
 use Rattle.bpf_verifier.specs.declared.dataflow.Visit.{Visit}
 use Rattle.bpf_verifier.specs.declared.dataflow.Returned.{Returned}
-use Rattle.bpf_verifier.specs.FrameBytes.{Marks}
+use Rattle.bpf_verifier.specs.FrameBytes.{AreBitsOf}
 use Rattle.bpf_verifier.specs.Represents.{Represents, state_of}
 use Rattle.bpf_verifier.specs.Sweep.{Pending, visit_in, VisitJoined, Flowed, AreFew, Fails, Entered, SweepAt, nothing_returned, FailsInCall, CalledBack, callee_of}
 use Rattle.bpf_model.proofs.Slots.{insn_at_less}
-use Rattle.bpf_verifier.proofs.Sweeps.{pending_is, taken, length_flow, few_visited, steps_few, own_marks, own_marks_are}
+use Rattle.bpf_verifier.proofs.Sweeps.{pending_is, taken, length_flow, few_visited, steps_few, own_bytes, own_bytes_are}
 use Rattle.bpf_verifier.proofs.Functions.{insn_there, sweep_none, sweep_gap, start_long, start_few, started, followed}
-use Rattle.bpf_verifier.proofs.Visiting.{at_next, begin_fails, other_visited, exit_visited, call_visited, call_lands, call_fails, own_state, own_exit, is_callee, callee_told, is_none_of, flowed_from, called_few, finds_same, handed_on, if_ok, if_err}
+use Rattle.bpf_verifier.proofs.Visiting.{at_next, begin_fails, other_visited, exit_visited, call_visited, call_lands, call_fails, own_state, own_exit, is_callee, callee_running, is_none_of, flowed_from, called_few, finds_same, handed_on, if_ok, if_err}
 use Rattle.bpf_verifier.proofs.dataflow.+calls.Goals.{visit_slot-in_default-via-in-Some+in_default, visit_slot-in_default-via-in_default}
 use Rattle.bpf_verifier.proofs.dataflow.+calls.Goals as goal
 
@@ -43,7 +43,7 @@ visit_slot-returns-in_err-begin-clause-refused g c w =
     let x-is = insn_there f.code w.args.slots.now w.args.slot w.index-slots-slot.result at w.requires.inside w.index-slots-slot.is ∙ x.is-0 in
     let bad = w.in_err-begin.ensures.refused in
     subst (λ (n : ℕ). Fails f.base (visits_in f.code (suc f.left) f.entry f.state) w.in_err-begin.field-0.0.fault n) (sym bad.0)
-    (begin_fails f is w.args.slot w.args.pending.now w.args.returned.now w.args.pass.now.visits p inside x.visit.value e x.insn x-is (7 - w.args.left) (ap (λ (n : ℕ). 7 - n) (sym left)) w.in_err-begin.field-0.0.fault w.requires.few.visits_few (subst (λ (u : Visit). (marked : ℕ → Bool) → Marks u.state.initialized.words marked → visit_fault w.args.pass.now.visits (Some (record { slot = w.args.slot; fault = insn_dataflow_fault (7 - w.args.left) (state_of u.state.ranges marked) x.insn })) ≡ Some w.in_err-begin.field-0.0.fault) w.deref-2.ensures bad.1))))
+    (begin_fails f is w.args.slot w.args.pending.now w.args.returned.now w.args.pass.now.visits p inside x.visit.value e x.insn x-is (7 - w.args.left) (ap (λ (n : ℕ). 7 - n) (sym left)) w.in_err-begin.field-0.0.fault w.requires.few.visits_few (subst (λ (u : Visit). (init : ℕ → Bool) → AreBitsOf u.state.initialized.words init → visit_fault w.args.pass.now.visits (Some (record { slot = w.args.slot; fault = insn_dataflow_fault (7 - w.args.left) (state_of u.state.ranges init) x.insn })) ≡ Some w.in_err-begin.field-0.0.fault) w.deref-2.ensures bad.1))))
 
 pub visit_slot-returns-in_err-callee-in-CallLocal-clause-refused : goal.visit_slot-returns-in_err-callee-in-CallLocal-clause-refused
 visit_slot-returns-in_err-callee-in-CallLocal-clause-refused g c w =
@@ -159,14 +159,14 @@ visit_slot-returns-in-Exit-clause-right g c w = λ f at left is p.
     let x-is = insn_there f.code w.args.slots.now w.args.slot w.index-slots-slot.result at w.requires.inside w.index-slots-slot.is ∙ x.is-0 in
     let m : Visit = w.deref_mut-in-Exit.result.now in
     let same : m ≡ v = w.deref_mut-in-Exit.ensures.value in
-    let after : Returned = record { exit = Some w.joined.result; bound = w.max-returned-in-Exit.result } in
-    exit_visited f is w.args.slot w.args.pending.now w.args.returned.now w.args.pass.now.visits p inside v e x.insn x-is (7 - w.args.left) (ap (λ (k : ℕ). 7 - k) (sym left)) (set w.args.pending.now w.args.slot w.take.new.self) after w.joined.new.pass.visits (finds_same w.deref-2.result.now v x.insn (7 - w.args.left) None w.deref-2.ensures w.in_ok-begin.ensures.right) w.in-Exit.is
+    let after : Returned = record { exit = Some w.join_visits.result; bound = w.max-returned-in-Exit.result } in
+    exit_visited f is w.args.slot w.args.pending.now w.args.returned.now w.args.pass.now.visits p inside v e x.insn x-is (7 - w.args.left) (ap (λ (k : ℕ). 7 - k) (sym left)) (set w.args.pending.now w.args.slot w.take.new.self) after w.join_visits.new.pass.visits (finds_same w.deref-2.result.now v x.insn (7 - w.args.left) None w.deref-2.ensures w.in_ok-begin.ensures.right) w.in-Exit.is
     (ap (λ (z : Option (Box Visit Global)). set w.args.pending.now w.args.slot z) w.take.ensures.after)
     (λ of rep.
-    subst (λ (o : Option (Box Visit Global)). VisitJoined (visit_in o) of (v.steps + 1) (Some w.joined.result.value)) w.take-before.ensures.value
-    (subst (λ (u : Visit). VisitJoined (visit_in w.take-before.result) of (u.steps + 1) (Some w.joined.result.value)) same
-    (w.joined.ensures.visit of (subst (λ (u : Visit). Represents u.state of) (sym same) rep))))
-    (w.joined.ensures.visits ∙ w.in_ok-begin.ensures.count.0)
+    subst (λ (o : Option (Box Visit Global)). VisitJoined (visit_in o) of (v.steps + 1) (Some w.join_visits.result.value)) w.take-before.ensures.value
+    (subst (λ (u : Visit). VisitJoined (visit_in w.take-before.result) of (u.steps + 1) (Some w.join_visits.result.value)) same
+    (w.join_visits.ensures.visit of (subst (λ (u : Visit). Represents u.state of) (sym same) rep))))
+    (w.join_visits.ensures.visits ∙ w.in_ok-begin.ensures.count.0)
     (w.max-returned-in-Exit.ensures ∙ ap (λ (u : Visit). max w.args.returned.now.bound u.steps) w.deref-in-Exit.ensures ∙ ap (λ (u : Visit). max w.args.returned.now.bound (u.steps + 1)) same)
 
 pub visit_slot-returns-in_ok-flow-in_default-insn-clause-few : goal.visit_slot-returns-in_ok-flow-in_default-insn-clause-few
@@ -183,7 +183,7 @@ visit_slot-returns-in_ok-flow-in_default-insn-clause-few g c w = λ base few.
     let visits = w.in_ok-flow-in_default-insn.ensures.visits in
     few_visited base w.args.pass.now.visits w.flow.new.pass.visits w.args.slot w.args.pending.now w.flow.new.pending w.args.returned.now.bound w.max-returned-in_default-insn.result 1 v _ few e (omega (arith, one, visits)) (omega (arith, one, less, visits))
     (w.max-returned-in_default-insn.ensures ∙ ap (λ (u : Visit). max w.args.returned.now.bound u.steps) w.deref-in_default-insn.ensures ∙ ap (λ (u : Visit). max w.args.returned.now.bound (u.steps + 1)) same)
-    (flowed_from _ (m.steps + 1) (v.steps + 1) w.args.pending.now w.flow.new.pending w.args.slot w.take.new.self w.take.ensures.after (ap (λ (u : Visit). u.steps + 1) same) (w.in_ok-flow-in_default-insn.ensures.flowed (λ _ _. None) (own_marks words) w.in_default-insn.not-CallLocal (own_marks_are words)))
+    (flowed_from _ (m.steps + 1) (v.steps + 1) w.args.pending.now w.flow.new.pending w.args.slot w.take.new.self w.take.ensures.after (ap (λ (u : Visit). u.steps + 1) same) (w.in_ok-flow-in_default-insn.ensures.flowed (λ _ _. None) (own_bytes words) w.in_default-insn.not-CallLocal (own_bytes_are words)))
 
 pub visit_slot-returns-in_ok-flow-in_default-insn-clause-right : goal.visit_slot-returns-in_ok-flow-in_default-insn-clause-right
 visit_slot-returns-in_ok-flow-in_default-insn-clause-right g c w = λ f at left is p.
@@ -195,8 +195,8 @@ visit_slot-returns-in_ok-flow-in_default-insn-clause-right g c w = λ f at left 
     let m : Visit = w.deref_mut-in_default-insn.result.now in
     let same : m ≡ v = w.deref_mut-in_default-insn.ensures.value in
     other_visited f is w.args.slot w.args.pending.now w.args.returned.now w.args.pass.now.visits p inside v e x.insn x-is (7 - w.args.left) (ap (λ (k : ℕ). 7 - k) (sym left)) w.flow.new.pending (record { exit = w.args.returned.now.exit; bound = w.max-returned-in_default-insn.result }) w.flow.new.pass.visits (finds_same w.deref-2.result.now v x.insn (7 - w.args.left) None w.deref-2.ensures w.in_ok-begin.ensures.right) w.in_default-insn.not-CallLocal w.in_default-insn.not-Exit
-    (subst (λ (u : Visit). (b : ℕ → model.AbstractState → Option model.AbstractState) (marked : ℕ → Bool) → Marks u.state.initialized.words marked → Flowed (edges b w.args.slot (state_of u.state.ranges marked) x.insn) (u.steps + 1) (taken w.args.pending.now w.args.slot) w.flow.new.pending) same
-    (λ b marked marks. flowed_from _ (m.steps + 1) (m.steps + 1) w.args.pending.now w.flow.new.pending w.args.slot w.take.new.self w.take.ensures.after refl (w.in_ok-flow-in_default-insn.ensures.flowed b marked w.in_default-insn.not-CallLocal marks)))
+    (subst (λ (u : Visit). (b : ℕ → model.AbstractState → Option model.AbstractState) (init : ℕ → Bool) → AreBitsOf u.state.initialized.words init → Flowed (edges b w.args.slot (state_of u.state.ranges init) x.insn) (u.steps + 1) (taken w.args.pending.now w.args.slot) w.flow.new.pending) same
+    (λ b init bits. flowed_from _ (m.steps + 1) (m.steps + 1) w.args.pending.now w.flow.new.pending w.args.slot w.take.new.self w.take.ensures.after refl (w.in_ok-flow-in_default-insn.ensures.flowed b init w.in_default-insn.not-CallLocal bits)))
     (w.in_ok-flow-in_default-insn.ensures.visits ∙ w.in_ok-begin.ensures.count.0)
     refl
     (w.max-returned-in_default-insn.ensures ∙ ap (λ (u : Visit). max w.args.returned.now.bound u.steps) w.deref-in_default-insn.ensures ∙ ap (λ (u : Visit). max w.args.returned.now.bound (u.steps + 1)) same)
@@ -205,7 +205,7 @@ pub visit_slot-returns-in_ok-flow-in_default-insn-clause-long : goal.visit_slot-
 visit_slot-returns-in_ok-flow-in_default-insn-clause-long g c w =
     let m : Visit = w.deref_mut-in_default-insn.result.now in
     let words = m.state.initialized.words in
-    length_flow _ (m.steps + 1) (set w.args.pending.now w.args.slot w.take.new.self) w.flow.new.pending (w.in_ok-flow-in_default-insn.ensures.flowed (λ _ _. None) (own_marks words) w.in_default-insn.not-CallLocal (own_marks_are words)) ∙ length-set w.args.pending.now w.args.slot w.take.new.self
+    length_flow _ (m.steps + 1) (set w.args.pending.now w.args.slot w.take.new.self) w.flow.new.pending (w.in_ok-flow-in_default-insn.ensures.flowed (λ _ _. None) (own_bytes words) w.in_default-insn.not-CallLocal (own_bytes_are words)) ∙ length-set w.args.pending.now w.args.slot w.take.new.self
 
 -- ---- sweep
 
@@ -237,8 +237,8 @@ sweep-returns-clause-right g c w = λ f at left is start.
 
 pub follow-sweep-requires : goal.follow-sweep-requires
 follow-sweep-requires g t c κs within =
-    let h = c.requires.told in
-    let told = h.1 in
+    let h = c.requires.running in
+    let running = h.1 in
     let same = c.deref_mut.ensures.value in
     let long : length c.deref_mut.result.now ≡ length c.args.slots.now = ap length same ∙ start_long c.in_ok-pending.pending.items (length c.args.slots.now) c.args.entry c.args.visit c.in_ok-pending.ensures in
     let few : AreFew c.args.pass.now.visits c.args.pass.now.visits c.deref_mut.result.now 0 = subst (λ (l : Pending). AreFew c.args.pass.now.visits c.args.pass.now.visits l 0) (sym same) (start_few c.in_ok-pending.pending.items (length c.args.slots.now) c.args.entry c.args.pass.now.visits c.args.visit c.requires.inside c.in_ok-pending.ensures c.requires.steps c.requires.few) in (
@@ -255,7 +255,7 @@ follow-sweep-requires g t c κs within =
                 long,
                 (
                   few,
-                  (h.0, told, subst (λ (l : Pending). SweepAt h.0 c.args.entry l nothing_returned c.args.pass.now.visits) (sym c.deref_mut.ensures.value) (started h.0 told.entered c.in_ok-pending.pending.items c.args.slots.now c.args.visit c.args.entry c.args.pass.now.visits told.slots_are h.2 h.3 c.requires.inside c.in_ok-pending.ensures c.requires.steps h.4)),
+                  (h.0, running, subst (λ (l : Pending). SweepAt h.0 c.args.entry l nothing_returned c.args.pass.now.visits) (sym c.deref_mut.ensures.value) (started h.0 running.entered c.in_ok-pending.pending.items c.args.slots.now c.args.visit c.args.entry c.args.pass.now.visits running.slots_are h.2 h.3 c.requires.inside c.in_ok-pending.ensures c.requires.steps h.4)),
                 ),
               ),
             ),
@@ -294,14 +294,14 @@ call-returns-then-target-slots-clause-right g t c = λ f of at left is rep x-is 
 
 pub call-follow-requires : goal.call-follow-requires
 call-follow-requires g t c κs within =
-    let h = c.requires.told in
+    let h = c.requires.running in
     let x = c.in-Some-Some in
     let n = c.args.offset in
     let again : cast_signed w32 (cast_unsigned w32 n) ≡ n = search rules in
     let leads : target_of c.args.slot n ≡ Some x.target = ap (target_of c.args.slot) (sym again) ∙ sym c.target_of.ensures ∙ x.is-0 in
     let one = x.ensures' in
-    let told = h.2 in
-    let left = told.left_is in
+    let running = h.2 in
+    let left = running.left_is in
     let depth : 7 - x.left ≡ 7 - (h.0).left + 1 = omega (arith, left, one.0, one.1, c.requires.deep) in (
       search rules,
       (
@@ -316,7 +316,7 @@ call-follow-requires g t c κs within =
                 search rules,
                 (
                   search rules,
-                  (callee_of h.0 h.1 x.target x.left c.entered.new.self.visits, callee_told c.args.slots.now c.args.left x.left c.args.slot x.target n c.entered.new.self.visits h.0 h.1 told h.4 h.5 leads (omega (arith, one.0, one.1)) c.requires.deep, refl, refl, subst (λ (d : ℕ). Represents c.in_ok-callee.callee.value.state (entry_state d h.1)) depth (c.in_ok-callee.ensures.state h.1 h.3)),
+                  (callee_of h.0 h.1 x.target x.left c.entry_visit.new.self.visits, callee_running c.args.slots.now c.args.left x.left c.args.slot x.target n c.entry_visit.new.self.visits h.0 h.1 running h.4 h.5 leads (omega (arith, one.0, one.1)) c.requires.deep, refl, refl, subst (λ (d : ℕ). Represents c.in_ok-callee.callee.value.state (entry_state d h.1)) depth (c.in_ok-callee.ensures.state h.1 h.3)),
                 ),
               ),
             ),

@@ -5,13 +5,13 @@ use Rattle.bpf_model.specs.AbstractState.{start_state}
 use Rattle.bpf_model.specs.declared.fault.Refusal.{Refusal}
 use Rattle.bpf_model.proofs.Visits.{no_faults}
 use Rattle.bpf_verifier.proofs.States.{represents_same}
-use Rattle.bpf_verifier.proofs.Visiting.{main_of, is_main, main_told, fails_first, handed_on}
+use Rattle.bpf_verifier.proofs.Visiting.{main_of, is_main, main_running, fails_first, handed_on}
 use Rattle.bpf_verifier.proofs.dataflow.check_dataflow.Goals as goal
 
-pub follow-requires-clause-told : goal.follow-requires-clause-told
-follow-requires-clause-told g c =
+pub follow-requires-clause-running : goal.follow-requires-clause-running
+follow-requires-clause-running g c =
     let h = c.requires.code in
-    (main_of h.0, main_told c.args.slots.now h.0 h.1 h.2 c.requires.some, refl, sym c.in_ok-visit.ensures.visits, represents_same _ _ start_state c.in_ok-visit.ensures.ranges c.in_ok-visit.ensures.initialized c.at_start.ensures)
+    (main_of h.0, main_running c.args.slots.now h.0 h.1 h.2 c.requires.some, refl, sym c.in_ok-visit.ensures.visits, represents_same _ _ start_state c.in_ok-visit.ensures.ranges c.in_ok-visit.ensures.initialized c.at_start.ensures)
 
 pub returns-in_err-returned-clause-refused : goal.returns-in_err-returned-clause-refused
 returns-in_err-returned-clause-refused g c =

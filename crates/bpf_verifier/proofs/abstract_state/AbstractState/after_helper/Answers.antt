@@ -33,14 +33,14 @@ loop-access-preserved c =
     }
 
 pub returns : goal.returns
-returns c = λ marked marks.
+returns c = λ init bits.
     let i = c.loop-access.invariant in
     let ranges = c.args.self.now.ranges in
     let eleven : length ranges ≡ 11 = search rules in
     let at : (r : ℕ) (d : Option Range) → r < 11 → get_or c.loop-access.self.ranges r d ≡ get_or ranges r None = λ r d h.
     let inside : r < length ranges = omega (arith, h, eleven) in
     ap (λ (rs : List (Option Range)). get_or rs r d) i.ranges ∙ get_or_default ranges r d None inside in
-    represents_helper ranges ranges c.args.self.now.initialized.words c.loop-access.self.initialized.words c.args.max_answer c.args.writes.now marked _
-    (called_ranges ranges eleven marked c.args.max_answer c.new.result c.new.ensures c.args.writes.now _ _ _ _ _ (at 6 _ (omega arith)) (at 7 _ (omega arith)) (at 8 _ (omega arith)) (at 9 _ (omega arith)) (at 10 _ (omega arith)))
-    refl marks
+    represents_helper ranges ranges c.args.self.now.initialized.words c.loop-access.self.initialized.words c.args.max_answer c.args.writes.now init _
+    (called_ranges ranges eleven init c.args.max_answer c.new.result c.new.ensures c.args.writes.now _ _ _ _ _ (at 6 _ (omega arith)) (at 7 _ (omega arith)) (at 8 _ (omega arith)) (at 9 _ (omega arith)) (at 10 _ (omega arith)))
+    refl bits
     (λ k h. i.initialized k h ∙ ap (λ (xs : List Access). list_any (λ (a : Access). is_written (ranges_of ranges a.register) (fixed_size a.size) (frame_start 0 + k)) xs || has_byte c.args.self.now.initialized.words k) (take_all c.loop-access.access-index c.args.writes.now c.loop-access-test.false))

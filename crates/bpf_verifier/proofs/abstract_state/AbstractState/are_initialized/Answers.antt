@@ -12,10 +12,10 @@ access_initialized-requires c =
     (depth, c.requires.1, all_at (access_in_bounds depth (ranges_of c.args.self.now.ranges)) c.args.accesses.now c.loop-access.access-index d c.requires.2 c.loop-access-test.true)
 
 pub returns : goal.returns
-returns c = λ marked marks.
-    all_done (access_initialized marked (ranges_of c.args.self.now.ranges)) c.args.accesses.now c.loop-access.access-index c.loop-access-test.false (c.loop-access.invariant marked marks)
+returns c = λ init bits.
+    all_done (access_initialized init (ranges_of c.args.self.now.ranges)) c.args.accesses.now c.loop-access.access-index c.loop-access-test.false (c.loop-access.invariant init bits)
 
 pub loop-access-preserved : goal.loop-access-preserved
-loop-access-preserved c = λ marked marks.
+loop-access-preserved c = λ init bits.
     let d : Access = record { register = 0; size = Fixed 0 } in
-    all_more (access_initialized marked (ranges_of c.args.self.now.ranges)) c.args.accesses.now c.loop-access.access-index d c.access_initialized.result c.loop-access-test.true (c.loop-access.invariant marked marks) (c.access_initialized.ensures marked marks) c.if-not-access_initialized.false
+    all_more (access_initialized init (ranges_of c.args.self.now.ranges)) c.args.accesses.now c.loop-access.access-index d c.access_initialized.result c.loop-access-test.true (c.loop-access.invariant init bits) (c.access_initialized.ensures init bits) c.if-not-access_initialized.false

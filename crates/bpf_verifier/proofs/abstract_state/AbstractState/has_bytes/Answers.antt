@@ -13,11 +13,11 @@ pub has_bytes_at-requires : goal.has_bytes_at-requires
 has_bytes_at-requires c = (
   c.requires.0,
   c.requires.1,
-  λ marked.
+  λ init.
       let n = c.in-Load.offset in
       let again : cast_signed w16 (cast_unsigned w16 n) ≡ n = search rules in
-      ap (λ (z : ℤ). in_bounds c.requires.0 (address_range (state_of c.args.self.now.ranges marked) c.in-Load.base.number z) (bytes_of c.in-Load.size)) again
-      ∙ ap (has_accesses c.requires.0 (state_of c.args.self.now.ranges marked)) (sym c.in-Load.is) ∙ c.requires.2 marked,
+      ap (λ (z : ℤ). in_bounds c.requires.0 (address_range (state_of c.args.self.now.ranges init) c.in-Load.base.number z) (bytes_of c.in-Load.size)) again
+      ∙ ap (has_accesses c.requires.0 (state_of c.args.self.now.ranges init)) (sym c.in-Load.is) ∙ c.requires.2 init,
 )
 
 pub are_initialized-requires : goal.are_initialized-requires

@@ -21,11 +21,11 @@ is_initialized-requires c =
     )
 
 pub returns : goal.returns
-returns c = λ marked marks.
+returns c = λ init bits.
     let n = c.args.offset in
     let again : cast_signed w16 (cast_unsigned w16 n) ≡ n = search rules in
-    c.is_initialized.ensures marked marks
-    ∙ ap (λ (n : ℕ). is_initialized marked (option_map range_of c.address_range.result) n) c.from.ensures
-    ∙ ap (λ (o : Option reg.Range). is_initialized marked o c.bytes_of.result) (c.address_range.ensures marked)
-    ∙ ap (λ (z : ℤ). is_initialized marked (address_range (state_of c.args.self.now.ranges marked) c.args.base.number z) c.bytes_of.result) again
-    ∙ ap (λ (n : ℕ). is_initialized marked (address_range (state_of c.args.self.now.ranges marked) c.args.base.number c.args.offset) n) c.bytes_of.ensures.value
+    c.is_initialized.ensures init bits
+    ∙ ap (λ (n : ℕ). is_initialized init (option_map range_of c.address_range.result) n) c.from.ensures
+    ∙ ap (λ (o : Option reg.Range). is_initialized init o c.bytes_of.result) (c.address_range.ensures init)
+    ∙ ap (λ (z : ℤ). is_initialized init (address_range (state_of c.args.self.now.ranges init) c.args.base.number z) c.bytes_of.result) again
+    ∙ ap (λ (n : ℕ). is_initialized init (address_range (state_of c.args.self.now.ranges init) c.args.base.number c.args.offset) n) c.bytes_of.ensures.value

@@ -5,5 +5,5 @@ pub has_bytes-requires : goal.has_bytes-requires
 has_bytes-requires c = (
   c.args.depth,
   c.requires,
-  λ marked. sym (c.has_accesses.ensures marked) ∙ c.if-not-has_accesses.false,
+  λ init. sym (c.has_accesses.ensures init) ∙ c.if-not-has_accesses.false,
 )

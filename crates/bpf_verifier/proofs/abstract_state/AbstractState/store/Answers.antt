@@ -10,7 +10,7 @@ use Rattle.bpf_verifier.specs.Represents.{state_of, ranges_of}
 use Rattle.bpf_verifier.proofs.abstract_state.AbstractState.store.Goals as goal
 
 pub returns : goal.returns
-returns c = λ marked marks.
+returns c = λ init bits.
     let n = c.args.offset in
     let again : cast_signed w16 (cast_unsigned w16 n) ≡ n = search rules in
     let old = c.args.self.now.ranges in
@@ -18,8 +18,8 @@ returns c = λ marked marks.
       ranges_are = λ r. ap (λ (rs : List (Option Range)). ranges_of rs r) c.initialize.ensures.ranges;
       initialized_are = λ i h.
           c.initialize.ensures.initialized i h
-          ∙ ap (λ (b : Bool). is_written (option_map range_of c.address_range-range.result) c.bytes_of.result (frame_start 0 + i) || b) (marks i h)
-          ∙ ap (λ (o : Option reg.Range). is_written o c.bytes_of.result (frame_start 0 + i) || marked (frame_start 0 + i)) (c.address_range-range.ensures marked)
-          ∙ ap (λ (z : ℤ). is_written (address_range (state_of old marked) c.args.base.number z) c.bytes_of.result (frame_start 0 + i) || marked (frame_start 0 + i)) again
-          ∙ ap (λ (k : ℕ). is_written (address_range (state_of old marked) c.args.base.number c.args.offset) k (frame_start 0 + i) || marked (frame_start 0 + i)) c.bytes_of.ensures.value;
+          ∙ ap (λ (b : Bool). is_written (option_map range_of c.address_range-range.result) c.bytes_of.result (frame_start 0 + i) || b) (bits i h)
+          ∙ ap (λ (o : Option reg.Range). is_written o c.bytes_of.result (frame_start 0 + i) || init (frame_start 0 + i)) (c.address_range-range.ensures init)
+          ∙ ap (λ (z : ℤ). is_written (address_range (state_of old init) c.args.base.number z) c.bytes_of.result (frame_start 0 + i) || init (frame_start 0 + i)) again
+          ∙ ap (λ (k : ℕ). is_written (address_range (state_of old init) c.args.base.number c.args.offset) k (frame_start 0 + i) || init (frame_start 0 + i)) c.bytes_of.ensures.value;
     }

@@ -1,5 +1,5 @@
-use Rattle.bpf_verifier.proofs.Bits.{AreMet}
+use Rattle.bpf_verifier.proofs.Bits.{AreIntersected}
 use Rattle.bpf_verifier.proofs.frame_bytes.FrameBytes.intersect.Given as goal
 
 abbrev pub invariant-loop-word : goal.invariant-loop-word
-invariant-loop-word l = AreMet l.word l.self.words l.fn.self.words l.other.words
+invariant-loop-word l = AreIntersected l.word l.self.words l.fn.self.words l.other.words

@@ -2,7 +2,7 @@ use Rattle.std.proofs.Common.{◌≡◌, ◌<◌, ℕ, rules, arith, length, get
 use Rattle.std.proofs.lemmas.List.{get_or_default}
 use Rattle.reg_ranges.specs.declared.range.Range.{Range}
 use Rattle.bpf_verifier.proofs.States.{entered_ranges}
-use Rattle.bpf_verifier.proofs.abstract_state.AbstractState.entered.Goals as goal
+use Rattle.bpf_verifier.proofs.abstract_state.AbstractState.entry_state.Goals as goal
 
 pub returns : goal.returns
 returns c = λ of is.
