@@ -149,7 +149,7 @@ take_bytes (suc k) (s ∷ ss) =
     ap (λ (n : ℕ). take n (bytes_of (s ∷ ss))) far ∙ ap (λ (t : List ℕ). take (8 + 8 * k) t) (flat_map-cons slot_bytes s ss)
     ∙ take-add 8 (8 * k) (slot_bytes s ++ bytes_of ss) ∙ ap (λ (t : List ℕ). slot_bytes s ++ t) (take_bytes k ss) ∙ sym (flat_map-cons slot_bytes s (take k ss))
 
--- the slot at a place of bytes is that of the list
+-- the slot at an index of bytes is that of the list
 at_place : (ss : List Slot) (k : ℕ) (s : Slot) → AllByRecursion IsSlot ss → IsSlot s → take 8 (drop (8 * k) (bytes_of ss)) ≡ slot_bytes s → (rest : List Slot) × (drop k ss ≡ s ∷ rest)
 at_place [] k s fit hs e =
     let le : 0 ≤ 8 * k = omega arith in

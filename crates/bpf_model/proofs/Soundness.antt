@@ -389,8 +389,8 @@ record Place (state : AbstractState) (m : Machine) (d base : ℕ) (offset : ℤ)
   in_range : In (address_of base_value offset) range
   inside : is_in_bounds d range.lo (extent range size) ≡ true
 
-place : (state : AbstractState) (m : Machine) (d base : ℕ) (offset : ℤ) (size : ℕ) → Abstracts state m → IsWellFormed state → FitsSigned w16 offset → is_some (state.ranges base) ≡ true → in_bounds d (address_range state base offset) size ≡ true → Place state m d base offset size
-place state m d base offset size means fit small has inside =
+access_position : (state : AbstractState) (m : Machine) (d base : ℕ) (offset : ℤ) (size : ℕ) → Abstracts state m → IsWellFormed state → FitsSigned w16 offset → is_some (state.ranges base) ≡ true → in_bounds d (address_range state base offset) size ≡ true → Place state m d base offset size
+access_position state m d base offset size means fit small has inside =
     let a = register_operand state m base means fit has in
     let b = single_operand (cast_unsigned w64 offset) (offset_64 offset small) in
     let sum = transfer W64 Add a.range (single (cast_unsigned w64 offset)) in
@@ -409,7 +409,7 @@ load_effect m size signed dst base offset a bytes a-is bytes-is ten = rw (a-is, 
 
 pub load_moves : (state : AbstractState) (m : Machine) (d : ℕ) (size : Size) (signed : Bool) (dst base : Reg) (offset : ℤ) → Abstracts state m → d < frames → IsWellFormed state → HoldsBytes m.memory → FitsSigned w16 offset → has_all state.ranges (base.number ∷ []) ≡ true → in_bounds d (address_range state base.number offset) (bytes_of size) ≡ true → is_initialized state.initialized (address_range state base.number offset) (bytes_of size) ≡ true → eqb dst.number 10 ≡ false → Moves state m (Load size signed dst base offset) dst.number
 load_moves state m d size signed dst base offset means shallow fit small_memory small has inside there ten =
-    let p = place state m d base.number offset (bytes_of size) means fit small (and_true _ _ has).0 inside in
+    let p = access_position state m d base.number offset (bytes_of size) means fit small (and_true _ _ has).0 inside in
     let present = sym (ap (λ (o : Option Range). is_initialized state.initialized o (bytes_of size)) p.range_is) ∙ there in
     let found = bytes_found m.memory (address_of p.base_value offset) (bytes_of size) (access_there state m d p.range (address_of p.base_value offset) (bytes_of size) means shallow p.in_range p.inside present) in
     record {
@@ -471,7 +471,7 @@ stored_after state m d base offset size value p =
 
 pub imm_stores : (state : AbstractState) (m : Machine) (d : ℕ) (size : Size) (base : Reg) (offset imm : ℤ) → Abstracts state m → IsWellFormed state → RunsAt d m → FitsSigned w16 offset → has_all state.ranges (base.number ∷ []) ≡ true → in_bounds d (address_range state base.number offset) (bytes_of size) ≡ true → Stores state m (StoreImm size base offset imm)
 imm_stores state m d size base offset imm means fit at small has inside =
-    let p = place state m d base.number offset (bytes_of size) means fit small (and_true _ _ has).0 inside in
+    let p = access_position state m d base.number offset (bytes_of size) means fit small (and_true _ _ has).0 inside in
     record {
       address = address_of p.base_value offset;
       bytes = stored_bytes size (cast_unsigned w64 imm);
@@ -485,7 +485,7 @@ imm_stores state m d size base offset imm means fit at small has inside =
 pub register_stores : (state : AbstractState) (m : Machine) (d : ℕ) (size : Size) (base : Reg) (offset : ℤ) (src : Reg) → Abstracts state m → IsWellFormed state → RunsAt d m → FitsSigned w16 offset → has_all state.ranges (base.number ∷ src.number ∷ []) ≡ true → in_bounds d (address_range state base.number offset) (bytes_of size) ≡ true → Stores state m (Store size base offset src)
 register_stores state m d size base offset src means fit at small has inside =
     let both = and_true (is_some (state.ranges base.number)) (is_some (state.ranges src.number) && true) has in
-    let p = place state m d base.number offset (bytes_of size) means fit small both.0 inside in
+    let p = access_position state m d base.number offset (bytes_of size) means fit small both.0 inside in
     let b = register_operand state m src.number means fit (and_true (is_some (state.ranges src.number)) true both.1).0 in
     record {
       address = address_of p.base_value offset;

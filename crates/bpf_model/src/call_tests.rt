@@ -39,7 +39,7 @@ fn a_call()
         effect m (CallLocal (pos 2)) ≡ None }
 {}
 
-/// What is known in a function that is entered.
+/// The abstract state in which a function is entered.
 fn a_callee_is_entered()
     ensures arguments { (s : AbstractState) → (entry_state 1 s).ranges 1 ≡ s.ranges 1 }
     ensures last { (s : AbstractState) → (entry_state 1 s).ranges 5 ≡ s.ranges 5 }
@@ -51,7 +51,7 @@ fn a_callee_is_entered()
         (entry_state 1 s).initialized a ≡ s.initialized a }
 {}
 
-/// What is known behind a call, by the state at the call and that at the callee's exit.
+/// The abstract state behind a call, by the state at the call and that at the callee's exit.
 fn a_callee_has_returned()
     ensures result { (s t : AbstractState) → (after_call 1 s t).ranges 0 ≡ t.ranges 0 }
     ensures arguments { (s t : AbstractState) → (after_call 1 s t).ranges 1 ≡ None }

@@ -258,7 +258,7 @@ fn edges_of_a_test()
         (Test false Jgt r (source.Imm (pos 3)) (pos 2))) ≡ 6 ∷ [] }
 {}
 
-/// A jump back is told before one out of the code; a local call may lead back.
+/// A jump back is reported before one out of the code; a local call may lead back.
 fn structures()
     ensures itself { structure_fault (Jump (negsuc 0) ∷ Exit ∷ []) 0 ≡ Some JumpBackward }
     ensures back_out { structure_fault (JumpLong (negsuc 4) ∷ Exit ∷ []) 0 ≡ Some JumpBackward }

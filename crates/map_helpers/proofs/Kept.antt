@@ -13,7 +13,7 @@ use Rattle.map_helpers.specs.declared.helper.Extent.TheVariants.{Fixed}
 use Rattle.map_helpers.specs.declared.helper.Helper.{Helper}
 use Rattle.map_helpers.specs.declared.helper.Helper.TheVariants.{Get, Put, Del, Len, Next, Emit, Caller}
 use Rattle.map_helpers.specs.Helpers.{arguments_of, reads, writes, max_answer}
-use Rattle.map_helpers.specs.Effects.{Context, Effect, Fits, effect_of, lookup_effect, emit_effect}
+use Rattle.map_helpers.specs.Effects.{Context, Effect, HasExtent, effect_of, lookup_effect, emit_effect}
 use Rattle.map_helpers.proofs.BytesRead.{key_first, value_second}
 
 -- numbers of 8 bits
@@ -91,7 +91,7 @@ tenant_map_kept helper c bytes is puts =
 abbrev pub IsReadBy : List Access → List ℕ → Type 0
 IsReadBy [] bytes = bytes ≡ []
 IsReadBy (access ∷ accesses) bytes =
-    (first : List ℕ) × (rest : List ℕ) × Fits access.size first × AreBytes first × IsReadBy accesses rest × (bytes ≡ first ++ rest)
+    (first : List ℕ) × (rest : List ℕ) × HasExtent access.size first × AreBytes first × IsReadBy accesses rest × (bytes ≡ first ++ rest)
 
 -- so a put reads a key and a value
 pub reads_put : (helper : Helper) (bytes : List ℕ) → IsReadBy (reads helper) bytes → IsPutOf IsKey IsValue helper bytes

@@ -64,15 +64,15 @@ effect_of Caller c bytes = effect c.client [] c.entries c.output
 -- ---- what code hands over
 
 -- Bytes that an access can have read: as many as it says, where that isn't left to r2.
-abbrev pub Fits : Extent → List ℕ → Type 0
-Fits (Fixed n) bytes = length bytes ≡ n
-Fits Second bytes = Unit {0}
+abbrev pub HasExtent : Extent → List ℕ → Type 0
+HasExtent (Fixed n) bytes = length bytes ≡ n
+HasExtent Second bytes = Unit {0}
 
 -- Bytes that the first and the second of these accesses can have read. One that isn't there reads none.
 abbrev pub AreRead : List Access → List ℕ → List ℕ → Type 0
 AreRead [] first second = (first ≡ []) × (second ≡ [])
-AreRead (a ∷ []) first second = Fits a.size first × (second ≡ [])
-AreRead (a ∷ b ∷ rest) first second = Fits a.size first × Fits b.size second
+AreRead (a ∷ []) first second = HasExtent a.size first × (second ≡ [])
+AreRead (a ∷ b ∷ rest) first second = HasExtent a.size first × HasExtent b.size second
 
 -- The bytes of what a helper writes.
 abbrev pub written_bytes : Written → List ℕ
