@@ -72,7 +72,8 @@ impl FlatLog {
     ) -> Result<Vec<usize>, AllocError> {
         let mut positions = Vec::new(alloc);
         let leader = (view % 4) as u8;
-        let Some((proposal, position)) = self.find(VoteKind::PrePrepare, view, number, leader) else {
+        let Some((proposal, position)) = self.find(VoteKind::PrePrepare, view, number, leader)
+        else {
             return Ok(positions);
         };
         positions.push(*position)?;

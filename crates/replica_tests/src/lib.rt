@@ -3,6 +3,8 @@
 #![tactic(auto)]
 
 #[cfg(test)]
+mod answers;
+#[cfg(test)]
 mod flat_log;
 #[cfg(test)]
 mod log;
@@ -16,8 +18,6 @@ mod openings;
 mod sealing;
 #[cfg(test)]
 mod stable;
-#[cfg(test)]
-mod answers;
 #[cfg(test)]
 mod view_changes;
 #[cfg(test)]

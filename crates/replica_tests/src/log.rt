@@ -196,7 +196,8 @@ fn is_made_of(
 fn are_at(messages: &[Checked], pool: &CheckedList, positions: &[usize]) -> bool {
     for index in 0..messages.len() {
         let same = match positions.get(index) {
-            Some(position) => at(pool, *position).map(|m| m.bytes()) == Some(messages[index].bytes()),
+            Some(position) => at(pool, *position).map(|m| m.bytes())
+                == Some(messages[index].bytes()),
             None => false,
         };
         if !same {
