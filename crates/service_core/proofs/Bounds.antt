@@ -80,7 +80,7 @@ run_keeps code first zero last e = same_sizes first last (ap (λ (k : Machine). 
 run_keeps code first (suc n) last (mid, run, e) =
     let before = run_keeps code first n mid run in
     let one = step_keeps IsSizedMap answer_sized code mid last e in
-    ((λ sized. one.0 (before.0 sized)), (λ short. one.1 (before.1 short)))
+    ((λ has_sizes. one.0 (before.0 has_sizes)), (λ short. one.1 (before.1 short)))
 
 ending_sized : (code : List Insn) (call : Call) (ending : Ending) → EndsSo code call ending → IsSizedMap call.entries → IsSizedMap ending.entries × (length ending.output ≤ 256)
 ending_sized code call ending e is =
@@ -107,18 +107,18 @@ accepted_short code bound (insns, is, accepted) =
 record Within (procedures : List (List ℕ)) (entries : Entries) (result : List ℕ) : Type 0 where
   few : length procedures ≤ 64
   codes : All (λ code. length code ≤ 8192) procedures
-  sized : IsSizedMap entries
+  has_sizes : IsSizedMap entries
   short : length result ≤ 265
 
 with_result : (procedures : List (List ℕ)) (entries : Entries) (result text : List ℕ) → length procedures ≤ 64 → All (λ code. length code ≤ 8192) procedures → IsSizedMap entries → result ≡ text → length text ≤ 265
     → Within procedures entries result
-with_result procedures entries result text few codes sized e short = record { few = few; codes = codes; sized = sized; short = subst (λ (r : List ℕ). length r ≤ 265) (sym e) short }
+with_result procedures entries result text few codes has_sizes e short = record { few = few; codes = codes; has_sizes = has_sizes; short = subst (λ (r : List ℕ). length r ≤ 265) (sym e) short }
 
 installs_within : (procedures : List (List ℕ)) (code : List ℕ) (after : List (List ℕ)) (entries : Entries) (result : List ℕ) → length procedures ≤ 64 → All (λ c. length c ≤ 8192) procedures → IsSizedMap entries
     → Installs procedures code after result → Within after entries result
-installs_within procedures code after entries result few codes sized h = cases (nat_le 64 (length procedures)) refl h where
+installs_within procedures code after entries result few codes has_sizes h = cases (nat_le 64 (length procedures)) refl h where
   unchanged : (text : List ℕ) → length text ≤ 265 → after ≡ procedures → result ≡ text → Within after entries result
-  unchanged text short a r = subst (λ (ps : List (List ℕ)). Within ps entries result) (sym a) (with_result procedures entries result text few codes sized r short)
+  unchanged text short a r = subst (λ (ps : List (List ℕ)). Within ps entries result) (sym a) (with_result procedures entries result text few codes has_sizes r short)
 
   id : List ℕ
   id = installed (length procedures)
@@ -128,7 +128,7 @@ installs_within procedures code after entries result few codes sized h = cases (
   decided room (inl x) = subst (λ (ps : List (List ℕ)). Within ps entries result) (sym x.2)
       (with_result (procedures ++ code ∷ []) entries result id
       (omega (arith, length-append procedures (code ∷ []), leb-false 64 (length procedures) room))
-      (All-push (λ c. length c ≤ 8192) procedures code codes (accepted_short code x.0 x.1)) sized x.3 (omega (arith, four_short (length procedures))))
+      (All-push (λ c. length c ≤ 8192) procedures code codes (accepted_short code x.0 x.1)) has_sizes x.3 (omega (arith, four_short (length procedures))))
   decided room (inr x) = unchanged refused (omega arith) x.1 x.2
 
   cases : (b : Bool) → nat_le 64 (length procedures) ≡ b → MatchBool b ((after ≡ procedures) × (result ≡ too_many_procedures))
@@ -138,27 +138,27 @@ installs_within procedures code after entries result few codes sized h = cases (
 
 runs_within : (client : ℕ) (procedures : List (List ℕ)) (code arguments : List ℕ) (entries after : Entries) (result : List ℕ) → length procedures ≤ 64 → All (λ c. length c ≤ 8192) procedures → IsSizedMap entries
     → Runs client code arguments entries after result → Within procedures after result
-runs_within client procedures code arguments entries after result few codes sized r =
-    let kept = ending_sized r.insns (record { arguments = arguments; client = client; entries = entries }) r.ending r.ends sized in
+runs_within client procedures code arguments entries after result few codes has_sizes r =
+    let kept = ending_sized r.insns (record { arguments = arguments; client = client; entries = entries }) r.ending r.ends has_sizes in
     with_result procedures after result (called r.ending.value r.ending.output) few codes (subst IsSizedMap (sym r.entries_are) kept.0) r.result_is
     (omega (arith, kept.1, eight_short r.ending.value, length-append (u64_bytes r.ending.value) r.ending.output))
 
 does_within : (client : ℕ) (op : Operation) (procedures after : List (List ℕ)) (entries entries' : Entries) (result : List ℕ) → length procedures ≤ 64 → All (λ c. length c ≤ 8192) procedures → IsSizedMap entries
     → Does client op procedures entries after entries' result → Within after entries' result
-does_within client (Install code) procedures after entries entries' result few codes sized h =
-    subst (λ (es : Entries). Within after es result) (sym h.1) (installs_within procedures code after entries result few codes sized h.0)
-does_within client (CallOf id arguments) procedures after entries entries' result few codes sized h =
+does_within client (Install code) procedures after entries entries' result few codes has_sizes h =
+    subst (λ (es : Entries). Within after es result) (sym h.1) (installs_within procedures code after entries result few codes has_sizes h.0)
+does_within client (CallOf id arguments) procedures after entries entries' result few codes has_sizes h =
     subst (λ (ps : List (List ℕ)). Within ps entries' result) (sym h.1)
     (one_of_option (Rattle.std.specs.Prelude.slice_get procedures id) _ _ _
     (λ (x : (entries' ≡ entries) × (result ≡ no_procedure)). unchanged no_procedure (omega arith) x.0 x.1)
     (λ code. one_of_bool (nat_lt 256 (length arguments)) _ _ _
     (λ (x : (entries' ≡ entries) × (result ≡ arguments_too_long)). unchanged arguments_too_long (omega arith) x.0 x.1)
-    (runs_within client procedures code arguments entries entries' result few codes sized)) h.0) where
+    (runs_within client procedures code arguments entries entries' result few codes has_sizes)) h.0) where
       unchanged : (text : List ℕ) → length text ≤ 265 → entries' ≡ entries → result ≡ text → Within procedures entries' result
-      unchanged text short e r = subst (λ (es : Entries). Within procedures es result) (sym e) (with_result procedures entries result text few codes sized r short)
-does_within client Bad procedures after entries entries' result few codes sized h =
+      unchanged text short e r = subst (λ (es : Entries). Within procedures es result) (sym e) (with_result procedures entries result text few codes has_sizes r short)
+does_within client Bad procedures after entries entries' result few codes has_sizes h =
     subst (λ (ps : List (List ℕ)). Within ps entries' result) (sym h.0)
-    (subst (λ (es : Entries). Within procedures es result) (sym h.1) (with_result procedures entries result bad_operation few codes sized h.2 (omega arith)))
+    (subst (λ (es : Entries). Within procedures es result) (sym h.1) (with_result procedures entries result bad_operation few codes has_sizes h.2 (omega arith)))
 
 -- ---- a step keeps the bounds
 
@@ -202,7 +202,7 @@ executes_bounded n x request after reply kept range b e =
     subst (IsBoundedTenant (n + 1)) (sym e.part_is) (record {
       procedures_in_range = within.few;
       codes_in_range = within.codes;
-      entries_in_range = within.sized;
+      entries_in_range = within.has_sizes;
       replies_in_range = replies within.short;
     }) where
       new : Reply

@@ -20,7 +20,7 @@ pub mod Encoded
 pub mod Replies
 pub mod Turns
 pub mod KeysInOrder
-pub mod Codes
+pub mod ShortCodes
 pub mod Parts
 pub mod RepliesInTurn
 pub mod StateRead

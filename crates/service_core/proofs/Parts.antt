@@ -15,7 +15,7 @@ use Rattle.service_core.specs.Encoding.{length_prefixed, encoded_procedures, enc
 use Rattle.service_core.specs.Readings.{Begins, Reads, AreProcedures, Contents, AreContents, encoded_contents, ArePartsOf, HaveReplies, replies_to_tenant}
 use Rattle.service_core.proofs.PrefixFree.{same_length, free_four, free_list}
 use Rattle.service_core.proofs.Injective.{four_long, entries_free}
-use Rattle.service_core.proofs.Codes.{IsShortCode, free_code}
+use Rattle.service_core.proofs.ShortCodes.{IsShortCode, free_code}
 
 regrouped : (a b c r : List ℕ) → ((a ++ b) ++ c) ++ r ≡ a ++ (b ++ (c ++ r))
 regrouped a b c r = simp append_assoc

@@ -1,4 +1,4 @@
-use Rattle.service_core.proofs.Codes.{refused_code}
+use Rattle.service_core.proofs.ShortCodes.{refused_code}
 use Rattle.service_core.proofs.tenant_reader.read_procedure.Goals as goal
 
 pub returns-in-Err : goal.returns-in-Err
