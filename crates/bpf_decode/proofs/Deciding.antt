@@ -414,8 +414,8 @@ slot_of x long small =
       sym (slot_read x (cast_unsigned w16 (cast_signed w16 m)) (cast_unsigned w32 (cast_signed w32 n)) long small (of_z-to_z w16 m m_small) (of_z-to_z w32 n n_small)),
     )
 
-module _ (bytes : List ℕ) (small : AreBytes bytes) (none : length_fault (length bytes) ≡ None) (many : ℕ) (whole : length bytes ≡ 8 * many) where
-  slot_at : (k : ℕ) → k < many → (s : Slot) × IsAt bytes k s
+module _ (bytes : List ℕ) (small : AreBytes bytes) (many : ℕ) (whole : length bytes ≡ 8 * many) where
+  pub slot_at : (k : ℕ) → k < many → (s : Slot) × IsAt bytes k s
   slot_at k h =
       let x : List ℕ = take 8 (drop (8 * k) bytes) in
       let long : length x ≡ 8 = length-take-le 8 (drop (8 * k) bytes) (omega (arith, length-drop (8 * k) bytes, whole, h)) in
@@ -429,7 +429,7 @@ module _ (bytes : List ℕ) (small : AreBytes bytes) (none : length_fault (lengt
           beyond : (x : List ℕ) (i : ℕ) → length x ≡ 8 → 8 ≤ i → get_or x i 0 ≡ 0
           beyond x i long h = get_or_past x i 0 (omega (arith, long, h))
 
-  behind_at : (k : ℕ) → k < many → (b : Option Slot) × IsBehind bytes k b × ((half : Slot) → b ≡ Some half → IsSlot half × (suc k < many))
+  pub behind_at : (k : ℕ) → k < many → (b : Option Slot) × IsBehind bytes k b × ((half : Slot) → b ≡ Some half → IsSlot half × (suc k < many))
   behind_at k h = elim (cases_lt (suc k) many) [
     | inl more ↦ let w = slot_at (suc k) more in (Some w.0, w.1, λ half e. (subst IsSlot (some_same w.0 half e) w.1.fits, more))
     | inr last ↦ (None, omega (arith, whole, h, last), λ half e. absurd (never half e))
@@ -437,6 +437,7 @@ module _ (bytes : List ℕ) (small : AreBytes bytes) (none : length_fault (lengt
     never : (half : Slot) → None ≡ Some half → ⊥
     never half e = cc
 
+module _ (bytes : List ℕ) (small : AreBytes bytes) (none : length_fault (length bytes) ≡ None) (many : ℕ) (whole : length bytes ≡ 8 * many) where
   abbrev Verdict : Type 0
   Verdict = ((code : List Insn) × IsCode bytes code) ⊎ ((fault : DecodeFault) × (slot : ℕ) × IsRefused bytes fault slot)
 
@@ -461,7 +462,7 @@ module _ (bytes : List ℕ) (small : AreBytes bytes) (none : length_fault (lengt
 
   -- one instruction more, or the first fault
   step : (k : ℕ) (before : List Insn) → k < many → Read k before → ((next : ℕ) (read : List Insn) → k < next → Read next read → Verdict) → Verdict
-  step k before more r rest = judged (slot_at k more) (behind_at k more) where
+  step k before more r rest = judged (slot_at bytes small many whole k more) (behind_at bytes small many whole k more) where
     judged : (s : (s : Slot) × IsAt bytes k s) (b : (b : Option Slot) × IsBehind bytes k b × ((half : Slot) → b ≡ Some half → IsSlot half × (suc k < many))) → Verdict
     judged (s, at) (b, behind, halves) = with_fault (slot_fault s b) refl where
       with_fault : (f : Option DecodeFault) → slot_fault s b ≡ f → Verdict

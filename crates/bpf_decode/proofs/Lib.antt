@@ -3,3 +3,4 @@ pub mod Reading
 pub mod Instructions
 pub mod Encodings
 pub mod Deciding
+pub mod Narrow

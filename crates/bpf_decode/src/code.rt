@@ -15,6 +15,9 @@ use std::alloc::{AllocError, Global};
 /// The bytes of a slot.
 const SLOT: usize = 8;
 
+/// The opcode of the one wide instruction, a load of an immediate of 64 bits (RFC 9669, section 5.4).
+const WIDE: u8 = 0x18;
+
 /// The most slots that code has (a limit of this host).
 const MAX_SLOTS: usize = 1024;
 
@@ -64,7 +67,12 @@ fn read_insn(bytes: &[u8], slot: usize) -> Result<Insn, Refusal>
         (refusal.slot ≡ slot) × FaultyAt bytes.now refusal.fault slot) }
 {
     let first = slot_at(bytes, slot);
-    let behind = slot_behind(bytes, slot);
+    // Only a wide instruction has a second slot.
+    let behind = if first.opcode == WIDE {
+        slot_behind(bytes, slot)
+    } else {
+        None
+    };
     match first.to_insn(behind) {
         Ok(insn) => Ok(insn),
         Err(fault) => Err(Refusal {

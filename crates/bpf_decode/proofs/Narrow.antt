@@ -1,0 +1,72 @@
+-- What is read of a slot whose opcode isn't the wide one, whatever is behind it.
+use Rattle.std.proofs.Common.{◌≡◌, ℕ, ◌+◌, ◌*◌, ◌/◌, ◌%◌, ◌≤◌, List, length, Option, None, Some, refl, sym, ap, subst, ◌∙◌, arith}
+use Rattle.bpf_decode.specs.declared.insn.Insn.{Insn}
+use Rattle.bpf_decode.specs.declared.insn.Insn.TheVariants as insn
+use Rattle.bpf_decode.specs.declared.opcode.Opcode.{Opcode}
+use Rattle.bpf_decode.specs.declared.opcode.Opcode.TheVariants as opcode
+use Rattle.bpf_decode.specs.declared.opcode.SourceKind.TheVariants.{K, X}
+use Rattle.bpf_decode.specs.declared.slot.Slot.{Slot}
+use Rattle.bpf_decode.specs.declared.refusal.DecodeFault.{DecodeFault}
+use Rattle.bpf_decode.specs.Opcodes.{opcode_of}
+use Rattle.bpf_decode.specs.Encoding.{EncodesAt, IsAt, IsBehind}
+use Rattle.bpf_decode.specs.Faults.{FaultyAt, fault_of, slot_fault}
+use Rattle.bpf_decode.specs.Parts.{Reads}
+use Rattle.bpf_decode.proofs.Encodings.{read_encodes}
+use Rattle.bpf_decode.proofs.Deciding.{AreBytes, behind_at, opcode_right_of}
+
+module _ (s : Slot) (b : Option Slot) (narrow : s.opcode ≡ 24 → ⊥) where
+  pub narrow_fault : slot_fault s None ≡ slot_fault s b
+  narrow_fault = same (opcode_of s.opcode) refl where
+    same : (o : Option Opcode) → opcode_of s.opcode ≡ o → fault_of o s None ≡ fault_of o s b
+    same None e = refl
+    same (Some opcode.LoadImm) e = absurd (narrow (sym (opcode_right_of s.opcode opcode.LoadImm e).0))
+    same (Some (opcode.Alu width operation K)) e = refl
+    same (Some (opcode.Alu width operation X)) e = refl
+    same (Some (opcode.Swap kind)) e = refl
+    same (Some (opcode.Load size signed)) e = refl
+    same (Some (opcode.StoreImm size)) e = refl
+    same (Some (opcode.Store size)) e = refl
+    same (Some opcode.Jump) e = refl
+    same (Some opcode.JumpLong) e = refl
+    same (Some (opcode.Test narrow test K)) e = refl
+    same (Some (opcode.Test narrow test X)) e = refl
+    same (Some opcode.Call) e = refl
+    same (Some opcode.Exit) e = refl
+
+  pub narrow_reads : (x : Insn) → Reads s None x → Reads s b x
+  narrow_reads (insn.LoadImm dst value) r = absurd (narrow (sym (ap (λ (t : Slot). t.opcode) r.first)))
+  narrow_reads (insn.Alu width op dst src) r = record { in_range = r.in_range; first = r.first; others = refl }
+  narrow_reads (insn.Swap kind width dst) r = record { in_range = r.in_range; first = r.first; others = refl }
+  narrow_reads (insn.Load size signed dst base offset) r = record { in_range = r.in_range; first = r.first; others = refl }
+  narrow_reads (insn.StoreImm size base offset imm) r = record { in_range = r.in_range; first = r.first; others = refl }
+  narrow_reads (insn.Store size base offset src) r = record { in_range = r.in_range; first = r.first; others = refl }
+  narrow_reads (insn.Jump offset) r = record { in_range = r.in_range; first = r.first; others = refl }
+  narrow_reads (insn.JumpLong offset) r = record { in_range = r.in_range; first = r.first; others = refl }
+  narrow_reads (insn.Test narrow test dst src offset) r = record { in_range = r.in_range; first = r.first; others = refl }
+  narrow_reads (insn.CallHelper helper) r = record { in_range = r.in_range; first = r.first; others = refl }
+  narrow_reads (insn.CallLocal offset) r = record { in_range = r.in_range; first = r.first; others = refl }
+  narrow_reads insn.Exit r = record { in_range = r.in_range; first = r.first; others = refl }
+
+module _ (bytes : List ℕ) (small : AreBytes bytes) (k : ℕ) (inside : 8 * k + 8 ≤ length bytes) (whole : length bytes % 8 ≡ 0) where
+  -- what is behind a slot
+  behind_is : (b : Option Slot) × IsBehind bytes k b
+  behind_is =
+      let w = behind_at bytes small (length bytes / 8) (omega (arith, whole)) k (omega (arith, inside, whole)) in
+      (w.0, w.1)
+
+  module _ (s : Slot) (at : IsAt bytes k s) (narrow : s.opcode ≡ 24 → ⊥) (none : Option Slot) (is : none ≡ None) where
+    pub narrow_encodes : (x : Insn) → Reads s none x → EncodesAt bytes k x
+    narrow_encodes x r =
+        let b = behind_is in
+        read_encodes bytes k s b.0 x at b.1 (narrow_reads s b.0 narrow x (subst (λ (o : Option Slot). Reads s o x) is r))
+
+    pub narrow_faulty : (f : DecodeFault) → slot_fault s none ≡ Some f → FaultyAt bytes f k
+    narrow_faulty f e =
+        let b = behind_is in
+        record {
+          slot = s;
+          behind = b.0;
+          is_at = at;
+          is_behind = b.1;
+          fault_is = sym (narrow_fault s b.0 narrow) ∙ subst (λ (o : Option Slot). slot_fault s o ≡ Some f) is e;
+        }
