@@ -1,5 +1,7 @@
 //! The commands: what the words ask for, and the lines that are written.
 
+ghost use Rattle.std.specs.Prelude.{◌≤◌};
+
 use crate::explain::explain;
 use crate::failure::Failure;
 use crate::input::{read_hex, read_input};
@@ -45,7 +47,9 @@ pub fn run_command<'a, R: AllocGlobal, I: Read, O: Write>(
     words: &'a [&'a str],
     reader: &mut I,
     writer: &mut O,
-) -> u8 {
+) -> u8
+    ensures { result ≤ 4 }
+{
     match dispatch(rt.alloc(), words, reader, writer) {
         Ok(()) => 0,
         Err(failure) => report(&failure, writer),
@@ -53,7 +57,9 @@ pub fn run_command<'a, R: AllocGlobal, I: Read, O: Write>(
 }
 
 /// Writes why a command ended early, where that is written, and returns the status. Takes no memory.
-pub(crate) fn report<O: Write>(failure: &Failure, writer: &mut O) -> u8 {
+pub(crate) fn report<O: Write>(failure: &Failure, writer: &mut O) -> u8
+    ensures { (1 ≤ result) × (result ≤ 4) }
+{
     if !failure.is_reported() {
         return failure.status();
     }

@@ -50,8 +50,12 @@ pub enum Failure {
 }
 
 impl Failure {
+    ghost use Rattle.std.specs.Prelude.{◌≤◌};
+
     /// The status with which the program ends.
-    pub(crate) fn status(&self) -> u8 {
+    pub(crate) fn status(&self) -> u8
+        ensures { (1 ≤ result) × (result ≤ 4) }
+    {
         match self {
             Failure::InputTooLong
             | Failure::NotHex
