@@ -15,7 +15,7 @@ const WORDS: usize = STACK_SIZE / BITS;
 const FRAME_WORDS: usize = FRAME_SIZE / BITS;
 
 /// Which bytes of the stack are initialized for certain. Words behind those in use hold none, so that a
-/// join or a copy goes over the frames in use alone.
+/// join or a copy goes over the words in use alone.
 #[derive(Clone, Copy)]
 pub struct FrameBytes {
     pub words: [u64; WORDS],
