@@ -34,14 +34,23 @@ const LIMIT: u128 = 1500;
 
 /// The key of a number, as the programs make it.
 fn key_of(number: u64) -> [u8; 16] {
-    let mut key = [0; 16];
-    key[8..].copy_from_slice(&(number % ENTRIES).to_le_bytes());
-    key
+    let [a, b, c, d, e, f, g, h] = (number % ENTRIES).to_le_bytes();
+    [0, 0, 0, 0, 0, 0, 0, 0, a, b, c, d, e, f, g, h]
 }
 
 /// The number of the first key of a run.
 fn first_of(run: u32) -> u64 {
     u64::from(run.wrapping_mul(2_654_435_761))
+}
+
+/// The arguments of a run: the number of its first key, the least byte first.
+fn arguments_of(run: u32) -> [u8; 48] {
+    let number = first_of(run).to_le_bytes();
+    let mut args = [0; 48];
+    for index in 0..8 {
+        args[index] = number[index];
+    }
+    args
 }
 
 fn full_map(alloc: Global) -> Result<TenantMap, AllocError> {
@@ -56,9 +65,7 @@ fn full_map(alloc: Global) -> Result<TenantMap, AllocError> {
 fn round_of_calls(rt: &HostRuntime, procedure: &Procedure, map: &mut TenantMap) -> Result<u128> {
     let start = Instant::now(rt)?;
     for run in 0..RUNS {
-        let mut args = [0; 48];
-        args[..8].copy_from_slice(&first_of(run).to_le_bytes());
-        if finished(procedure, &args, map).is_none() {
+        if finished(procedure, &arguments_of(run), map).is_none() {
             return Err(anyhow!("memory ran out"));
         }
     }

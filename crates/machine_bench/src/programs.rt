@@ -41,12 +41,10 @@ impl Numbers {
 
 /// A slot (RFC 9669, section 3.1).
 fn slot(opcode: u8, dst: u8, src: u8, offset: i16, imm: i32) -> [u8; 8] {
-    let mut bytes = [0; 8];
-    bytes[0] = opcode;
-    bytes[1] = src.wrapping_mul(16) | dst;
-    bytes[2..4].copy_from_slice(&offset.to_le_bytes());
-    bytes[4..].copy_from_slice(&imm.to_le_bytes());
-    bytes
+    let [offset0, offset1] = offset.to_le_bytes();
+    let [imm0, imm1, imm2, imm3] = imm.to_le_bytes();
+    let registers = src.wrapping_mul(16) | dst;
+    [opcode, registers, offset0, offset1, imm0, imm1, imm2, imm3]
 }
 
 /// Gives r0 and r3 to r9 a number each.

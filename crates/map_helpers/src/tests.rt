@@ -6,6 +6,7 @@ ghost use Rattle.map_helpers.specs.Effects.{Context, effect as made, effect_of, 
 use super::*;
 use arrayvec::ArrayVec;
 use host_types::ClientId;
+use std::alloc::AllocError;
 use std::test::Fail;
 use tenant_maps::TenantMap;
 
@@ -36,14 +37,27 @@ fn answers()
         effect_of Emit c (2 ∷ 3 ∷ []) ≡ made 0 [] c.entries (1 ∷ 2 ∷ 3 ∷ []) }
 {}
 
-/// A key whose first byte and whose last byte are these.
-fn key(first: u8, last: u8) -> [u8; 16]
-    ensures { length result ≡ 16 }
-{
-    let mut key = [0; 16];
-    key[0] = first;
-    key[15] = last;
-    key
+/// A key of one number, in its last byte.
+fn key(last: u8) -> [u8; 16] {
+    [0, 0, 0, 0, 0, 0, 0, 0, 0, 0, 0, 0, 0, 0, 0, last]
+}
+
+/// The effect of a helper that reads no more than a key and a value; emit puts out the key.
+fn called(
+    helper: Helper,
+    key: &[u8; 16],
+    value: &[u8; 32],
+    map: &mut TenantMap,
+    out: &mut ArrayVec<u8, 256>,
+) -> Result<Answer, AllocError> {
+    let me = ClientId(16);
+    match helper {
+        Helper::Put => effect(helper, key, value, me, map, out),
+        Helper::Get | Helper::Del | Helper::Next | Helper::Emit => {
+            effect(helper, key, &[], me, map, out)
+        }
+        Helper::Len | Helper::Caller => effect(helper, &[], &[], me, map, out),
+    }
 }
 
 #[test]
@@ -86,121 +100,59 @@ fn definitions_at_values(rt: HostRuntime) {
 
 #[test]
 fn effects_on_a_map(rt: HostRuntime) -> Result<(), Fail> {
+    let (nothing, value, sought) = (Written::Nothing, Written::Value, Written::Key);
+    let rows = [
+        (Helper::Len, 0, 0, nothing),
+        (Helper::Get, 2, 1, value([0; 32])),
+        (Helper::Next, 0, 1, sought([0; 16])),
+        (Helper::Put, 9, 0, nothing),
+        (Helper::Put, 2, 0, nothing),
+        (Helper::Get, 2, 0, value([7; 32])),
+        (Helper::Next, 0, 0, sought(key(2))),
+        (Helper::Next, 2, 0, sought(key(9))),
+        (Helper::Next, 9, 1, sought([0; 16])),
+        (Helper::Del, 0, 1, nothing),
+        (Helper::Len, 0, 2, nothing),
+        (Helper::Del, 2, 0, nothing),
+        (Helper::Len, 0, 1, nothing),
+        (Helper::Caller, 0, 16, nothing),
+    ];
     let mut map = TenantMap::new(rt.alloc());
     let mut out = ArrayVec::new();
-    let me = ClientId(16);
-    let (small, great, none) = (key(0, 2), key(1, 0), key(0, 0));
-    let len = effect(Helper::Len, &[], &[], me, &mut map, &mut out)?;
-    assert_eq!(rt;
-        len,
-        Answer {
-            value: 0,
-            written: Written::Nothing
-        }
-    );
-    let get = effect(Helper::Get, &small, &[], me, &mut map, &mut out)?;
-    assert_eq!(rt;
-        get,
-        Answer {
-            value: 1,
-            written: Written::Value([0; 32])
-        }
-    );
-    let next = effect(Helper::Next, &none, &[], me, &mut map, &mut out)?;
-    assert_eq!(rt;
-        next,
-        Answer {
-            value: 1,
-            written: Written::Key([0; 16])
-        }
-    );
-    let put = effect(Helper::Put, &great, &[9; 32], me, &mut map, &mut out)?;
-    assert_eq!(rt;
-        put,
-        Answer {
-            value: 0,
-            written: Written::Nothing
-        }
-    );
-    let put = effect(Helper::Put, &small, &[7; 32], me, &mut map, &mut out)?;
-    assert_eq!(rt; put.value, 0);
-    let get = effect(Helper::Get, &small, &[], me, &mut map, &mut out)?;
-    assert_eq!(rt;
-        get,
-        Answer {
-            value: 0,
-            written: Written::Value([7; 32])
-        }
-    );
-    let next = effect(Helper::Next, &none, &[], me, &mut map, &mut out)?;
-    assert_eq!(rt;
-        next,
-        Answer {
-            value: 0,
-            written: Written::Key(small)
-        }
-    );
-    let next = effect(Helper::Next, &small, &[], me, &mut map, &mut out)?;
-    assert_eq!(rt;
-        next,
-        Answer {
-            value: 0,
-            written: Written::Key(great)
-        }
-    );
-    let next = effect(Helper::Next, &great, &[], me, &mut map, &mut out)?;
-    assert_eq!(rt;
-        next,
-        Answer {
-            value: 1,
-            written: Written::Key([0; 16])
-        }
-    );
-    let del = effect(Helper::Del, &none, &[], me, &mut map, &mut out)?;
-    assert_eq!(rt;
-        del,
-        Answer {
-            value: 1,
-            written: Written::Nothing
-        }
-    );
-    let len = effect(Helper::Len, &[], &[], me, &mut map, &mut out)?;
-    assert_eq!(rt; len.value, 2);
-    let del = effect(Helper::Del, &small, &[], me, &mut map, &mut out)?;
-    assert_eq!(rt; del.value, 0);
-    let len = effect(Helper::Len, &[], &[], me, &mut map, &mut out)?;
-    assert_eq!(rt; len.value, 1);
+    for (helper, at, value, written) in rows {
+        let answer = called(helper, &key(at), &[7; 32], &mut map, &mut out)?;
+        assert_eq!(rt; answer, Answer { value, written }, "{helper:?} at {at}");
+    }
     assert_eq!(rt; out.len(), 0);
     Ok(())
 }
 
+/// What emit answers of so many bytes, and how many are then put out.
+fn emitted(
+    bytes: &[u8],
+    out: &mut ArrayVec<u8, 256>,
+    map: &mut TenantMap,
+) -> Result<(u64, usize), AllocError> {
+    let answer = effect(Helper::Emit, bytes, &[], ClientId(5), map, out)?;
+    Ok((answer.value, out.len()))
+}
+
 #[test]
 fn emits_up_to_256_bytes(rt: HostRuntime) -> Result<(), Fail> {
+    let bytes = [3; 255];
+    let rows = [
+        (255, 0, 255),
+        (2, 1, 255),
+        (1, 0, 256),
+        (0, 0, 256),
+        (1, 1, 256),
+    ];
     let mut map = TenantMap::new(rt.alloc());
     let mut out = ArrayVec::new();
-    let me = ClientId(5);
-    let emit = effect(Helper::Emit, &[3; 255], &[], me, &mut map, &mut out)?;
-    assert_eq!(rt; emit.value, 0);
-    let emit = effect(Helper::Emit, &[1, 2], &[], me, &mut map, &mut out)?;
-    assert_eq!(rt; emit.value, 1);
-    assert_eq!(rt; out.len(), 255);
-    let emit = effect(Helper::Emit, &[4], &[], me, &mut map, &mut out)?;
-    assert_eq!(rt; emit.value, 0);
-    assert_eq!(rt; out[254], 3);
-    assert_eq!(rt; out[255], 4);
-    let emit = effect(Helper::Emit, &[], &[], me, &mut map, &mut out)?;
-    assert_eq!(rt; emit.value, 0);
-    let emit = effect(Helper::Emit, &[5], &[], me, &mut map, &mut out)?;
-    assert_eq!(rt; emit.value, 1);
-    assert_eq!(rt; out.len(), 256);
-    let caller = effect(Helper::Caller, &[], &[], me, &mut map, &mut out)?;
-    assert_eq!(rt;
-        caller,
-        Answer {
-            value: 5,
-            written: Written::Nothing
-        }
-    );
+    for (count, value, length) in rows {
+        let emitted = emitted(&bytes[..count], &mut out, &mut map)?;
+        assert_eq!(rt; emitted, (value, length), "{count} bytes");
+    }
     Ok(())
 }
 
@@ -208,20 +160,21 @@ fn emits_up_to_256_bytes(rt: HostRuntime) -> Result<(), Fail> {
 fn a_full_map(rt: HostRuntime) -> Result<(), Fail> {
     let mut map = TenantMap::new(rt.alloc());
     let mut out = ArrayVec::new();
-    let me = ClientId(0);
     for number in 0..4096u32 {
-        let mut bytes = [0; 16];
-        bytes[..4].copy_from_slice(&number.to_be_bytes());
-        let put = effect(Helper::Put, &bytes, &[1; 32], me, &mut map, &mut out)?;
+        let [high, low, ..] = number.to_le_bytes();
+        let key = [high, low, 0, 0, 0, 0, 0, 0, 0, 0, 0, 0, 0, 0, 0, 0];
+        let put = called(Helper::Put, &key, &[1; 32], &mut map, &mut out)?;
         assert_eq!(rt; put.value, 0);
     }
-    let put = effect(Helper::Put, &key(9, 9), &[1; 32], me, &mut map, &mut out)?;
-    assert_eq!(rt; put.value, 1);
-    let put = effect(Helper::Put, &key(0, 0), &[2; 32], me, &mut map, &mut out)?;
-    assert_eq!(rt; put.value, 0);
-    let get = effect(Helper::Get, &key(9, 9), &[], me, &mut map, &mut out)?;
-    assert_eq!(rt; get.value, 1);
-    let len = effect(Helper::Len, &[], &[], me, &mut map, &mut out)?;
-    assert_eq!(rt; len.value, 4096);
+    let rows = [
+        (Helper::Put, 9, 1),
+        (Helper::Put, 0, 0),
+        (Helper::Get, 9, 1),
+        (Helper::Len, 0, 4096),
+    ];
+    for (helper, at, value) in rows {
+        let answer = called(helper, &key(at), &[2; 32], &mut map, &mut out)?;
+        assert_eq!(rt; answer.value, value, "{helper:?} at {at}");
+    }
     Ok(())
 }

@@ -5,8 +5,8 @@ ghost use Rattle.std.specs.Prelude.{◌≡◌};
 use anyhow::{Result, anyhow};
 use host_types::{Config, ReplicaId};
 use lms_tree::Signer;
-use replica_core::{Replica, Row};
-use seal::open;
+use replica_core::{Halt, Replica, Row};
+use seal::{Checked, open};
 use std::alloc::Global;
 use std::marker::Model;
 use std::sync::Arc;
@@ -55,7 +55,7 @@ impl Node {
     /// Opens the bytes of a message and takes it.
     pub(crate) fn deliver(&mut self, bytes: &[u8]) -> Result<Row> {
         let message = open(self.alloc, &self.config, bytes)?;
-        Ok(self.replica.take(&message)?)
+        Ok(take(&mut self.replica, &message)?)
     }
 
     /// How many leaves its signer has left.
@@ -67,4 +67,12 @@ impl Node {
     pub(crate) fn executed(&self) -> u64 {
         self.replica.status().executed.0
     }
+}
+
+/// Has a replica take a message that was opened under its configuration, which it keeps.
+fn take(replica: &mut Replica, message: &Checked) -> Result<Row, Halt>
+    requires { message.now.config ≡ replica.old.config }
+    ensures { replica.new.config ≡ replica.old.config }
+{
+    replica.take(message)
 }

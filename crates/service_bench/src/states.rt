@@ -65,9 +65,8 @@ pub(crate) fn with_entries(alloc: Global, count: u32) -> Result<State> {
 
 /// The key with this number in its first four bytes.
 pub(crate) fn key(number: u32) -> [u8; 16] {
-    let mut key = [0; 16];
-    key[..4].copy_from_slice(&number.to_be_bytes());
-    key
+    let [a, b, c, d] = number.to_be_bytes();
+    [a, b, c, d, 0, 0, 0, 0, 0, 0, 0, 0, 0, 0, 0, 0]
 }
 
 /// A map with so many entries.

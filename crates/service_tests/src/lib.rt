@@ -1,20 +1,12 @@
-//! Tests of assembling, decoding, verifying and running code and of the service, over the public calls of their
-//! crates. They stand apart, so that those crates are proved once and not again beside their tests.
+//! Tests of the service, over its public calls. They stand apart, so that its crate is proved once and not again
+//! beside its tests.
 #![tactic(auto)]
 
-#[cfg(test)]
-mod assembling;
-#[cfg(test)]
-mod decoding;
 #[cfg(test)]
 mod generated;
 #[cfg(test)]
 mod largest;
 #[cfg(test)]
-mod running;
-#[cfg(test)]
 mod service;
 #[cfg(test)]
 mod state_bytes;
-#[cfg(test)]
-mod verifying;

@@ -310,24 +310,31 @@ fn each_tenant_has_its_own_procedures(rt: HostRuntime) -> Result<(), Fail> {
     Ok(())
 }
 
+// A key with this number in its first four bytes, and a value of zeros.
+fn entry_of(number: u32) -> [u8; 48] {
+    let number = number.to_be_bytes();
+    let mut entry = [0; 48];
+    for index in 0..4 {
+        entry[index] = number[index];
+    }
+    entry
+}
+
 #[test]
 fn a_map_fills_up(rt: HostRuntime) -> Result<(), Fail> {
     let alloc = rt.alloc();
     let mut state = State::genesis(alloc, config(alloc, &[(100, 1)])?)?;
     let put = install(alloc, PUT)?;
     reply_to(alloc, &mut state, 0, put)?;
-    let mut entry = [0u8; 48];
     for number in 0..4097u32 {
-        entry[..4].copy_from_slice(&number.to_be_bytes());
-        let op = call(alloc, 0, &entry)?;
+        let op = call(alloc, 0, &entry_of(number))?;
         let reply = reply_to(alloc, &mut state, u64::from(number) + 1, op)?;
         let full = if number < 4096 { 0u8 } else { 1 };
         let number = number + 2;
         let wanted = format!(in alloc; "{number} 00000000000000000{full}")?;
         assert!(rt; reply.as_str() == wanted.as_str());
     }
-    entry[..4].copy_from_slice(&[0; 4]);
-    let again = call(alloc, 0, &entry)?;
+    let again = call(alloc, 0, &entry_of(0))?;
     expect(&rt, &mut state, 5000, again, "4099 000000000000000000")?;
     assert!(rt; state.to_bytes()?.len() == 13 + 33 + 4 + 8 + 36 + 4 + 48 * 4096);
     Ok(())

@@ -98,6 +98,16 @@ pub(crate) fn nanoseconds_of_keys(rt: &HostRuntime, count: u8) -> Result<(u128, 
     Ok((taken, signer))
 }
 
+/// A text as long as a vote's, another for each number.
+fn text_of(number: u32) -> [u8; 50] {
+    let number = number.to_be_bytes();
+    let mut text = [7; 50];
+    for index in 0..4 {
+        text[index] = number[index];
+    }
+    text
+}
+
 /// The processor's time of so many signatures, of texts as long as a vote's, in nanoseconds, and the texts
 /// with their signatures.
 pub(crate) fn nanoseconds_of_signing(
@@ -108,8 +118,7 @@ pub(crate) fn nanoseconds_of_signing(
     let mut signed = Vec::with_capacity(rt.alloc(), count as usize)?;
     let start = rt.thread_cpu_time()?;
     for number in 0..count {
-        let mut text = [7; 50];
-        text[..4].copy_from_slice(&number.to_be_bytes());
+        let text = text_of(number);
         let signature = signer.sign(&text)?;
         signed.push((text, signature))?;
     }

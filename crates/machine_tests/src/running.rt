@@ -22,22 +22,27 @@ const GET: [u8; 32] = [
 
 // A key and a value, both with this number in their first four bytes.
 fn arguments(number: u32) -> [u8; 48] {
+    let number = number.to_be_bytes();
     let mut bytes = [0; 48];
-    bytes[..4].copy_from_slice(&number.to_be_bytes());
-    bytes[16..20].copy_from_slice(&number.to_be_bytes());
+    for index in 0..4 {
+        bytes[index] = number[index];
+        bytes[16 + index] = number[index];
+    }
     bytes
 }
 
 // The key and the value with this number in their first four bytes.
 fn key_of(number: u32) -> [u8; 16] {
-    let mut key = [0; 16];
-    key[..4].copy_from_slice(&number.to_be_bytes());
-    key
+    let [a, b, c, d] = number.to_be_bytes();
+    [a, b, c, d, 0, 0, 0, 0, 0, 0, 0, 0, 0, 0, 0, 0]
 }
 
 fn value_of(number: u32) -> [u8; 32] {
+    let number = number.to_be_bytes();
     let mut value = [0; 32];
-    value[..4].copy_from_slice(&number.to_be_bytes());
+    for index in 0..4 {
+        value[index] = number[index];
+    }
     value
 }
 
