@@ -1,2 +1,3 @@
 pub mod Configuration
 pub mod Bits
+pub mod Held

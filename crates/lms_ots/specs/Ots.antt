@@ -53,6 +53,10 @@ chain id leaf i from (suc steps) value =
 abbrev pub hash_of_ends : List ℕ → ℕ → (ℕ → List ℕ) → List ℕ
 hash_of_ends id leaf end_of = tagged_hash id leaf 0x8080 (concatenation end_of 67)
 
+-- I || u32str (q) || u16str (D_MESG) || C: what comes before the message in Q (4.5, step 3)
+abbrev pub message_prefix : List ℕ → ℕ → List ℕ → List ℕ
+message_prefix id leaf c = id ++ u32str leaf ++ u16str 0x8181 ++ c
+
 -- Q: H (I || u32str (q) || u16str (D_MESG) || C || message) (4.5, step 3)
 abbrev pub message_hash : List ℕ → ℕ → List ℕ → List ℕ → List ℕ
 message_hash id leaf c message = tagged_hash id leaf 0x8181 (c ++ message)

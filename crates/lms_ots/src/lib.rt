@@ -10,7 +10,8 @@
 #![tactic(auto)]
 
 ghost use Rattle.std.specs.Prelude.{◌≡◌, ℕ, ◌+◌, ◌-◌, ◌/◌, ◌≤◌, ◌<◌, ◌++◌, List, drop, length, take};
-ghost use Rattle.lms_ots.specs.Ots.{candidate_of, chain, chain_start, checksum, coef, digits_of, message_hash, public_value, randomizer, signature_of};
+ghost use Rattle.lms_ots.specs.Ots.{candidate_of, chain, chain_start, checksum, coef, digits_of, message_hash, message_prefix, public_value, randomizer, randomizer_in, signature_of};
+ghost use Rattle.sha2.specs.Hashers.{Holds256};
 
 use hash::{block_hash, hasher, put, u16str, u32str};
 use sha2::{Digest, Sha256};
@@ -105,20 +106,21 @@ fn randomizer(id: &[u8; 16], leaf: u32, secret: &[u8; 32]) -> [u8; 32]
     block_hash(id, leaf, RANDOMIZER_TAG, SEED_STEP, secret)
 }
 
-// The hash whose digits are signed (RFC 8554, section 4.5), of a message in two parts.
-fn message_hash(
-    id: &[u8; 16],
-    leaf: u32,
-    randomizer: &[u8; 32],
-    head: &[u8],
-    tail: &[u8],
-) -> [u8; 32]
-    ensures { result ≡ message_hash id.now leaf randomizer.now (head.now ++ tail.now) }
+// A hasher that holds what comes before the message in the hash whose digits are signed (RFC 8554, section 4.5).
+fn hasher_with(id: &[u8; 16], leaf: u32, randomizer: &[u8; 32]) -> Sha256
+    ensures { Holds256 result (message_prefix id.now leaf randomizer.now) }
 {
     let mut hasher = hasher(id, leaf, MESSAGE_TAG);
     hasher.update(randomizer);
-    hasher.update(head);
-    hasher.update(tail);
+    hasher
+}
+
+// The hash whose digits are signed (RFC 8554, section 4.5).
+fn message_hash(id: &[u8; 16], leaf: u32, randomizer: &[u8; 32], message: &[u8]) -> [u8; 32]
+    ensures { result ≡ message_hash id.now leaf randomizer.now message.now }
+{
+    let mut hasher = hasher_with(id, leaf, randomizer);
+    hasher.update(message);
     hasher.finalize()
 }
 
@@ -141,7 +143,7 @@ pub fn ots_sign(id: &[u8; 16], leaf: u32, secret: &[u8; 32], message: &[u8]) -> 
     ensures { result ≡ signature_of id.now leaf secret.now message.now }
 {
     let randomizer = randomizer(id, leaf, secret);
-    let digits = digits(&message_hash(id, leaf, &randomizer, &[], message));
+    let digits = digits(&message_hash(id, leaf, &randomizer, message));
     let mut signature = [0u8; 2180];
     put(&mut signature, 0, &u32str(TYPECODE));
     put(&mut signature, 4, &randomizer);
@@ -153,27 +155,36 @@ pub fn ots_sign(id: &[u8; 16], leaf: u32, secret: &[u8; 32], message: &[u8]) -> 
     signature
 }
 
+/// A hasher for the message of a signature: it holds what comes before the message, which is fed to it, in
+/// pieces as they come. What it ends with is the message's hash for `ots_candidate_of_hash`.
+pub fn message_hasher(id: &[u8; 16], leaf: u32, signature: &[u8; 2180]) -> Sha256
+    ensures { Holds256 result (message_prefix id.now leaf (randomizer_in signature.now)) }
+{
+    hasher_with(id, leaf, &hash_at(signature, 4))
+}
+
 /// The public value that a signature of `message` leads to (RFC 8554, section 4.6): the signature is
 /// valid where that is the leaf's. All 2,180 bytes are taken as they are, and the typecode in the
 /// first four is the caller's to check.
 pub fn ots_candidate(id: &[u8; 16], leaf: u32, message: &[u8], signature: &[u8; 2180]) -> [u8; 32]
     ensures { result ≡ candidate_of id.now leaf message.now signature.now }
 {
-    ots_candidate_of_two(id, leaf, &[], message, signature)
+    let mut hasher = message_hasher(id, leaf, signature);
+    hasher.update(message);
+    ots_candidate_of_hash(id, leaf, &hasher.finalize(), signature)
 }
 
-/// As `ots_candidate`, of a message in two parts, which need not be copied together.
-pub fn ots_candidate_of_two(
+/// As `ots_candidate`, of the message whose hash is `q`.
+pub fn ots_candidate_of_hash(
     id: &[u8; 16],
     leaf: u32,
-    head: &[u8],
-    tail: &[u8],
+    q: &[u8; 32],
     signature: &[u8; 2180],
 ) -> [u8; 32]
-    ensures { result ≡ candidate_of id.now leaf (head.now ++ tail.now) signature.now }
+    ensures { (message : List ℕ) → q.now ≡ message_hash id.now leaf (randomizer_in signature.now) message →
+        result ≡ candidate_of id.now leaf message signature.now }
 {
-    let randomizer = hash_at(signature, 4);
-    let digits = digits(&message_hash(id, leaf, &randomizer, head, tail));
+    let digits = digits(q);
     let mut hasher = hasher(id, leaf, PUBLIC_TAG);
     'chains: for i in 0..CHAIN_COUNT {
         let value = hash_at(signature, 36 + 32 * i);

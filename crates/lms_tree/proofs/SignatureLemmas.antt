@@ -1,5 +1,5 @@
 -- A tree's signature is valid under its public key.
-use Rattle.std.proofs.Common.{◌≡◌, ℕ, ◌+◌, ◌-◌, ◌*◌, ◌/◌, ◌^◌, ◌<◌, ◌≤◌, List, [], ◌∷◌, ◌++◌, length, get_or, take, drop, Some, None, true, nat_eq, nat_le, ◌&&◌, refl, sym, ◌∙◌, ap, arith, length-append}
+use Rattle.std.proofs.Common.{◌≡◌, ℕ, ◌+◌, ◌-◌, ◌*◌, ◌/◌, ◌^◌, ◌<◌, ◌≤◌, List, [], ◌∷◌, ◌++◌, length, get_or, take, drop, Option, Some, None, Bool, true, nat_eq, nat_le, ◌&&◌, if◌then◌else◌, refl, sym, ◌∙◌, ap, arith, length-append}
 use Rattle.std.specs.Int.{w32, from_be_bytes}
 use Rattle.std.specs.Str.{bytes_eq}
 use Rattle.std.proofs.lemmas.Bool.{and_from, cond-false, cond-true, eq-eqb, lt-leb}
@@ -10,6 +10,8 @@ use Rattle.lms_ots.specs.Ots.{candidate_of, chain_start, digit, concatenation, m
 use Rattle.lms_ots.proofs.Chains.{length-chain, length-tagged_hash, length-u32str}
 use Rattle.lms_ots.proofs.Concatenation.{length-concatenation, piece-concatenation}
 use Rattle.lms_ots.proofs.Law.{candidate-signature}
+use Rattle.lms_tree.specs.declared.fault.SigFault.{SigFault}
+use Rattle.lms_tree.specs.declared.fault.SigFault.TheVariants.{Mismatch}
 use Rattle.lms_tree.specs.declared.height.Height.{Height}
 use Rattle.lms_tree.specs.declared.height.Height.TheVariants.{H5, H10}
 use Rattle.lms_tree.specs.Signature.{candidate_root, fault_under, height_of_typecode, key_height, key_id, key_root, levels_of, ots_in, path_in, public_key_of, signature_at, signature_fault, typecode_of, word_at}
@@ -138,16 +140,25 @@ root-signature h id secret message leaf path small each =
 bytes_same : (xs ys : List ℕ) → xs ≡ ys → bytes_eq xs ys ≡ true
 bytes_same xs ys e = (bytes_eq-Decides xs ys).1 e
 
+-- the fault of a signature whose other parts are right is that of its root
+pub root_fault : (height : Height) (key message sig root : List ℕ) (same : Bool) → key_height key ≡ Some height
+    → length sig ≡ 2188 + 32 * levels_of height → word_at sig 4 ≡ 3 → word_at sig 2184 ≡ typecode_of height → word_at sig 0 < 2 ^ levels_of height
+    → root ≡ candidate_root (levels_of height) (key_id key) message sig → same ≡ bytes_eq root (key_root key)
+    → signature_fault key message sig ≡ (if same then None else Some Mismatch)
+root_fault height key message sig root same known long ots type leaf is_root is_same =
+    let fault : Bool → Option SigFault = λ b. if b then None else Some Mismatch in
+    ap (λ o. fault_under o key message sig) known
+    ∙ (cond-true (nat_eq (length sig) (2188 + 32 * levels_of height)) _ _ (eq-eqb _ _ long)
+    ∙ (cond-true (nat_eq (word_at sig 4) 3 && nat_eq (word_at sig 2184) (typecode_of height)) _ _ (and_from _ _ (eq-eqb _ _ ots) (eq-eqb _ _ type))
+    ∙ (cond-false (nat_le (2 ^ levels_of height) (word_at sig 0)) _ _ (lt-leb _ _ leaf)
+    ∙ (ap (λ r. fault (bytes_eq r (key_root key))) (sym is_root) ∙ ap fault (sym is_same)))))
+
 -- a signature whose parts are right has no fault
 no_fault : (height : Height) (key message sig : List ℕ) → key_height key ≡ Some height → length sig ≡ 2188 + 32 * levels_of height
     → word_at sig 4 ≡ 3 → word_at sig 2184 ≡ typecode_of height → word_at sig 0 < 2 ^ levels_of height
     → candidate_root (levels_of height) (key_id key) message sig ≡ key_root key → signature_fault key message sig ≡ None
 no_fault height key message sig known long ots type leaf root =
-    ap (λ o. fault_under o key message sig) known
-    ∙ (cond-true (nat_eq (length sig) (2188 + 32 * levels_of height)) _ _ (eq-eqb _ _ long)
-    ∙ (cond-true (nat_eq (word_at sig 4) 3 && nat_eq (word_at sig 2184) (typecode_of height)) _ _ (and_from _ _ (eq-eqb _ _ ots) (eq-eqb _ _ type))
-    ∙ (cond-false (nat_le (2 ^ levels_of height) (word_at sig 0)) _ _ (lt-leb _ _ leaf)
-    ∙ cond-true (bytes_eq (candidate_root (levels_of height) (key_id key) message sig) (key_root key)) _ _ (bytes_same _ _ root))))
+    root_fault height key message sig _ true known long ots type leaf refl (sym (bytes_same _ _ root))
 
 -- the leaf that a signature names
 pub word-signature : (height : Height) (id secret message : List ℕ) (leaf : ℕ) → leaf < 2 ^ levels_of height

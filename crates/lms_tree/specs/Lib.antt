@@ -4,3 +4,4 @@ pub mod Tree
 pub mod Signature
 pub mod SigningState
 pub mod Keys
+pub mod Verifying

@@ -12,7 +12,7 @@
 pub use fault::{SigFault, SignFault};
 pub use height::Height;
 pub use signer::Signer;
-pub use validity::{verify, verify_two};
+pub use validity::{Verifier, verify};
 
 mod buffer;
 mod fault;

@@ -1,13 +1,15 @@
 //! Validity of signatures (RFC 8554, section 5.4.2).
 
-ghost use Rattle.std.specs.Prelude.{◌≡◌, ◌+◌, ◌*◌, ◌^◌, ◌<◌, ◌≤◌, ◌++◌, length, take, drop, Some, None, MatchResult};
+ghost use Rattle.std.specs.Prelude.{◌≡◌, ℕ, ◌+◌, ◌*◌, ◌^◌, ◌<◌, ◌≤◌, List, length, take, drop, Some, None, MatchResult};
 ghost use Rattle.std.specs.Str.{bytes_eq};
-ghost use Rattle.lms_tree.specs.Signature.{candidate_root, key_height, key_root, levels_of, signature_fault, word_at};
+ghost use Rattle.lms_tree.specs.Signature.{candidate_root, key_height, key_root, levels_of, ots_typecode, signature_fault, typecode_of, word_at};
+ghost use Rattle.lms_tree.specs.Verifying.{IsHashOf};
 
 use crate::fault::SigFault;
 use crate::height::Height;
 use crate::nodes::{leaf_node, parent};
-use lms_ots::ots_candidate_of_two;
+use lms_ots::{message_hasher, ots_candidate_of_hash};
+use sha2::{Digest, Sha256};
 
 /// The typecode LMOTS_SHA256_N32_W4 of RFC 8554, section 4.1.
 const OTS_TYPECODE: u32 = 3;
@@ -48,16 +50,17 @@ fn key_height(key: &[u8; 56]) -> Option<Height>
     }
 }
 
-// The root that a signature of a message in two parts leads to.
-fn candidate_root(height: Height, id: &[u8; 16], head: &[u8], tail: &[u8], sig: &[u8]) -> [u8; 32]
+// The root that a signature leads to, of the message whose hash is `q`.
+fn candidate_root(height: Height, id: &[u8; 16], q: &[u8; 32], sig: &[u8]) -> [u8; 32]
     requires long { length sig.now ≡ 2188 + 32 * levels_of height }
     requires leaf { word_at sig.now 0 < 2 ^ levels_of height }
-    ensures { result ≡ candidate_root (levels_of height) id.now (head.now ++ tail.now) sig.now }
+    ensures { (message : List ℕ) → IsHashOf q.now id.now sig.now message →
+        result ≡ candidate_root (levels_of height) id.now message sig.now }
 {
     let leaf = word_at(sig, 0);
     let ots: [u8; 2180] = bytes_at(sig, 4);
     let first = height.leaf_count() + leaf;
-    let mut value = leaf_node(id, first, &ots_candidate_of_two(id, leaf, head, tail, &ots));
+    let mut value = leaf_node(id, first, &ots_candidate_of_hash(id, leaf, q, &ots));
     'path: for i in 0..height.levels() {
         let sibling_node: [u8; 32] = bytes_at(sig, PATH_OFFSET + 32 * i);
         value = parent(id, first >> i, &value, &sibling_node);
@@ -73,6 +76,81 @@ fn is_root(key: &[u8; 56], root: &[u8; 32]) -> bool
     root.as_slice() == own.as_slice()
 }
 
+/// The verification of a signature whose body is fed to it in pieces, as they come, so that they need not be
+/// copied together: `Verifier::new(&key, &sig)?`, `update` with each piece, `finish`. It takes no memory.
+#[derive(Drop)]
+pub struct Verifier<'a> {
+    key: &'a [u8; 56],
+    sig: &'a [u8],
+    height: Height,
+    hasher: Sha256,
+    ghost of_key: { key_height key.now ≡ Some height },
+    ghost long: { length sig.now ≡ 2188 + 32 * levels_of height },
+    ghost ots_type: { word_at sig.now 4 ≡ ots_typecode },
+    ghost type_of_tree: { word_at sig.now 2184 ≡ typecode_of height },
+    ghost leaf: { word_at sig.now 0 < 2 ^ levels_of height },
+}
+
+impl<'a> Verifier<'a> {
+    ghost use Rattle.std.specs.Prelude.{◌≡◌, ◌++◌, List, ℕ, [], None, Some, MatchResult};
+    ghost use Rattle.lms_tree.specs.Signature.{signature_fault};
+    ghost use Rattle.lms_tree.specs.Verifying.{Holds};
+
+    /// The verification of a signature under a public key, before the first byte of the body. Each fault but
+    /// `Mismatch` is found here, in the order that `verify` has, whatever the body.
+    pub fn new(key: &'a [u8; 56], sig: &'a [u8]) -> Result<Verifier<'a>, SigFault>
+        ensures { MatchResult result
+            (λ v. (v.key.now ≡ key.now) × (v.sig.now ≡ sig.now) × Holds v.hasher key.now sig.now [])
+            (λ fault. (body : List ℕ) → signature_fault key.now body sig.now ≡ Some fault) }
+    {
+        let Some(height) = key_height(key) else {
+            return Err(SigFault::WrongType);
+        };
+        if sig.len() != height.signature_len() {
+            return Err(SigFault::Length);
+        }
+        if word_at(sig, 4) != OTS_TYPECODE || word_at(sig, TYPECODE_OFFSET) != height.typecode() {
+            return Err(SigFault::WrongType);
+        }
+        let leaf = word_at(sig, 0);
+        if leaf >= height.leaf_count() {
+            return Err(SigFault::Leaf);
+        }
+        let hasher = message_hasher(&bytes_at(key, 8), leaf, &bytes_at(sig, 4));
+        Ok(Verifier {
+            key,
+            sig,
+            height,
+            hasher,
+        })
+    }
+
+    /// Takes the next bytes of the body.
+    pub fn update(&mut self, piece: &[u8])
+        ensures same { (self.new.key.now ≡ self.old.key.now) × (self.new.sig.now ≡ self.old.sig.now) }
+        ensures taken { (key sig body : List ℕ) → Holds self.old.hasher key sig body →
+            Holds self.new.hasher key sig (body ++ piece.now) }
+    {
+        self.hasher.update(piece);
+    }
+
+    /// Whether the signature is valid, of the body that was fed: else the fault is `Mismatch`.
+    pub fn finish(self) -> Result<(), SigFault>
+        ensures { (body : List ℕ) → Holds self.entry.hasher self.entry.key.now self.entry.sig.now body →
+            MatchResult result (λ _. signature_fault self.entry.key.now body self.entry.sig.now ≡ None)
+            (λ fault. signature_fault self.entry.key.now body self.entry.sig.now ≡ Some fault) }
+    {
+        let (key, sig) = (self.key, self.sig);
+        let q = self.hasher.finalize();
+        let root = candidate_root(self.height, &bytes_at(key, 8), &q, sig);
+        if is_root(key, &root) {
+            Ok(())
+        } else {
+            Err(SigFault::Mismatch)
+        }
+    }
+}
+
 /// Whether `sig` is a valid signature of `body` under the public key `key` (RFC 8554, section 5.4.2):
 /// the typecode and the one-time typecode, the identifier and the root. The faults come in this
 /// order: `WrongType` for a key of unknown types, `Length` for a signature that has not the length of
@@ -82,30 +160,7 @@ pub fn verify(key: &[u8; 56], body: &[u8], sig: &[u8]) -> Result<(), SigFault>
     ensures { MatchResult result (λ _. signature_fault key.now body.now sig.now ≡ None)
         (λ fault. signature_fault key.now body.now sig.now ≡ Some fault) }
 {
-    verify_two(key, &[], body, sig)
-}
-
-/// As `verify`, of a body in two parts, which need not be copied together.
-pub fn verify_two(key: &[u8; 56], head: &[u8], tail: &[u8], sig: &[u8]) -> Result<(), SigFault>
-    ensures { MatchResult result (λ _. signature_fault key.now (head.now ++ tail.now) sig.now ≡ None)
-        (λ fault. signature_fault key.now (head.now ++ tail.now) sig.now ≡ Some fault) }
-{
-    let Some(height) = key_height(key) else {
-        return Err(SigFault::WrongType);
-    };
-    if sig.len() != height.signature_len() {
-        return Err(SigFault::Length);
-    }
-    if word_at(sig, 4) != OTS_TYPECODE || word_at(sig, TYPECODE_OFFSET) != height.typecode() {
-        return Err(SigFault::WrongType);
-    }
-    if word_at(sig, 0) >= height.leaf_count() {
-        return Err(SigFault::Leaf);
-    }
-    let root = candidate_root(height, &bytes_at(key, 8), head, tail, sig);
-    if is_root(key, &root) {
-        Ok(())
-    } else {
-        Err(SigFault::Mismatch)
-    }
+    let mut verifier = Verifier::new(key, sig)?;
+    verifier.update(body);
+    verifier.finish()
 }

@@ -22,7 +22,7 @@ pub behind : (m : Signed Body) → drop 4 (drop 5 (encoding m)) ≡ body m.body 
 unfolding signed length_prefixed
 behind m = refl
 
-take_front : (a b : List ℕ) (n : ℕ) → n ≡ length a → take n (a ++ b) ≡ a
+pub take_front : (a b : List ℕ) (n : ℕ) → n ≡ length a → take n (a ++ b) ≡ a
 take_front a b n e = take-append-le n a b (omega arith) ∙ ap (λ (k : ℕ). take k a) e ∙ take-length a
 
 pub said : (m : Signed Body) (bytes rest : List ℕ) (n : ℕ) → bytes ≡ encoding m → rest ≡ drop 4 (drop 5 bytes) → n ≡ length rest - (4 + length m.sig) → take n rest ≡ body m.body

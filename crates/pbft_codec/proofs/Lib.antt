@@ -7,3 +7,4 @@ pub mod BodyLaws
 pub mod MessageLaws
 pub mod LengthLaws
 pub mod EncodingLaws
+pub mod SnapshotLaws

@@ -144,19 +144,19 @@ form_body = record { takes = body_takes; again = body_again; short = body_short 
 
 -- ---- messages
 
-abbrev MessageReadable : Signed Body → Type 0
+abbrev pub MessageReadable : Signed Body → Type 0
 MessageReadable m = (0 ≤ m.id) × SignedWidths body BodyReadable m
 
 form_message : IsForm (signed_at body_at 0) encoding MessageReadable
 form_message = form_signed body_at body BodyReadable 0 form_body
 
-fits_from : (m : Signed Body) → MessageReadable m → WellFormed m
+pub fits_from : (m : Signed Body) → MessageReadable m → WellFormed m
 fits_from m fits = record {
   well_formed = fits.1.body_in_range.0;
   fields_in_range = record { id_in_range = fits.1.id_in_range; body_in_range = narrow_body m.body fits.1.body_in_range.1 };
 }
 
-fits_for : (m : Signed Body) → WellFormed m → length (encoding m) ≤ max_bytes → MessageReadable m
+pub fits_for : (m : Signed Body) → WellFormed m → length (encoding m) ≤ max_bytes → MessageReadable m
 fits_for m fits le =
     let widths = widen_message m fits.fields_in_range le in
     (omega arith, record { id_in_range = widths.id_in_range; body_in_range = (fits.well_formed, widths.body_in_range); body_length_in_range = widths.body_length_in_range; sig_length_in_range = widths.sig_length_in_range })

@@ -7,3 +7,4 @@ pub mod Bodies
 pub mod Encoding
 pub mod WellFormed
 pub mod Reading
+pub mod Snapshots

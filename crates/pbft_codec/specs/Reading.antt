@@ -51,6 +51,11 @@ abbrev pub Fails : {Y : Type 0} → ReadError → Result Y CodecFault → Type 0
 Fails errors.Memory read = Unit {0}
 Fails (errors.Fault f) read = read ≡ Err f
 
+-- A fault of the bytes: what takes no memory fails with no other.
+abbrev pub IsFault : ReadError → Type 0
+IsFault errors.Memory = ⊥
+IsFault (errors.Fault f) = Unit {0}
+
 abbrev pub Gives : {X Y : Type 0} → (X → Y) → Result X ReadError → Result Y CodecFault → Type 0
 Gives view (Ok x) read = read ≡ Ok (view x)
 Gives view (Err e) read = Fails e read

@@ -1,8 +1,8 @@
 //! Reading fields: each gives its value and the bytes behind it, or the first fault.
 
-ghost use Rattle.std.specs.Prelude.{List, length};
+ghost use Rattle.std.specs.Prelude.{List, length, IfErr};
 ghost use Rattle.std.specs.Int.{w32, w64};
-ghost use Rattle.pbft_codec.specs.Reading.{Gives, number_at, view_at, client_at, sequence_number_at, digest_at, length_prefixed_at, count_at, role_at, id_at};
+ghost use Rattle.pbft_codec.specs.Reading.{Gives, IsFault, number_at, view_at, client_at, sequence_number_at, digest_at, length_prefixed_at, count_at, role_at, id_at};
 
 use crate::fault::{CodecFault, ReadError};
 use crate::signed::Role;
@@ -13,7 +13,8 @@ use std::alloc::Global;
 const SEQUENCE_NUMBER_LIMIT: u64 = 1 << 48;
 
 pub fn read_u32(bytes: &[u8]) -> Result<(u32, &[u8]), ReadError>
-    ensures { Gives (λ x. (x.0, x.1.now)) result (number_at w32 bytes.now) }
+    ensures read { Gives (λ x. (x.0, x.1.now)) result (number_at w32 bytes.now) }
+    ensures fault { IfErr result IsFault }
 {
     if bytes.len() < 4 {
         return Err(ReadError::Fault(CodecFault::Truncated));
@@ -24,7 +25,8 @@ pub fn read_u32(bytes: &[u8]) -> Result<(u32, &[u8]), ReadError>
 }
 
 pub fn read_u64(bytes: &[u8]) -> Result<(u64, &[u8]), ReadError>
-    ensures { Gives (λ x. (x.0, x.1.now)) result (number_at w64 bytes.now) }
+    ensures read { Gives (λ x. (x.0, x.1.now)) result (number_at w64 bytes.now) }
+    ensures fault { IfErr result IsFault }
 {
     if bytes.len() < 8 {
         return Err(ReadError::Fault(CodecFault::Truncated));
@@ -54,7 +56,8 @@ pub fn read_client(bytes: &[u8]) -> Result<(ClientId, &[u8]), ReadError>
 
 #[tactic(auto, unfolding(crate::specs::Reading::sequence_number_at))]
 pub fn read_sequence_number(bytes: &[u8]) -> Result<(SeqNo, &[u8]), ReadError>
-    ensures { Gives (λ x. (x.0, x.1.now)) result (sequence_number_at bytes.now) }
+    ensures read { Gives (λ x. (x.0, x.1.now)) result (sequence_number_at bytes.now) }
+    ensures fault { IfErr result IsFault }
 {
     let (number, rest) = read_u64(bytes)?;
     if number >= SEQUENCE_NUMBER_LIMIT {
@@ -79,7 +82,8 @@ pub fn read_digest(bytes: &[u8]) -> Result<(Digest, &[u8]), ReadError>
 /// A length and so many bytes, which are not copied.
 #[tactic(auto, unfolding(crate::specs::Reading::length_prefixed_at))]
 pub fn read_length_prefixed(bytes: &[u8]) -> Result<(&[u8], &[u8]), ReadError>
-    ensures { Gives (λ x. (x.0.now, x.1.now)) result (length_prefixed_at bytes.now) }
+    ensures read { Gives (λ x. (x.0.now, x.1.now)) result (length_prefixed_at bytes.now) }
+    ensures fault { IfErr result IsFault }
 {
     let (length, rest) = read_u32(bytes)?;
     let length = length as usize;
@@ -113,7 +117,8 @@ pub fn read_count(max: u32, bytes: &[u8]) -> Result<(u32, &[u8]), ReadError>
 
 #[tactic(auto, unfolding(crate::specs::Reading::role_at))]
 pub fn read_role(bytes: &[u8]) -> Result<(Role, &[u8]), ReadError>
-    ensures { Gives (λ x. (x.0, x.1.now)) result (role_at bytes.now) }
+    ensures read { Gives (λ x. (x.0, x.1.now)) result (role_at bytes.now) }
+    ensures fault { IfErr result IsFault }
 {
     match bytes {
         [] => Err(ReadError::Fault(CodecFault::Truncated)),
@@ -126,7 +131,8 @@ pub fn read_role(bytes: &[u8]) -> Result<(Role, &[u8]), ReadError>
 /// An id, at least this one.
 #[tactic(auto, unfolding(crate::specs::Reading::id_at))]
 pub fn read_id(low: u64, bytes: &[u8]) -> Result<(u32, &[u8]), ReadError>
-    ensures { Gives (λ x. (x.0, x.1.now)) result (id_at low bytes.now) }
+    ensures read { Gives (λ x. (x.0, x.1.now)) result (id_at low bytes.now) }
+    ensures fault { IfErr result IsFault }
 {
     let (id, rest) = read_u32(bytes)?;
     if (id as u64) < low {

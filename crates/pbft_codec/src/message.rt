@@ -1,6 +1,6 @@
 //! Whole messages: encoding, decoding and what is signed.
 
-ghost use Rattle.std.specs.Prelude.{◌≡◌, ◌≤◌, ◌<◌, ◌++◌, ◌⊎◌, List, ℕ, length, Ok, Err, OnOk, IfOk, IfErr, IsOkUnless};
+ghost use Rattle.std.specs.Prelude.{◌≡◌, ◌≤◌, ◌<◌, ◌+◌, ◌++◌, ◌⊎◌, List, ℕ, length, Ok, Err, OnOk, IfOk, IfErr, IsOkUnless};
 ghost use Rattle.pbft_codec.specs.declared.body.Body.{Body};
 ghost use Rattle.pbft_codec.specs.declared.fault.CodecFault.TheVariants.{Truncated, Trailing, TooLong, Memory};
 ghost use Rattle.pbft_codec.specs.declared.signed.Signed.{Signed};
@@ -19,7 +19,7 @@ use crate::writing::{put_role, put_u32};
 use std::alloc::{AllocError, Global};
 
 /// The most bytes of a message.
-const MAX_BYTES: usize = 8_388_608;
+pub const MAX_BYTES: usize = 8_388_608;
 
 /// The message that all of the bytes encode.
 #[tactic(auto, unfolding(crate::specs::Reading::reading))]
@@ -104,9 +104,17 @@ pub fn signed_parts<'a>(message: &Signed, bytes: &'a [u8]) -> (&'a [u8], &'a [u8
     requires { bytes.now ≡ encoding message.now }
     ensures { result.0.now ++ result.1.now ≡ signed_text message.now }
 {
+    parts_signed(bytes, message.sig.as_slice().len())
+}
+
+/// The same by the length of the signature alone.
+pub(crate) fn parts_signed(bytes: &[u8], sig_length: usize) -> (&[u8], &[u8])
+    requires { 13 + sig_length ≤ length bytes.now }
+    ensures { (m : Signed Body) → bytes.now ≡ encoding m → length m.sig ≡ sig_length → result.0.now ++ result.1.now ≡ signed_text m }
+{
     let (signer, rest) = bytes.split_at(5);
     let (_, rest) = rest.split_at(4);
-    let behind = 4 + message.sig.as_slice().len();
+    let behind = 4 + sig_length;
     let (body, _) = rest.split_at(rest.len() - behind);
     (signer, body)
 }

@@ -1,12 +1,12 @@
 //! What each kind of body has: the byte of its kind, its sender, and how its fields are read and written.
 
-ghost use Rattle.std.specs.Prelude.{◌≡◌, List, ℕ, ◌++◌, Result, OnOk};
+ghost use Rattle.std.specs.Prelude.{◌≡◌, List, ℕ, ◌++◌, Result, OnOk, IfErr};
 ghost use Rattle.pbft_codec.specs.declared.body.Body.{Body};
 ghost use Rattle.pbft_codec.specs.declared.fault.CodecFault.{CodecFault};
 ghost use Rattle.pbft_codec.specs.declared.kind.Kind.{Kind};
 ghost use Rattle.pbft_codec.specs.declared.sender.Sender.{Sender};
 ghost use Rattle.pbft_codec.specs.Layouts.{of_kind};
-ghost use Rattle.pbft_codec.specs.Reading.{Gives, behind, kind_at, map};
+ghost use Rattle.pbft_codec.specs.Reading.{Gives, IsFault, behind, kind_at, map};
 
 use crate::body::Body;
 use crate::fault::{CodecFault, ReadError};
@@ -57,8 +57,9 @@ pub trait MessageBody: TryClone {
 
 /// The bytes behind the byte of this kind.
 #[tactic(auto, unfolding(crate::specs::Reading::behind))]
-fn read_kind(kind: Kind, bytes: &[u8]) -> Result<&[u8], ReadError>
-    ensures { Gives (λ x. x.now) result (behind kind bytes.now) }
+pub fn read_kind(kind: Kind, bytes: &[u8]) -> Result<&[u8], ReadError>
+    ensures read { Gives (λ x. x.now) result (behind kind bytes.now) }
+    ensures fault { IfErr result IsFault }
 {
     match bytes {
         [] => Err(ReadError::Fault(CodecFault::Truncated)),

@@ -9,7 +9,11 @@ use Rattle.lms_tree.specs.declared.fault.SigFault.{SigFault}
 use Rattle.pbft_codec.specs.declared.body.Body.{Body}
 use Rattle.pbft_codec.specs.declared.signed.Signed.{Signed}
 use Rattle.seal.specs.declared.fault.SealFault.{SealFault}
-use Rattle.seal.specs.declared.fault.SealFault.TheVariants.{BadSignature, WrongRole, Memory}
+use Rattle.seal.specs.declared.fault.SealFault.TheVariants.{UnknownSigner, BadSignature, WrongRole, Memory}
+use Rattle.seal.specs.declared.verify_parts.Claim.{Claim}
+use Rattle.pbft_codec.specs.Encoding.{signed_text}
+use Rattle.lms_tree.specs.Signature.{signature_fault}
+use Rattle.seal.specs.Claims.{IsClaimOf, MayHaveSigned}
 use Rattle.seal.specs.Signers.{IsAuthentic, key_of, may_sign, fault_under, own_fault, or_later, first_fault}
 
 -- ---- lists
@@ -42,6 +46,32 @@ faultless_is_authentic c m e = under_key c m (key_of c m.role m.id) refl e
 pub authentic_is_faultless : (c : Configuration) (m : Signed Body) → IsAuthentic c m → own_fault c m ≡ None
 unfolding own_fault
 authentic_is_faultless c m s = rw (s.listed, s.role, s.signature) refl
+
+-- ---- what is verified of a message itself
+
+pub unlisted : (c : Configuration) (claim : Claim) (m : Signed Body) → IsClaimOf claim m → key_of c claim.role claim.id ≡ None → own_fault c m ≡ Some UnknownSigner
+unfolding own_fault
+unlisted c claim m is none =
+    let key : key_of c m.role m.id ≡ None = rw (is.role, is.id) none in
+    rw key refl
+
+pub out_of_role : (c : Configuration) (claim : Claim) (m : Signed Body) (key : List ℕ) → IsClaimOf claim m → key_of c claim.role claim.id ≡ Some key → may_sign c claim.role claim.id m.body ≡ false → own_fault c m ≡ Some WrongRole
+unfolding own_fault
+out_of_role c claim m key is listed wrong =
+    let known : key_of c m.role m.id ≡ Some key = rw (is.role, is.id) listed in
+    let role : may_sign c m.role m.id m.body ≡ false = rw (is.role, is.id) wrong in
+    rw (known, role) refl
+
+pub may_have_signed : (c : Configuration) (claim : Claim) (m : Signed Body) (key : List ℕ) → IsClaimOf claim m → key_of c claim.role claim.id ≡ Some key → may_sign c claim.role claim.id m.body ≡ true → MayHaveSigned c m key
+may_have_signed c claim m key is listed right = record { listed = rw (is.role, is.id) listed; role = rw (is.role, is.id) right }
+
+pub own_fault_by_key : (c : Configuration) (m : Signed Body) (key text sig : List ℕ) (found : Option SigFault) → MayHaveSigned c m key → m.sig ≡ sig → text ≡ signed_text m → signature_fault key text sig ≡ found → own_fault c m ≡ cond (is_some found) (Some BadSignature) None
+unfolding own_fault
+own_fault_by_key c m key text sig found may of_sig said e =
+    let known = may.listed in
+    let role = may.role in
+    let fault : signature_fault key (signed_text m) m.sig ≡ found = rw (of_sig, ← said) e in
+    rw (known, role, fault) refl
 
 -- ---- several
 
@@ -88,6 +118,14 @@ first_is_it c m ms f (inr e) = inr (rw e refl)
 pub first_is_not : (c : Configuration) (m : Signed Body) (ms : List (Signed Body)) → own_fault c m ≡ None → first_fault c (m ∷ ms) ≡ first_fault c ms
 unfolding first_fault
 first_is_not c m ms e = rw e refl
+
+or_none_later : (o : Option SealFault) → or_later o None ≡ o
+or_none_later None = refl
+or_none_later (Some f) = refl
+
+pub first_alone : (c : Configuration) (m : Signed Body) → first_fault c (m ∷ []) ≡ own_fault c m
+unfolding first_fault
+first_alone c m = or_none_later (own_fault c m)
 
 pub none_left : (c : Configuration) (ms : List (Signed Body)) (i : ℕ) → length ms ≤ i → first_fault c ms ≡ first_fault c (drop i ms) → first_fault c ms ≡ None
 unfolding first_fault

@@ -4,3 +4,4 @@ pub mod Opening
 pub mod Faults
 pub mod Votes
 pub mod Lists
+pub mod Claims

@@ -14,6 +14,7 @@ mod nested_messages;
 mod opening;
 mod part;
 mod sealing;
+mod signature;
 mod verify_parts;
 mod vote;
 

@@ -6,6 +6,7 @@ ghost use Rattle.pbft_codec.specs.declared.body.Body.{Body};
 ghost use Rattle.pbft_codec.specs.declared.signed.Signed.{Signed};
 ghost use Rattle.pbft_codec.specs.WellFormed.{Encodes};
 ghost use Rattle.pbft_codec.specs.Encoding.{signed_text};
+ghost use Rattle.pbft_codec.specs.Snapshots.{message_in};
 ghost use Rattle.sha2.specs.Sha256.{sha256};
 ghost use Rattle.seal.specs.Faults.{IsProper};
 ghost use Rattle.seal.specs.Opening.{CanNest, IsUnlessMemory, opening};
@@ -17,9 +18,9 @@ use crate::checked_list::CheckedList;
 use crate::fault::SealFault;
 use crate::nested_messages::{checkpoints, children, descendants, pre_prepares};
 use crate::part::Part;
-use crate::verify_parts::verify_message;
+use crate::verify_parts::{copy_verified, verify_message};
 use host_types::{Bytes, Config, Digest};
-use pbft_codec::{Signed, TryClone, decode, signed_parts};
+use pbft_codec::{Signed, SignedSnapshot, TryClone, decode, signed_parts, snapshot_in};
 use sha2::{Digest as _, Sha256};
 use std::alloc::{AllocError, Global};
 use std::sync::Arc;
@@ -45,6 +46,40 @@ pub fn open(alloc: Global, config: &Arc<Config>, bytes: &[u8]) -> Result<Checked
 }
 
 fn opened(alloc: Global, config: &Arc<Config>, bytes: &[u8]) -> Result<Checked, SealFault>
+    ensures found { IfOk result (λ c. Encodes bytes.now c.message × (c.config ≡ config.now.value)
+        × AllByRecursion (IsAuthentic config.now.value) (messages_in c.message)) }
+    ensures exact { IsUnlessMemory result (opening config.now.value bytes.now) }
+    ensures proper { IfErr result IsProper }
+{
+    match snapshot_in(bytes) {
+        Some(snapshot) => open_snapshot(alloc, config, &snapshot, bytes),
+        None => open_message(alloc, config, bytes),
+    }
+}
+
+/// Opens the bytes of a Snapshot. They are copied once, while they are verified: the `Checked` holds the copy,
+/// and the state is a part of it.
+fn open_snapshot(
+    alloc: Global,
+    config: &Arc<Config>,
+    snapshot: &SignedSnapshot<'_>,
+    bytes: &[u8],
+) -> Result<Checked, SealFault>
+    requires { Encodes bytes.now (message_in snapshot.now) }
+    ensures found { IfOk result (λ c. Encodes bytes.now c.message × (c.config ≡ config.now.value)
+        × AllByRecursion (IsAuthentic config.now.value) (messages_in c.message)) }
+    ensures exact { IsUnlessMemory result (opening config.now.value bytes.now) }
+    ensures proper { IfErr result IsProper }
+{
+    let copy = copy_verified(alloc, config, snapshot, bytes)?;
+    let buffer = Arc::new(alloc, copy)?;
+    let message = snapshot.message(alloc, &buffer)?;
+    let whole = Bytes::part(&buffer, 0, bytes.len())?;
+    Ok(Checked::new(alloc, config, message, whole)?)
+}
+
+/// Opens the bytes of any message. Those of what opens are copied for the `Checked`.
+fn open_message(alloc: Global, config: &Arc<Config>, bytes: &[u8]) -> Result<Checked, SealFault>
     ensures found { IfOk result (λ c. Encodes bytes.now c.message × (c.config ≡ config.now.value)
         × AllByRecursion (IsAuthentic config.now.value) (messages_in c.message)) }
     ensures exact { IsUnlessMemory result (opening config.now.value bytes.now) }

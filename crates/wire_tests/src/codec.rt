@@ -2,15 +2,22 @@
 
 use crate::is_named;
 use host_types::{Bytes, Digest, SeqNo, View};
-use pbft_codec::{Body, CodecFault, Prepare, Role, Signed, Snapshot, decode, encode, signed_bytes};
+use pbft_codec::{
+    Body, CodecFault, Prepare, Role, Sender, Signed, Snapshot, decode, encode, signed_bytes,
+    snapshot_in,
+};
 use std::alloc::Global;
 use std::process::Abort;
+use std::sync::Arc;
 use std::test::Fail;
 
 mod layouts;
 mod tables;
 
 use tables::{FAULTY, MESSAGES};
+
+/// A Snapshot of the state 01 02 03 after number 8, by replica 2, without a signature.
+const SNAPSHOT: &[&str] = &["0100000002000000100a00000000000000080000000301020300000000"];
 
 /// The digest of no bytes (FIPS 180-4).
 const NULL: [u8; 32] = [
@@ -77,11 +84,47 @@ fn each_kind_is_read_and_written(rt: HostRuntime) -> Result<(), Fail> {
     Ok(())
 }
 
+// A Snapshot is found in its bytes, and is written again as them; no other message is found.
+fn check_snapshot(rt: &impl Abort, alloc: Global, pieces: &[&str]) -> Result<(), Fail> {
+    let buffer = Arc::new(alloc, bytes_of(alloc, pieces)?)?;
+    let message = decode(alloc, buffer.as_slice())?;
+    let is_snapshot = matches!(message.body, Body::Snapshot(_));
+    match snapshot_in(buffer.as_slice()) {
+        Some(snapshot) => {
+            let again = encode(alloc, &snapshot.message(alloc, &buffer)?)?;
+            assert!(rt; is_snapshot && again.as_slice() == buffer.as_slice());
+        }
+        None => assert!(rt; !is_snapshot),
+    }
+    Ok(())
+}
+
+#[test]
+fn each_snapshot_is_found_in_its_bytes(rt: HostRuntime) -> Result<(), Fail> {
+    for pieces in MESSAGES {
+        check_snapshot(&rt, rt.alloc(), pieces)?;
+    }
+    Ok(())
+}
+
+#[test]
+fn a_snapshot_has_a_sender_and_what_is_signed(rt: HostRuntime) -> Result<(), Fail> {
+    let bytes = bytes_of(rt.alloc(), SNAPSHOT)?;
+    let snapshot = snapshot_in(&bytes).expect(&rt, "it is a Snapshot");
+    let (signer, body) = snapshot.signed_parts(&bytes);
+    assert!(rt; snapshot.sender() == Sender::Replica);
+    // Neither the length of the body nor the signature is covered.
+    assert!(rt; signer == [1, 0, 0, 0, 2].as_slice());
+    assert!(rt; body == [10, 0, 0, 0, 0, 0, 0, 0, 8, 0, 0, 0, 3, 1, 2, 3].as_slice());
+    Ok(())
+}
+
 #[test]
 fn the_first_fault_is_reported(rt: HostRuntime) -> Result<(), Fail> {
     for (name, pieces, fault) in FAULTY {
         let bytes = bytes_of(rt.alloc(), pieces)?;
         assert!(rt; decode(rt.alloc(), &bytes).err() == Some(fault), "{name}");
+        assert!(rt; snapshot_in(&bytes).is_none(), "{name}");
     }
     Ok(())
 }

@@ -2,7 +2,7 @@
 
 use crate::is_named;
 use hex::FromHex;
-use lms_tree::{Height, SigFault, SignFault, Signer, verify};
+use lms_tree::{Height, SigFault, SignFault, Signer, Verifier, verify};
 use std::alloc::{AllocError, Global};
 use std::process::Abort;
 use std::test::Fail;
@@ -185,6 +185,23 @@ fn valid_signatures(rt: HostRuntime) -> Result<(), Fail> {
     for case in cases {
         assert_eq!(rt; verdict(rt.alloc(), case, Change::Nothing)?, None);
     }
+    Ok(())
+}
+
+#[test]
+fn a_message_in_pieces(rt: HostRuntime) -> Result<(), Fail> {
+    let key: [u8; 56] = array(RFC_8554_CASE_2.key)?;
+    let message = hex::decode(rt.alloc(), RFC_8554_CASE_2.message)?;
+    let signature = concatenation(rt.alloc(), RFC_8554_CASE_2.signature)?;
+    let mut whole = Verifier::new(&key, &signature).map_err(|fault| fault.number())?;
+    let mut longer = Verifier::new(&key, &signature).map_err(|fault| fault.number())?;
+    for piece in message.chunks(7) {
+        whole.update(piece);
+        longer.update(piece);
+    }
+    longer.update(&[0]);
+    assert!(rt; whole.finish().is_ok());
+    assert!(rt; longer.finish().err() == Some(SigFault::Mismatch));
     Ok(())
 }
 

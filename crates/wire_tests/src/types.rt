@@ -6,6 +6,7 @@ use host_types::{
 };
 use std::alloc::{AllocError, Global};
 use std::process::Abort;
+use std::sync::Arc;
 use std::test::Fail;
 
 // So many keys, each of the bytes of its index.
@@ -191,6 +192,19 @@ fn a_set_of_replicas(rt: HostRuntime) {
 fn bytes_are_kept(rt: HostRuntime) -> Result<(), Fail> {
     let bytes = Bytes::from_vec([1, 2, 3].to_vec(rt.alloc())?);
     assert_eq!(rt; bytes.as_slice(), [1, 2, 3].as_slice());
-    assert_eq!(rt; bytes.into_vec().as_slice(), [1, 2, 3].as_slice());
+    assert_eq!(rt;
+        bytes.into_vec(rt.alloc())?.as_slice(),
+        [1, 2, 3].as_slice()
+    );
+    Ok(())
+}
+
+#[test]
+fn a_part_of_a_shared_buffer_is_kept(rt: HostRuntime) -> Result<(), Fail> {
+    let buffer = Arc::new(rt.alloc(), [1, 2, 3, 4, 5].to_vec(rt.alloc())?)?;
+    let part = Bytes::part(&buffer, 1, 4)?;
+    assert_eq!(rt; part.as_slice(), [2, 3, 4].as_slice());
+    assert_eq!(rt; part.into_vec(rt.alloc())?.as_slice(), [2, 3, 4].as_slice());
+    assert_eq!(rt; buffer.as_slice(), [1, 2, 3, 4, 5].as_slice());
     Ok(())
 }

@@ -1,11 +1,8 @@
-use Rattle.std.proofs.Common.{List, ℕ, ◌++◌, ◌∙◌, ap}
-use Rattle.std.proofs.lemmas.List.{append_assoc}
-use Rattle.sha2.specs.Sha256.{sha256}
-use Rattle.lms_ots.specs.Ots.{tagged_hash}
+use Rattle.std.proofs.Common.{◌∙◌}
+use Rattle.lms_ots.proofs.Hashing.{hash_behind_prefix}
 use Rattle.lms_ots.proofs.message_hash.Goals as goal
 
 pub returns : goal.returns
-unfolding tagged_hash
 returns c =
-    c.finalize.ensures _ (c.update-3.ensures _ (c.update-2.ensures _ (c.update.ensures _ c.hasher-hasher.ensures)))
-    ∙ ap sha256 (simp append_assoc)
+    c.finalize.ensures _ (c.update.ensures _ c.hasher_with-hasher.ensures)
+    ∙ hash_behind_prefix c.args.id.now c.args.leaf c.args.randomizer.now c.args.message.now

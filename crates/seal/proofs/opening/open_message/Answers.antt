@@ -3,7 +3,7 @@ use Rattle.std.proofs.lemmas.Result.{err_from_is_err_and}
 use Rattle.seal.specs.Parts.{messages_in}
 use Rattle.seal.proofs.Openings.{proper_codec, proper_verified, decode_refused, verify_refused, opens}
 use Rattle.seal.proofs.Authenticity.{all_authentic}
-use Rattle.seal.proofs.opening.opened.Goals as goal
+use Rattle.seal.proofs.opening.open_message.Goals as goal
 
 pub returns-in_err-message-clause-exact : goal.returns-in_err-message-clause-exact
 returns-in_err-message-clause-exact c =

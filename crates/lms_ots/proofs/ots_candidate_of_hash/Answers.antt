@@ -5,7 +5,7 @@ use Rattle.lms_ots.proofs.DigitLemmas.{get_or-digits_of}
 use Rattle.lms_ots.proofs.Hashing.{Holds-more, Holds-none}
 use Rattle.lms_ots.proofs.Concatenation.{joined_same}
 use Rattle.lms_ots.proofs.Law.{digit-le}
-use Rattle.lms_ots.proofs.ots_candidate_of_two.Goals as goal
+use Rattle.lms_ots.proofs.ots_candidate_of_hash.Goals as goal
 
 pub chains-init : goal.chains-init
 chains-init c = Holds-none _ _ _ c.hasher-hasher.ensures
@@ -13,9 +13,10 @@ chains-init c = Holds-none _ _ _ c.hasher-hasher.ensures
 pub chain-requires : goal.chain-requires
 chain-requires c =
     let i = c.chains.i in
-    let here : get_or c.digits-digits.result i 0 ≡ digit c.message_hash.result i =
-    ap (λ ds. get_or ds i 0) c.digits-digits.ensures ∙ get_or-digits_of c.message_hash.result i c.chains-test.true in
-    omega (arith, here, digit-le c.message_hash.result i)
+    let q : List ℕ = c.args.q.now in
+    let here : get_or c.digits-digits.result i 0 ≡ digit q i =
+    ap (λ ds. get_or ds i 0) c.digits-digits.ensures ∙ get_or-digits_of q i c.chains-test.true in
+    omega (arith, here, digit-le q i)
 
 pub chains-preserved : goal.chains-preserved
 chains-preserved c =
@@ -28,14 +29,13 @@ chains-preserved c =
 
 pub returns : goal.returns
 unfolding tagged_hash
-returns c =
+returns c message is_hash =
     let a = c.args in
-    let q : List ℕ = message_hash a.id.now a.leaf (randomizer_in a.signature.now) (a.head.now ++ a.tail.now) in
+    let q : List ℕ = message_hash a.id.now a.leaf (randomizer_in a.signature.now) message in
     let over = c.chains-test.false in
     let within = c.chains.auto.i-end in
     let all : c.chains.i ≡ 67 = omega arith in
-    let hashed : c.message_hash.result ≡ q =
-    c.message_hash.ensures ∙ ap (λ r. message_hash a.id.now a.leaf r (a.head.now ++ a.tail.now)) c.hash_at-randomizer.ensures in
+    let hashed : a.q.now ≡ q = is_hash in
     let digits : c.digits-digits.result ≡ digits_of q = c.digits-digits.ensures ∙ ap digits_of hashed in
     let each_digit : (i : ℕ) → i < 67 → get_or c.digits-digits.result i 0 ≡ digit q i =
     λ i h. ap (λ ds. get_or ds i 0) digits ∙ get_or-digits_of q i h in
