@@ -1,5 +1,5 @@
 -- Each function has one bound, and it isn't above the number of its visits.
-use Rattle.std.proofs.Common.{◌≡◌, ◌⊎◌, ℕ, zero, suc, ◌+◌, ◌<◌, ◌≤◌, List, [], ◌∷◌, ◌++◌, length, Option, Some, None, refl, sym, ap, subst, ◌∙◌, arith, inl, inr}
+use Rattle.std.proofs.Common.{◌≡◌, ◌⊎◌, ℕ, zero, suc, ◌+◌, ◌<◌, ◌≤◌, List, [], ◌∷◌, length, Option, Some, None, refl, sym, ap, subst, ◌∙◌, arith, inl, inr}
 use Rattle.std.proofs.lemmas.Bool.{cases_lt}
 use Rattle.std.proofs.lemmas.Bool.Decides.{eqb_tells}
 use Rattle.std.proofs.lemmas.List.{length-append}
@@ -11,7 +11,7 @@ use Rattle.bpf_model.specs.Verdict.{structure_fault, Visit, Visits, visits_of, v
 use Rattle.bpf_model.proofs.Options.{some_is}
 use Rattle.bpf_model.proofs.Slots.{insn_at_less}
 use Rattle.bpf_model.proofs.Joins.{arrives, enters_below}
-use Rattle.bpf_model.proofs.Edges.{BeginsAt, Stands, stands, edge_from, edge_within, edges_lead, called_begins}
+use Rattle.bpf_model.proofs.Edges.{BeginsAt, stands, edge_from, edge_within, edges_lead, called_begins}
 
 -- it holds, or it doesn't
 abbrev pub Decided : Type 0 → Type 0

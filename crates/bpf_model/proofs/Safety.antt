@@ -1,12 +1,10 @@
 -- Accepted code is safe. In a function, each machine that is reached is at a slot that a path leads to, and the slot's
 -- abstract state is true of it; a function that is called returns within its bound.
-use Rattle.std.proofs.Common.{◌≡◌, ◌⊎◌, ℕ, zero, suc, ◌+◌, ◌<◌, ◌≤◌, Bool, true, false, ◌&&◌, cond, ltb, ◌-◌, List, [], ◌∷◌, ◌++◌, length, get_or, Option, Some, None, ℤ, refl, sym, ap, subst, ◌∙◌, arith, inl, inr, map}
+use Rattle.std.proofs.Common.{◌≡◌, ◌⊎◌, ℕ, zero, suc, ◌+◌, ◌<◌, ◌≤◌, Bool, true, false, ◌&&◌, ltb, ◌-◌, List, [], ◌∷◌, ◌++◌, length, Option, Some, None, ℤ, refl, sym, ap, subst, ◌∙◌, arith, inl, inr}
 use Rattle.std.specs.Prelude.{IsSome, nat_le, option_and_then}
 use Rattle.std.specs.List.{list_all, AllByRecursion}
 use Rattle.std.specs.Option.{is_some, is_none, option_map}
 use Rattle.std.specs.FinMap as finite
-use Rattle.std.specs.Ordering.{nat_cmp, eq_by_cmp}
-use Rattle.std.specs.Cmp.Lexicographic.{slice_cmp}
 use Rattle.std.proofs.lemmas.Bool.{cases_lt, leb-false, lt-ltb}
 use Rattle.bpf_num.specs.Jump.{jump_test_of}
 use Rattle.bpf_num.specs.declared.jump.Test as tests
@@ -25,9 +23,9 @@ use Rattle.map_helpers.specs.declared.helper.Helper.{Helper}
 use Rattle.map_helpers.specs.Helpers.{helper_of, writes, max_answer}
 use Rattle.bpf_model.specs.Step.{Continues, Ends, tested_value, branches, effect, step}
 use Rattle.bpf_model.specs.Run.{Run, Ending, EndsSo, IsSafe}
-use Rattle.bpf_model.specs.AbstractState.{AbstractState, Edge, edge, start_state, entry_state, after_call, join_all, has_operands, has_accesses, has_bytes, helper_operands, helper_reads, helper_writes, helper_max_answer, all_in_bounds, are_initialized, edge_if, edges, after_helper, after_insn, after_test, IsOneOf}
+use Rattle.bpf_model.specs.AbstractState.{AbstractState, Edge, edge, start_state, after_call, join_all, has_operands, has_accesses, has_bytes, helper_operands, helper_reads, helper_writes, helper_max_answer, all_in_bounds, are_initialized, edge_if, edges, after_helper, after_insn, after_test, IsOneOf}
 use Rattle.bpf_model.specs.Dataflow.{Activation, activation, called, entered, behind, edges_of, state_at, edges_at, exits, TakesIn, Takes, Path, HasBound}
-use Rattle.bpf_model.specs.Verdict.{structure_fault, IsAccepted, calls_local, visits_of_callee, visits_at, visits_in}
+use Rattle.bpf_model.specs.Verdict.{structure_fault, IsAccepted, calls_local, visits_of_callee, visits_in}
 use Rattle.bpf_model.proofs.Options.{some_is, is_some_of, and_true, no_fault_of_four, IsOneOf-left, IsOneOf-right}
 use Rattle.bpf_model.proofs.Slots.{insn_at_less, first_at, few, insn_fits}
 use Rattle.bpf_model.proofs.Edges.{BeginsAt, Stands, stands, Lands, jump_lands, edge_leads, edge_within, called_begins}

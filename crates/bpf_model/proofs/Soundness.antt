@@ -497,7 +497,7 @@ register_stores state m d size base offset src means fit at small has inside =
       after_is = stored_after state m d base.number offset size b.value p;
     }
 
--- bytes that a write marked were written
+-- bytes that a write initialized were written
 pub written_there : (memory : Memory) (range : Range) (address : ℕ) (bytes : List ℕ) (k : ℕ) → In address range → is_written (Some range) (length bytes) k ≡ true → IsSome (map.get (stored memory address bytes) k)
 written_there memory range address bytes k i h =
     let ends = and_true (is_single range && leb range.lo k) (ltb k (range.lo + length bytes)) h in

@@ -1,8 +1,8 @@
 -- The list of visits: none has a fault, or there is a first one that has.
-use Rattle.std.proofs.Common.{◌≡◌, ◌⊎◌, ℕ, zero, suc, ◌+◌, ◌<◌, ◌≤◌, Bool, true, false, ◌&&◌, not, cond, leb, List, [], ◌∷◌, ◌++◌, length, Option, Some, None, refl, sym, ap, subst, ◌∙◌, arith, inl, inr}
+use Rattle.std.proofs.Common.{◌≡◌, ℕ, zero, suc, ◌+◌, ◌<◌, ◌≤◌, Bool, cond, List, [], ◌∷◌, ◌++◌, length, Option, Some, None, refl, sym, ap, subst, ◌∙◌, arith, inl, inr}
 use Rattle.std.specs.Prelude.{slice_get, nat_le}
 use Rattle.std.specs.List.{AllByRecursion}
-use Rattle.std.proofs.lemmas.Bool.{cases_lt, leb-true, leb-false}
+use Rattle.std.proofs.lemmas.Bool.{cases_lt}
 use Rattle.std.proofs.lemmas.Bool.Decides.{leb_tells}
 use Rattle.bpf_decode.specs.declared.insn.Insn.{Insn}
 use Rattle.bpf_model.specs.declared.fault.VerifyFault.{VerifyFault}
@@ -10,8 +10,7 @@ use Rattle.bpf_model.specs.declared.fault.VerifyFault.TheVariants.{TooComplex}
 use Rattle.bpf_model.specs.Code.{insn_at}
 use Rattle.bpf_model.specs.AbstractState.{AbstractState}
 use Rattle.bpf_model.specs.Dataflow.{Activation, state_at, called}
-use Rattle.bpf_model.specs.Verdict.{Visit, Visits, insn_dataflow_fault, visits_of, visits_of_callee, visits_at, visits_below, visits, max_visits, visit_fault, dataflow_fault, IsFirst, IsFirstVisit}
-use Rattle.bpf_model.proofs.Options.{some_is}
+use Rattle.bpf_model.specs.Verdict.{Visit, Visits, insn_dataflow_fault, visits_of, visits_of_callee, visits_at, visits_below, visits, max_visits, visit_fault, dataflow_fault, IsFirstVisit}
 
 -- no visit has a fault
 abbrev pub AllRight : List Visit → Type 0

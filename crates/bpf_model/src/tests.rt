@@ -103,7 +103,7 @@ fn stuck_machines()
 {}
 
 /// As a call begins r1, r2 and r10 alone hold something, and of the memory the arguments alone are there.
-fn what_is_there_at_the_start()
+fn registers_and_bytes_at_the_start()
     ensures r0 { (call : Call) → map.get (start call).frame.registers 0 ≡ None }
     ensures r1 { (call : Call) → map.get (start call).frame.registers 1 ≡ Some (2 ^ 33) }
     ensures r3 { (call : Call) → map.get (start call).frame.registers 3 ≡ None }
@@ -313,7 +313,7 @@ fn definitions_at_values(rt: HostRuntime) {
     loads_and_stores();
     bounds();
     stuck_machines();
-    what_is_there_at_the_start();
+    registers_and_bytes_at_the_start();
     registers_of_a_callee();
     registers_behind_a_call();
     bytes_of_a_frame();

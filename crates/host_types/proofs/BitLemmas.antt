@@ -1,4 +1,4 @@
--- The numbers that marks show, and what marking one more does.
+-- The numbers that bits stand for, and what one bit more does.
 use Rattle.std.proofs.Common.{◌≡◌, ◌≢◌, ◌⊎◌, ℕ, zero, suc, ◌+◌, ◌*◌, ◌/◌, ◌%◌, ◌^◌, ◌<◌, ◌≤◌, Bool, true, false, cond, ◌||◌, eqb, List, [], ◌∷◌, length, get_or, set, refl, sym, ap, ◌∙◌, arith, inl, inr, add-one}
 use Rattle.std.specs.Prelude.{bit_or}
 use Rattle.std.specs.Int.{bit_at, w64}
@@ -123,7 +123,7 @@ len-bits_below words n = rw add-one (step (has_bit words n)) where
   step true = finite.len-insert nat_cmp_total (bits_below words n) n ∙ ap (λ (b : Bool). cond b (finite.len (bits_below words n)) (finite.len (bits_below words n) + 1)) (none_above words n n (omega arith))
   step false = omega arith
 
--- so many of the numbers below n are marked
+-- so many of the numbers below n have a bit
 pub record CountsBits (words : List ℕ) (n count : ℕ) : Type 0 where
   pub is : count ≡ finite.len (bits_below words n)
   pub few : count ≤ n

@@ -1,16 +1,15 @@
 -- Agreement by number: one list of requests accounts for all that correct replicas did.
-use Rattle.std.proofs.Common.{◌≡◌, ◌⊎◌, ℕ, zero, suc, ◌+◌, ◌-◌, ◌<◌, ◌≤◌, Bool, true, false, ◌&&◌, cond, List, [], ◌∷◌, ◌++◌, length, map, take, Option, Some, None, refl, sym, ap, subst, ◌∙◌, arith, inl, inr}
-use Rattle.std.specs.Prelude.{IfSome, eqb, bytes_eq, is_some, max, slice_get, ◌||◌}
+use Rattle.std.proofs.Common.{◌≡◌, ◌⊎◌, ℕ, zero, suc, ◌+◌, ◌-◌, ◌<◌, ◌≤◌, Bool, true, false, cond, List, [], ◌∷◌, ◌++◌, length, map, take, Option, Some, None, refl, sym, ap, subst, ◌∙◌, arith, inl, inr}
+use Rattle.std.specs.Prelude.{IfSome, eqb, bytes_eq, is_some, slice_get, ◌||◌}
 use Rattle.std.specs.List.{AllByRecursion}
 use Rattle.std.specs.Option.{option_map}
 use Rattle.std.proofs.lemmas.Bool.{true≢false, false≢true, and_parts, cases_lt, eqb-true, leb-true}
-use Rattle.std.proofs.lemmas.Option.{same_Some}
 use Rattle.std.proofs.lemmas.Slice.Eq.{bytes_eq-Decides}
 use Rattle.service_core.specs.Bounded.{IsBounded, IsBoundedReply}
 use Rattle.service_core.proofs.Injective.{same_state, last_bounded}
 use Rattle.service_core.proofs.Bounds.{own_reply, reply_is_last}
 use Rattle.service_core.proofs.Determined.{follows_more}
-use Rattle.pbft_model.specs.Words.{Signed, Body, RequestBody, ReplyBody, Checkpoint, Snapshot, Request, Reply, IsChecked, IsAuthentic, as_message, signed_text}
+use Rattle.pbft_model.specs.Words.{Signed, Body, RequestBody, ReplyBody, Checkpoint, Request, Reply, IsAuthentic, as_message, signed_text}
 use Rattle.pbft_codec.specs.declared.body.Body.TheVariants as bodies
 use Rattle.pbft_model.specs.Sequential.{Service, Outcome, IsStep, Serves, genesis_of, encoded, last_reply_of}
 use Rattle.pbft_model.specs.Setup.{Setup, replicas, quorum, count, null_digest, digest_of, request_in}
@@ -19,17 +18,17 @@ use Rattle.pbft_model.specs.Certificates.{Fields, of_commit, voted, is_checkpoin
 use Rattle.pbft_model.specs.Core.{Core, held_with, is_named, is_known, is_prepared, is_certified, request_of}
 use Rattle.pbft_model.specs.Acts.{Act, Destination, Send, Execute, Install}
 use Rattle.pbft_model.specs.Rules.{MayExecute, MaySay, reply_in}
-use Rattle.pbft_model.specs.Histories.{Family, IsCorrect, IsUnforged, IsEarlier, IsIn, HasExecuted, HasTaken, IsHistory, core_after}
-use Rattle.pbft_model.specs.Agreement.{IsTaken, IsHashed, IsHonest, entry_digest, IsAsked, requests_in, ServesFirst, reached_by, greatest_reached, HoldsState, IsServed, IsLastReplyAt, AgreesOn, AgreesByNumber}
+use Rattle.pbft_model.specs.Histories.{Family, IsCorrect, IsUnforged, IsEarlier, IsIn, HasExecuted, HasTaken, IsHistory}
+use Rattle.pbft_model.specs.Agreement.{IsHonest, entry_digest, IsAsked, requests_in, reached_by, greatest_reached, HoldsState, IsServed, IsLastReplyAt, AgreesByNumber}
 use Rattle.pbft_model.proofs.Counting.{quorum_has}
 use Rattle.pbft_model.proofs.Stages.{by_is}
 use Rattle.pbft_model.proofs.Found.{no_some}
-use Rattle.pbft_model.proofs.Real.{RealCore, real_core}
+use Rattle.pbft_model.proofs.Real.{real_core}
 use Rattle.pbft_model.proofs.Events.{now, before, history_at, holds_on}
 use Rattle.pbft_model.proofs.Voices.{core_at, Said, checkpoint_said}
 use Rattle.pbft_model.proofs.ByView.{signed_real}
 use Rattle.pbft_model.proofs.Executing.{executes_alike}
-use Rattle.pbft_model.proofs.Origins.{Origin, IsFirst, ByExecution, ByInstallation, origin_at, origin_later, executed_up}
+use Rattle.pbft_model.proofs.Origins.{Origin, origin_at, origin_later, executed_up}
 use Rattle.pbft_model.proofs.Holdings.{from_find, taken_opened, held_taken, just_taken}
 use Rattle.pbft_model.proofs.Texts.{same_request_text}
 use Rattle.pbft_model.proofs.Fitting.{IsInStep, in_step_at, held_opened}

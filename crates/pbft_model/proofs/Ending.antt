@@ -1,13 +1,13 @@
 -- What is due comes to an end: each act uses up a leaf, a number or a turn.
-use Rattle.std.proofs.Common.{◌≡◌, ℕ, ◌+◌, ◌-◌, ◌*◌, ◌<◌, ◌≤◌, Bool, true, false, cond, List, [], ◌∷◌, Option, Some, None, refl, sym, ap, subst, ◌∙◌, arith, inl, inr}
-use Rattle.std.specs.Prelude.{nat_lt, not, ◌==◌, ◌&&◌, ◌||◌}
+use Rattle.std.proofs.Common.{◌≡◌, ℕ, ◌+◌, ◌-◌, ◌*◌, ◌<◌, ◌≤◌, Bool, true, false, Option, Some, None, sym, ap, subst, arith, inl, inr}
+use Rattle.std.specs.Prelude.{nat_lt, not, ◌==◌, ◌&&◌}
 use Rattle.lms_tree.specs.Keys.{leaf_count}
 use Rattle.pbft_codec.specs.declared.body.Body.{Body}
 use Rattle.pbft_codec.specs.declared.body.Body.TheVariants as bodies
 use Rattle.pbft_codec.specs.declared.body.fetch.Fetch.TheVariants as fetches
 use Rattle.pbft_model.specs.Words.{NewView, Signed, SigningState}
 use Rattle.pbft_model.specs.Setup.{Setup, number_limit, view_limit}
-use Rattle.pbft_model.specs.Acts.{Act, Take, Timeout, Send, Relay, Enter, Rise, Execute, Install, after, is_awaited, leaves_of, left_for, left_if_above, said}
+use Rattle.pbft_model.specs.Acts.{Act, Take, Timeout, Send, Relay, Enter, Rise, Execute, Install, after, is_awaited, leaves_of, said}
 use Rattle.pbft_model.specs.Core.{Core}
 use Rattle.pbft_model.specs.Ending.{bit, left_to_do, stage}
 use Rattle.pbft_model.specs.Duties.{Duty, Do, Executing, WornOut, due}

@@ -1,5 +1,5 @@
 -- The honest family in which a request is executed.
-use Rattle.std.proofs.Common.{◌≡◌, ◌⊎◌, ℕ, zero, suc, ◌+◌, ◌*◌, ◌<◌, ◌≤◌, ◌^◌, Bool, true, List, [], ◌∷◌, ◌++◌, length, Option, Some, None, refl, sym, ap, subst, ◌∙◌, arith, inl, inr}
+use Rattle.std.proofs.Common.{◌≡◌, ◌⊎◌, ℕ, zero, suc, ◌+◌, ◌<◌, ◌≤◌, List, [], ◌∷◌, ◌++◌, Option, Some, None, refl, sym, ap, subst, ◌∙◌, arith, inl, inr}
 use Rattle.std.specs.Prelude.{IsTrue, slice_get}
 use Rattle.std.proofs.lemmas.List.Elements.{All-cons, All-nil}
 use Rattle.std.proofs.lemmas.Bool.{true≢false}
@@ -10,19 +10,19 @@ use Rattle.lms_tree.specs.Signature.{signature_at, signature_fault}
 use Rattle.lms_tree.proofs.SignatureLemmas.{signature-valid}
 use Rattle.pbft_codec.specs.declared.body.Body.TheVariants as bodies
 use Rattle.pbft_codec.specs.Bodies.{BodyWellFormed, BodyFieldsInRange, encoded_length_of}
-use Rattle.pbft_codec.specs.Encoding.{body, encoding, signed_text}
+use Rattle.pbft_codec.specs.Encoding.{signed_text}
 use Rattle.pbft_codec.proofs.LengthLaws.{length_body, length_encoding}
 use Rattle.seal.specs.Parts.{nested_in, messages_in}
 use Rattle.seal.specs.Signers.{may_sign, IsAuthentic}
 use Rattle.seal.proofs.EncodingLaws.{length-signature}
-use Rattle.pbft_model.specs.Words.{SigningState, Signed, Body, RequestBody, Snapshot, Role, Replica, Client, Part, IsConfiguration, IsChecked, CheckedMessage, as_message, part_of, signed_text}
+use Rattle.pbft_model.specs.Words.{Signed, Body, RequestBody, Snapshot, Replica, IsConfiguration, IsChecked, as_message, part_of, signed_text}
 use Rattle.pbft_model.specs.Sequential.{Service, Outcome, IsStep, genesis_of, encoded}
-use Rattle.pbft_model.specs.Setup.{Setup, replicas, request_in, signer_after, signature_by}
-use Rattle.pbft_model.specs.Acts.{Act, Take, Timeout, Send, Relay, Enter, Rise, Execute, Install, All}
+use Rattle.pbft_model.specs.Setup.{Setup, request_in, signature_by}
+use Rattle.pbft_model.specs.Acts.{Act, Take, Timeout, Send, Relay, Enter, Rise, Execute, Install}
 use Rattle.pbft_model.specs.Rules.{IsReading, MayTake}
 use Rattle.pbft_model.proofs.Found.{in_append_left, in_append_right}
-use Rattle.pbft_model.specs.Histories.{IsReal, IsIn, IsEarlier, IsHistory, HasTaken, HasSigned, HasExecuted, Family, IsCorrect, IsUnforged, core_after}
-use Rattle.pbft_model.specs.Agreement.{IsTaken, IsHashed, IsHonest}
+use Rattle.pbft_model.specs.Histories.{IsReal, IsIn, IsEarlier, IsHistory, HasTaken, HasSigned, HasExecuted, Family, IsCorrect}
+use Rattle.pbft_model.specs.Agreement.{IsHashed, IsHonest}
 use Rattle.pbft_model.specs.Worked.{the_client, the_request, the_outcome, after_request, a_pre_prepare, a_prepare, a_commit}
 use Rattle.pbft_model.proofs.Working.{request_serves}
 use Rattle.pbft_model.specs.Example.{tree_id, signer_of, key_of, first_byte_hash, the_setup, a_request, the_digest, message_of, acts_of_primary, acts_of_backup, the_family}

@@ -1,25 +1,23 @@
 -- Every state that a correct replica comes to is bounded and sound, under the configuration, at the number reached.
-use Rattle.std.proofs.Common.{◌≡◌, ◌⊎◌, ℕ, zero, suc, ◌+◌, ◌*◌, ◌<◌, ◌≤◌, ◌^◌, Bool, true, false, ◌&&◌, cond, List, [], ◌∷◌, Option, Some, None, refl, sym, ap, subst, ◌∙◌, arith, inl, inr}
-use Rattle.std.specs.Prelude.{IfSome, bytes_eq, find, is_some, ◌==◌, not}
+use Rattle.std.proofs.Common.{◌≡◌, ℕ, zero, suc, ◌+◌, ◌<◌, ◌≤◌, ◌^◌, Bool, true, false, cond, List, [], ◌∷◌, Option, Some, None, refl, sym, ap, subst, ◌∙◌, arith, inl, inr}
+use Rattle.std.specs.Prelude.{IfSome, bytes_eq, ◌==◌}
 use Rattle.std.specs.Option.{option_map}
 use Rattle.std.proofs.lemmas.Bool.{false≢true, and_parts, leb-true, eqb-true, eq-eqb, ne_eqb}
-use Rattle.pbft_model.specs.Words.{SigningState, Signed, Body, RequestBody, Commit, Request, IsConfiguration, IsChecked, as_message}
+use Rattle.pbft_model.specs.Words.{SigningState, Signed, RequestBody, Request, IsConfiguration, IsChecked, as_message}
 use Rattle.pbft_codec.specs.declared.body.Body.TheVariants as bodies
-use Rattle.service_core.specs.Sound as sound
-use Rattle.service_core.specs.Bounded.{IsBounded}
 use Rattle.service_core.proofs.Bounds.{genesis_bounded, step_bounded}
 use Rattle.service_core.proofs.Soundness.{genesis_sound, step_sound}
-use Rattle.pbft_model.specs.Sequential.{Service, Outcome, IsStep, IsSound, genesis_of}
+use Rattle.pbft_model.specs.Sequential.{Service, Outcome, IsStep, IsSound}
 use Rattle.pbft_model.specs.Setup.{Setup, replicas, quorum, count, null_digest, request_in, number_limit}
-use Rattle.pbft_model.specs.Tables.{at, vote_key}
+use Rattle.pbft_model.specs.Tables.{vote_key}
 use Rattle.pbft_model.specs.Certificates.{Fields, of_commit, voted, has_quorum, same_fields}
-use Rattle.pbft_model.specs.Core.{Core, is_prepared, is_committed, held_with, is_named, request_of}
+use Rattle.pbft_model.specs.Core.{Core, is_prepared, held_with, is_named, request_of}
 use Rattle.pbft_model.specs.Acts.{Act, Take, Timeout, Send, Relay, Enter, Rise, Execute, Install, after}
 use Rattle.pbft_model.specs.Rules.{Allowed}
-use Rattle.pbft_model.specs.Histories.{core_after, IsHistory, IsEarlier, IsIn}
+use Rattle.pbft_model.specs.Histories.{core_after, IsHistory, IsIn}
 use Rattle.pbft_model.proofs.Counting.{found_outside}
 use Rattle.pbft_model.proofs.Stages.{by_is, fields_are, voted_is}
-use Rattle.pbft_model.proofs.Events.{now, before, history_at}
+use Rattle.pbft_model.proofs.Events.{now}
 use Rattle.pbft_model.proofs.Origins.{Keeps, recorded_keeps, said_keeps, left_keeps}
 use Rattle.pbft_model.proofs.Holdings.{from_find, taken_opened, held_taken, commits_in_range}
 

@@ -1,18 +1,18 @@
 -- Executions one after another: what executing a number makes due.
-use Rattle.std.proofs.Common.{◌≡◌, ◌⊎◌, ℕ, ◌+◌, ◌%◌, ◌<◌, ◌≤◌, Bool, true, false, ◌&&◌, cond, List, [], ◌∷◌, Option, Some, None, refl, sym, ap, subst, ◌∙◌, arith, inl, inr}
+use Rattle.std.proofs.Common.{◌≡◌, ◌⊎◌, ℕ, ◌+◌, ◌%◌, ◌≤◌, Bool, true, false, ◌&&◌, cond, List, [], ◌∷◌, Option, Some, None, refl, sym, ap, subst, ◌∙◌, arith, inl, inr}
 use Rattle.std.specs.Prelude.{nat_lt, nat_le, not, ◌==◌, find}
-use Rattle.std.proofs.lemmas.Bool.{true≢false, false≢true, and_parts, and_from, lt-ltb, ltb-true, leb-true, le-leb}
+use Rattle.std.proofs.lemmas.Bool.{true≢false, false≢true, and_parts, and_from, lt-ltb, ltb-true, le-leb}
 use Rattle.pbft_model.specs.Words.{SigningState, Signed, Body, RequestBody, PrePrepare, Snapshot, Reply}
 use Rattle.pbft_codec.specs.declared.body.Body.TheVariants as bodies
 use Rattle.pbft_codec.specs.declared.body.fetch.Fetch.TheVariants as fetches
-use Rattle.pbft_model.specs.Sequential.{Service, Outcome, IsStep, encoded}
+use Rattle.pbft_model.specs.Sequential.{Service, Outcome, encoded}
 use Rattle.pbft_model.specs.Setup.{Setup, span, digest_of, signer_after}
-use Rattle.pbft_model.specs.Tables.{Key, Table, at, keep, with_entry, number_key, first_in, is_above}
+use Rattle.pbft_model.specs.Tables.{Key, Table, at, keep, with_entry, number_key, first_in}
 use Rattle.pbft_model.specs.Certificates.{is_stable}
 use Rattle.pbft_model.specs.Core.{Core, inside, is_known, pre_prepare_at, prepared_at, if_passes, is_new, is_proposed, next_number, request_of}
-use Rattle.pbft_model.specs.Acts.{Act, Take, Timeout, Send, Relay, Enter, Rise, Execute, Install, ToClient, after, said, recorded, left_for, left_if_above}
-use Rattle.pbft_model.specs.Rules.{Allowed, own_message}
-use Rattle.pbft_model.specs.Duties.{Duty, Do, Executing, WornOut, or_else, when, say, reply_body, first_for, due_on_timeout, due_reply, due_checkpoint, answer_to_request, answer_to_fetch, enter_by, install_read, install_from, on_taken, due_answer, due_supply, due_enter, due_install, may_rise, rise_with, rise_among, due_rise, leads, propose, due_propose, among, agree, prepare_for, due_prepare, commit_to, commit_for, due_commit, due_execute, due, NothingBefore}
+use Rattle.pbft_model.specs.Acts.{Act, Take, Timeout, Send, Relay, Enter, Rise, Execute, Install, after, said, recorded, left_for, left_if_above}
+use Rattle.pbft_model.specs.Rules.{Allowed}
+use Rattle.pbft_model.specs.Duties.{Duty, Do, Executing, WornOut, or_else, when, first_for, due_on_timeout, due_reply, due_checkpoint, answer_to_request, answer_to_fetch, enter_by, install_read, install_from, on_taken, due_answer, due_supply, due_enter, due_install, may_rise, rise_with, rise_among, due_rise, leads, propose, due_propose, among, agree, prepare_for, due_prepare, commit_to, commit_for, due_commit, due, NothingBefore}
 use Rattle.pbft_model.specs.Rows.{Fulfils, FollowsWithout, RepliesAlone}
 use Rattle.pbft_model.specs.Histories.{core_after, IsHistory}
 use Rattle.pbft_model.proofs.Found.{no_some, found_entry, found_keep}

@@ -1,18 +1,16 @@
 -- What a replica holds was taken; what it recorded of others' Commits is in range; the message just taken was taken.
-use Rattle.std.proofs.Common.{◌≡◌, ◌⊎◌, ℕ, ◌<◌, Bool, true, false, cond, List, [], ◌∷◌, ◌++◌, filter, Option, Some, None, refl, sym, ap, subst, ◌∙◌, inl, inr}
+use Rattle.std.proofs.Common.{◌≡◌, ◌⊎◌, ℕ, ◌<◌, Bool, true, false, cond, List, [], ◌∷◌, ◌++◌, filter, Some, refl, sym, ap, subst, ◌∙◌, inl, inr}
 use Rattle.std.specs.Prelude.{is_some, nat_lt, find}
-use Rattle.std.specs.List.{list_any}
 use Rattle.std.proofs.lemmas.Option.{same_Some}
-use Rattle.pbft_model.specs.Words.{SigningState, Signed, Body, RequestBody, Commit, IsChecked, CheckedMessage, as_message}
+use Rattle.pbft_model.specs.Words.{SigningState, Signed, Body, RequestBody, Commit, IsChecked, as_message}
 use Rattle.pbft_codec.specs.declared.body.Body.TheVariants as bodies
 use Rattle.pbft_codec.specs.declared.body.fetch.Fetch.TheVariants as fetches
-use Rattle.pbft_codec.specs.WellFormed.{BodyWellFormed, BodyFieldsInRange}
-use Rattle.pbft_model.specs.Sequential.{Service}
+use Rattle.pbft_codec.specs.WellFormed.{BodyWellFormed}
 use Rattle.pbft_model.specs.Setup.{Setup, digest_of, number_limit}
 use Rattle.pbft_model.specs.Tables.{Key, Table, at, add_if, keep, vote_key, is_above}
-use Rattle.pbft_model.specs.Core.{Core, held_with, is_new, names}
+use Rattle.pbft_model.specs.Core.{Core, held_with}
 use Rattle.pbft_model.specs.Acts.{Act, Take, Timeout, Send, Relay, Enter, Rise, Execute, Install, after, said, recorded, left_for, left_if_above, add_request, with_body}
-use Rattle.pbft_model.specs.Rules.{Allowed, MaySend}
+use Rattle.pbft_model.specs.Rules.{Allowed}
 use Rattle.pbft_model.specs.Histories.{core_after, IsHistory, IsEarlier, IsIn, HasTaken}
 use Rattle.pbft_model.proofs.Found.{no_some, found_add, found_keep}
 use Rattle.pbft_model.proofs.Entries.{from_append}

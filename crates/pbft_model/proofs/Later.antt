@@ -1,17 +1,17 @@
 -- A request that is new after a step of the service was new before it.
-use Rattle.std.proofs.Common.{◌≡◌, ◌⊎◌, ℕ, ◌+◌, ◌<◌, Bool, true, false, cond, eqb, List, [], ◌∷◌, Option, Some, None, refl, sym, ap, subst, ◌∙◌, arith, inl, inr}
-use Rattle.std.specs.Prelude.{MatchBool, MatchOption, nat_lt, nat_eq, find, option_and_then}
+use Rattle.std.proofs.Common.{◌≡◌, ℕ, ◌+◌, ◌<◌, Bool, true, false, cond, eqb, List, [], ◌∷◌, Option, Some, None, refl, sym, ap, subst, ◌∙◌, arith, inl, inr}
+use Rattle.std.specs.Prelude.{MatchBool, MatchOption, nat_lt, nat_eq, option_and_then}
 use Rattle.std.specs.Ordering.{nat_cmp, eq_by_cmp}
 use Rattle.std.specs.Cmp.{nat_cmp_total, unsigned_tied}
 use Rattle.std.specs.FinMap as finite
-use Rattle.std.proofs.lemmas.Bool.{true≢false, cases_eq, cases_lt, eqb-true, eq-eqb, ne_eqb, lt-ltb, ltb-true}
+use Rattle.std.proofs.lemmas.Bool.{true≢false, cases_eq, cases_lt, eqb-true, eq-eqb, lt-ltb, ltb-true}
 use Rattle.std.proofs.lemmas.Option.{same_Some}
 use Rattle.host_types.specs.declared.config.ClientEntry.{ClientEntry}
 use Rattle.host_types.specs.Configuration.{entry_of}
 use Rattle.service_core.specs.TenantStates.{TenantState, tenant_at, with_tenant}
 use Rattle.service_core.specs.Steps.{Executes, IsTenantStep, reply_to}
 use Rattle.pbft_model.specs.Words.{Signed, RequestBody, Request, Reply}
-use Rattle.pbft_model.specs.Sequential.{Service, Outcome, IsStep, last_reply_of}
+use Rattle.pbft_model.specs.Sequential.{Service, Outcome, IsStep}
 use Rattle.pbft_model.specs.Core.{is_later, is_new}
 use Rattle.pbft_model.proofs.Found.{no_some}
 

@@ -1,5 +1,5 @@
 -- The leaves that acts and rows take.
-use Rattle.std.proofs.Common.{◌≡◌, ℕ, ◌+◌, Bool, true, false, cond, List, [], ◌∷◌, refl, sym, ap, subst, ◌∙◌, arith}
+use Rattle.std.proofs.Common.{◌≡◌, ℕ, ◌+◌, Bool, true, false, cond, List, [], ◌∷◌, refl, sym, ap, ◌∙◌, arith}
 use Rattle.std.specs.Prelude.{nat_lt}
 use Rattle.pbft_model.specs.Words.{SigningState, Signed, Body}
 use Rattle.pbft_codec.specs.declared.body.Body.TheVariants as bodies
@@ -7,7 +7,7 @@ use Rattle.pbft_codec.specs.declared.body.fetch.Fetch.TheVariants as fetches
 use Rattle.pbft_model.specs.Setup.{Setup, signer_after}
 use Rattle.pbft_model.specs.Core.{Core}
 use Rattle.pbft_model.specs.Acts.{Act, Take, Timeout, Send, Relay, Enter, Rise, Execute, Install, after, said, recorded, left_for, left_if_above, leaves_of}
-use Rattle.pbft_model.specs.Rows.{Row, Input, Received, TimedOut, Begins, Follows, IsNext, IsLawfulFrom, leaves_for, all_leaves, leaves_in}
+use Rattle.pbft_model.specs.Rows.{Row, Input, Received, TimedOut, Begins, Follows, IsLawfulFrom, leaves_for, all_leaves, leaves_in}
 
 none_taken : (signer : SigningState) → signer ≡ signer_after signer 0
 none_taken signer = let same : signer.next_leaf ≡ signer.next_leaf + 0 = omega arith in λ i. record signer { next_leaf = same i }

@@ -1,18 +1,16 @@
 -- Where a replica's state comes from: the execution or the installation that it reached last.
-use Rattle.std.proofs.Common.{◌≡◌, ◌⊎◌, ℕ, ◌+◌, ◌<◌, ◌≤◌, Bool, true, false, cond, List, [], ◌∷◌, Option, Some, None, refl, sym, ap, subst, ◌∙◌, arith, inl, inr}
+use Rattle.std.proofs.Common.{◌≡◌, ◌⊎◌, ℕ, ◌+◌, ◌<◌, ◌≤◌, Bool, true, false, cond, List, [], ◌∷◌, None, refl, ◌∙◌, arith, inl, inr}
 use Rattle.std.specs.Prelude.{nat_lt}
-use Rattle.std.proofs.lemmas.Bool.{true≢false, false≢true}
-use Rattle.pbft_model.specs.Words.{SigningState, Signed, Body, Checkpoint, ReplyBody, Reply}
+use Rattle.pbft_model.specs.Words.{SigningState, Signed, Body}
 use Rattle.pbft_codec.specs.declared.body.Body.TheVariants as bodies
 use Rattle.pbft_codec.specs.declared.body.fetch.Fetch.TheVariants as fetches
 use Rattle.pbft_model.specs.Sequential.{Service, Outcome, genesis_of}
 use Rattle.pbft_model.specs.Setup.{Setup}
-use Rattle.pbft_model.specs.Core.{Core, start_of}
+use Rattle.pbft_model.specs.Core.{Core}
 use Rattle.pbft_model.specs.Acts.{Act, Take, Timeout, Send, Relay, Enter, Rise, Execute, Install, after, said, recorded, left_for, left_if_above}
-use Rattle.pbft_model.specs.Rules.{Allowed, MaySay}
-use Rattle.pbft_model.specs.Histories.{core_after, IsHistory, IsEarlier}
-use Rattle.pbft_model.proofs.Found.{no_some}
-use Rattle.pbft_model.proofs.Events.{now, earlier_trans}
+use Rattle.pbft_model.specs.Rules.{Allowed}
+use Rattle.pbft_model.specs.Histories.{core_after, IsEarlier}
+use Rattle.pbft_model.proofs.Events.{earlier_trans}
 
 -- The second core has the first one's number and state; what the last execution still has to send is sent at most.
 pub record Keeps (s t : Core) : Type 0 where

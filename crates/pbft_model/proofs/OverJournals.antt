@@ -1,21 +1,21 @@
 -- Agreement over journals: their acts are an honest family of histories.
-use Rattle.std.proofs.Common.{◌≡◌, ◌⊎◌, ℕ, zero, suc, ◌+◌, ◌-◌, ◌<◌, ◌≤◌, Bool, true, false, cond, List, [], ◌∷◌, ◌++◌, length, max, append_assoc, Option, Some, None, refl, sym, ap, subst, ◌∙◌, arith, inl, inr}
+use Rattle.std.proofs.Common.{◌≡◌, ℕ, zero, suc, ◌<◌, ◌≤◌, Bool, true, false, cond, List, [], ◌∷◌, ◌++◌, max, Option, refl, sym, ap, subst, ◌∙◌, arith, inl, inr}
 use Rattle.std.specs.Prelude.{nat_lt}
-use Rattle.std.proofs.lemmas.Bool.{true≢false, false≢true, cases_lt, ltb-true, lt-ltb}
-use Rattle.pbft_model.specs.Words.{SigningState, Signed, Body, RequestBody, ReplyBody, Snapshot, as_message, part_of}
+use Rattle.std.proofs.lemmas.Bool.{true≢false, ltb-true, lt-ltb}
+use Rattle.pbft_model.specs.Words.{Signed, Body, RequestBody, ReplyBody, as_message, part_of}
 use Rattle.pbft_codec.specs.declared.body.Body.TheVariants as bodies
-use Rattle.pbft_model.specs.Sequential.{Service, Outcome, Serves, encoded}
+use Rattle.pbft_model.specs.Sequential.{Service, Outcome}
 use Rattle.pbft_model.specs.Setup.{Setup, replicas}
 use Rattle.pbft_model.specs.Core.{Core, start_of}
 use Rattle.pbft_model.specs.Acts.{Act, Take, Timeout, Send, Relay, Enter, Rise, Execute, Install}
-use Rattle.pbft_model.specs.Rows.{Row, Output, Done, Executed, Installed, IsLawfulFrom, done_of, result_of}
-use Rattle.pbft_model.specs.Histories.{core_after, IsHistory, IsEarlier, IsIn, HasTaken, HasSigned, HasExecuted, Family, IsCorrect, IsUnforged}
-use Rattle.pbft_model.specs.Agreement.{IsTaken, IsHashed, IsHonest, ServesFirst, reached_by, greatest_reached, HoldsState, IsServed, IsLastReplyAt, AgreesOn}
-use Rattle.pbft_model.specs.Journals.{Journals, HasReceived, HasGiven, HasDone, RunsTo, greatest_in, ComesTo, IsReceived, IsHashedIn, IsHonestFamily, reached_in, greatest_among, IsAccountedFor, IsInstalledFrom, AgreesOver, Agrees}
+use Rattle.pbft_model.specs.Rows.{Row, Output, Executed, Installed, IsLawfulFrom, done_of, result_of}
+use Rattle.pbft_model.specs.Histories.{core_after, IsHistory, IsEarlier, IsIn, HasTaken, HasSigned, Family, IsCorrect, IsUnforged}
+use Rattle.pbft_model.specs.Agreement.{IsTaken, IsHashed, IsHonest, reached_by, greatest_reached, HoldsState, IsLastReplyAt, AgreesOn}
+use Rattle.pbft_model.specs.Journals.{Journals, HasReceived, HasDone, greatest_in, ComesTo, IsReceived, IsHashedIn, IsHonestFamily, reached_in, greatest_among, IsAccountedFor, IsInstalledFrom, AgreesOver, Agrees}
 use Rattle.pbft_model.proofs.Events.{now, earlier_trans, history_at, holds_on}
 use Rattle.pbft_model.proofs.Origins.{executed_up}
 use Rattle.pbft_model.proofs.ByNumber.{agrees}
-use Rattle.pbft_model.proofs.Reporting.{pushed, acts_from, earlier_from, core_from, history_from, taken_from, given_act, sends, given_from, done_from, executed_from, Parted, parted, one_core, number_from, one_row_more}
+use Rattle.pbft_model.proofs.Reporting.{pushed, acts_from, earlier_from, core_from, history_from, taken_from, given_act, sends, given_from, done_from, executed_from, parted, one_core, number_from, one_row_more}
 
 module _ (c : Setup) (j : Journals) (h : IsHonestFamily c j) where
   -- ---- the family of histories

@@ -1,17 +1,17 @@
 -- What is due is never to take a message or a timeout.
 use Rattle.std.proofs.Common.{◌≡◌, ℕ, ◌+◌, Bool, true, false, cond, List, [], ◌∷◌, Option, Some, None, refl, subst, sym}
-use Rattle.std.specs.Prelude.{nat_lt, nat_le, not, ◌&&◌, ◌==◌, find}
-use Rattle.pbft_model.specs.Words.{Signed, Body, RequestBody, PrePrepare, Snapshot, ViewChange, Reply, Fetch}
+use Rattle.std.specs.Prelude.{nat_le, not, ◌&&◌, ◌==◌, find}
+use Rattle.pbft_model.specs.Words.{Signed, Body, RequestBody, PrePrepare, Snapshot, ViewChange, Reply}
 use Rattle.pbft_codec.specs.declared.body.Body.TheVariants as bodies
 use Rattle.pbft_codec.specs.declared.body.fetch.Fetch.TheVariants as fetches
 use Rattle.pbft_model.specs.Sequential.{Service, last_reply_of}
 use Rattle.pbft_model.specs.Setup.{Setup, span, view_limit, number_limit, digest_of}
-use Rattle.pbft_model.specs.Tables.{Table, at, number_key, first_in, entries_in}
+use Rattle.pbft_model.specs.Tables.{Table, at, number_key, first_in}
 use Rattle.pbft_model.specs.Certificates.{of_pre_prepare}
 use Rattle.pbft_model.specs.Core.{Core, inside, is_known, is_committed, held_with, next_number, pre_prepare_at, prepared_at, if_passes, is_new, is_proposed}
 use Rattle.pbft_model.specs.Acts.{Act, Destination, All, Take, Timeout, Send, Relay, Enter, Rise, Execute, Install}
 use Rattle.pbft_model.specs.Rules.{pre_prepare_of}
-use Rattle.pbft_model.specs.Duties.{Duty, Do, Executing, WornOut, or_else, when, first_for, say, change_to, due_on_timeout, due_reply, due_checkpoint, answer_again, answer_to_request, pass_on, supply, answer_fetched, answer_to_fetch, enter_by, install_read, install_from, on_taken, due_answer, due_supply, due_enter, due_install, rise_with, rise_among, due_rise, leads, propose, due_propose, among, agree, prepare_for, due_prepare, commit_to, commit_for, due_commit, execute_at, due_execute, higher_changes, join, due_join, due_open, due_fetch_state, is_lacking, ask_for, due_fetch_request, due}
+use Rattle.pbft_model.specs.Duties.{Duty, Do, Executing, WornOut, or_else, when, first_for, say, change_to, due_on_timeout, due_reply, due_checkpoint, answer_again, answer_to_request, pass_on, supply, answer_to_fetch, enter_by, install_read, install_from, on_taken, due_answer, due_supply, due_enter, due_install, rise_with, rise_among, due_rise, leads, propose, due_propose, among, agree, prepare_for, due_prepare, commit_to, commit_for, due_commit, execute_at, due_execute, higher_changes, join, due_join, due_open, due_fetch_state, is_lacking, ask_for, due_fetch_request, due}
 use Rattle.pbft_model.specs.Rows.{Fulfils}
 
 -- not the taking of an input

@@ -1,18 +1,17 @@
 -- The acts of a lawful journal, and what its rows report of them.
-use Rattle.std.proofs.Common.{◌≡◌, ◌⊎◌, ℕ, zero, suc, ◌+◌, ◌≤◌, Bool, true, false, List, [], ◌∷◌, ◌++◌, map, max, Option, Some, None, refl, sym, ap, subst, ◌∙◌, arith, inl, inr}
+use Rattle.std.proofs.Common.{◌≡◌, ◌⊎◌, ℕ, ◌+◌, true, List, [], ◌∷◌, ◌++◌, map, max, Option, refl, sym, ap, subst, ◌∙◌, arith, inl, inr}
 use Rattle.std.specs.List.{AllByRecursion, flat_map}
 use Rattle.std.proofs.lemmas.Bool.{true≢false}
 use Rattle.pbft_model.specs.Words.{SigningState, Signed, Body, Part}
 use Rattle.pbft_model.specs.Sequential.{Service, Outcome}
 use Rattle.pbft_model.specs.Setup.{Setup}
 use Rattle.pbft_model.specs.Validity.{greatest_of}
-use Rattle.pbft_model.specs.Core.{Core, start_of}
+use Rattle.pbft_model.specs.Core.{Core}
 use Rattle.pbft_model.specs.Acts.{Act, Take, Timeout, Send, Relay, Enter, Rise, Execute, Install, after}
 use Rattle.pbft_model.specs.Rules.{Allowed}
-use Rattle.pbft_model.specs.Duties.{due}
-use Rattle.pbft_model.specs.Rows.{Row, Input, Received, TimedOut, Output, Done, Executed, Installed, Fulfils, Follows, Begins, IsNext, IsLawfulFrom, outputs_of, done_of, all_outputs, all_done, result_of}
-use Rattle.pbft_model.specs.Histories.{core_after, IsHistory, IsEarlier, IsIn, HasSigned, HasTaken, signed_in, signed_by_act}
-use Rattle.pbft_model.specs.Journals.{HasReceived, HasGiven, HasDone, ExecutesTo, RunsTo, number_in, greatest_in}
+use Rattle.pbft_model.specs.Rows.{Row, Input, Received, TimedOut, Output, Done, Follows, Begins, IsNext, IsLawfulFrom, outputs_of, done_of, all_outputs, all_done}
+use Rattle.pbft_model.specs.Histories.{core_after, IsHistory, IsEarlier, IsIn, HasSigned, HasTaken, signed_by_act}
+use Rattle.pbft_model.specs.Journals.{HasReceived, HasGiven, HasDone, RunsTo, number_in, greatest_in}
 use Rattle.pbft_model.proofs.Entries.{from_append}
 use Rattle.pbft_model.proofs.Events.{now, earlier_trans, signed_at}
 use Rattle.pbft_model.proofs.Origins.{recorded_keeps, said_keeps, left_keeps}

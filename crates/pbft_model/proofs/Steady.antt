@@ -1,8 +1,8 @@
 -- A run without a view change stays in view 0.
-use Rattle.std.proofs.Common.{◌≡◌, ℕ, Bool, true, List, [], ◌∷◌, refl, sym, ap, subst, ◌∙◌, inl, inr}
+use Rattle.std.proofs.Common.{◌≡◌, ℕ, true, List, [], ◌∷◌, refl, sym, ap, subst, ◌∙◌, inl, inr}
 use Rattle.std.specs.List.{AllByRecursion}
 use Rattle.std.proofs.lemmas.Bool.{and_parts}
-use Rattle.pbft_model.specs.Words.{SigningState, Signed, Body}
+use Rattle.pbft_model.specs.Words.{SigningState, Body}
 use Rattle.pbft_codec.specs.declared.body.Body.TheVariants as bodies
 use Rattle.pbft_model.specs.Setup.{Setup, replicas}
 use Rattle.pbft_model.specs.Certificates.{Fields, of_commit, voted, has_quorum}

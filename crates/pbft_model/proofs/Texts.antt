@@ -1,7 +1,7 @@
 -- Requests with equal signed bytes are equal.
-use Rattle.std.proofs.Common.{◌≡◌, List, ap}
+use Rattle.std.proofs.Common.{◌≡◌}
 use Rattle.pbft_codec.proofs.MessageLaws.{one_signed_text}
-use Rattle.pbft_model.specs.Words.{Configuration, Signed, Body, RequestBody, Request, IsChecked, as_message, signed_text}
+use Rattle.pbft_model.specs.Words.{Configuration, Signed, RequestBody, IsChecked, as_message, signed_text}
 use Rattle.pbft_codec.specs.declared.body.Body.TheVariants as bodies
 use Rattle.pbft_model.specs.Setup.{request_in}
 

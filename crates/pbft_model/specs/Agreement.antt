@@ -8,7 +8,7 @@ use Rattle.pbft_codec.specs.declared.body.Body.TheVariants as bodies
 use Rattle.pbft_model.specs.Sequential.{Service, Outcome, Serves, encoded, last_reply_of}
 use Rattle.pbft_model.specs.Setup.{Setup, replicas, null_digest, digest_of, request_in}
 use Rattle.pbft_model.specs.Core.{Core}
-use Rattle.pbft_model.specs.Acts.{Act, Send, Execute, Install, Destination}
+use Rattle.pbft_model.specs.Acts.{Act, Send, Destination}
 use Rattle.pbft_model.specs.Rules.{reply_in}
 use Rattle.pbft_model.specs.Histories.{Family, IsCorrect, IsUnforged, HasTaken, HasExecuted, IsEarlier, core_after}
 

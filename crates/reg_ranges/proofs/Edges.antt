@@ -1,5 +1,5 @@
 -- The edge of a test keeps the numbers at which the test has that outcome; one of the two edges can always be taken.
-use Rattle.std.proofs.Common.{◌≡◌, ◌≢◌, ◌⊎◌, ℕ, ◌+◌, ◌-◌, ◌%◌, ◌^◌, ◌<◌, ◌≤◌, min, max, Bool, true, false, ◌&&◌, ◌||◌, not, cond, eqb, leb, ltb, Option, Some, None, ℤ, pos, refl, sym, ap, subst, ◌∙◌, arith, inl, inr, bit_and}
+use Rattle.std.proofs.Common.{◌≡◌, ◌≢◌, ℕ, ◌+◌, ◌-◌, ◌%◌, ◌^◌, ◌<◌, ◌≤◌, min, max, Bool, true, false, ◌&&◌, ◌||◌, not, cond, eqb, leb, ltb, Option, Some, None, ℤ, pos, refl, sym, ap, subst, ◌∙◌, arith, bit_and}
 use Rattle.std.specs.Prelude.{int_lt, int_le}
 use Rattle.std.specs.Option.{option_map}
 use Rattle.std.specs.Int.{w32, w64, cast_signed}
@@ -9,7 +9,6 @@ use Rattle.std.proofs.lemmas.Int.{to_z_pos}
 use Rattle.std.proofs.Math.Nat.{mod-eq_of_lt}
 use Rattle.bpf_num.specs.declared.jump.Test.{Test}
 use Rattle.bpf_num.specs.declared.jump.Test.TheVariants.{Jeq, Jgt, Jge, Jset, Jne, Jsgt, Jsge, Jlt, Jle, Jslt, Jsle}
-use Rattle.bpf_num.specs.declared.AluWidth.{AluWidth}
 use Rattle.bpf_num.specs.declared.AluWidth.TheVariants.{W32, W64}
 use Rattle.bpf_num.specs.Jump.{test_of, jump_test_of}
 use Rattle.reg_ranges.specs.Ranges.{Range, In, range, is_single, is_positive}

@@ -1,18 +1,18 @@
 -- Each result of numbers in the operands' ranges lies in the range that the table gives.
-use Rattle.std.proofs.Common.{◌≡◌, ◌≢◌, ℕ, zero, suc, ◌+◌, ◌-◌, ◌*◌, ◌/◌, ◌%◌, ◌^◌, ◌<◌, ◌≤◌, min, max, Bool, true, false, ◌&&◌, cond, eqb, leb, ltb, ℤ, pos, negsuc, neg_ℤ, refl, sym, ap, subst, ◌∙◌, arith, inl, inr, bit_and, bit_or, bit_xor}
+use Rattle.std.proofs.Common.{◌≡◌, ℕ, zero, suc, ◌+◌, ◌-◌, ◌*◌, ◌/◌, ◌%◌, ◌^◌, ◌<◌, ◌≤◌, min, max, Bool, true, false, ◌&&◌, cond, eqb, leb, ltb, ℤ, pos, negsuc, neg_ℤ, refl, sym, ap, subst, ◌∙◌, arith, inl, inr, bit_and, bit_or, bit_xor}
 use Rattle.std.specs.Prelude.{int_div, int_rem, unsigned_abs}
 use Rattle.std.specs.Int.{w8, w16, w32, w64, cast_signed, cast_unsigned, int_shr, int_wrapping_div, leading_zeros}
-use Rattle.std.proofs.lemmas.Bool.{leb-true, leb-false, ltb-true, ltb-false, lt-ltb, eqb-true, eqb-false}
+use Rattle.std.proofs.lemmas.Bool.{leb-true, leb-false, ltb-true, ltb-false, eqb-true, eqb-false}
 use Rattle.std.proofs.lemmas.Bool.Decides.{eqb_tells}
 use Rattle.std.proofs.lemmas.Nat.{mul-le, le-div, div-add-mod', pow_pos, shr_le, and_le_l, and_le_r, le_or_l, le_or_r, or_lt, xor_lt, leading_length, one_shl, shl_whole, mod_below}
 use Rattle.std.proofs.lemmas.Int.{to_z_pos, of_z-to_z}
-use Rattle.std.proofs.Math.Nat.{pow-le-pow_right, mod-eq_of_lt}
+use Rattle.std.proofs.Math.Nat.{mod-eq_of_lt}
 use Rattle.bpf_num.specs.declared.AluOp.{AluOp}
 use Rattle.bpf_num.specs.declared.AluOp.TheVariants.{Add, Sub, Mul, Div, Sdiv, Or, And, Lsh, Rsh, Neg, Mod, Smod, Xor, Mov, Movsx8, Movsx16, Movsx32, Arsh}
 use Rattle.bpf_num.specs.declared.AluWidth.{AluWidth}
 use Rattle.bpf_num.specs.declared.AluWidth.TheVariants.{W32, W64}
 use Rattle.bpf_num.specs.Arithmetic.{bits_of, modulus, result_of}
-use Rattle.reg_ranges.specs.Ranges.{Range, In, WellFormed, range, single, is_single, full, alike, sum_range, difference_range, product_range, quotient_range, rest_range, all_bits, left_shift_range, right_shift_range, is_positive, extended_range, negation_range, wide_range, transfer_of, truncate}
+use Rattle.reg_ranges.specs.Ranges.{Range, In, range, single, is_single, full, alike, sum_range, difference_range, product_range, quotient_range, rest_range, all_bits, left_shift_range, right_shift_range, is_positive, extended_range, negation_range, wide_range, transfer_of, truncate}
 
 and_true : (a b : Bool) → (a && b) ≡ true → (a ≡ true) × (b ≡ true)
 and_true true b e = (refl, e)

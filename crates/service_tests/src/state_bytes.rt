@@ -99,7 +99,7 @@ fn a_state_that_was_read_keeps_its_replies(rt: HostRuntime) -> Result<(), Fail> 
 }
 
 #[test]
-fn a_state_that_was_read_goes_on(rt: HostRuntime) -> Result<(), Fail> {
+fn a_state_that_was_read_continues(rt: HostRuntime) -> Result<(), Fail> {
     let mut state = full_state(rt.alloc())?;
     step(rt.alloc(), &mut state, 150, &[2, 0, 0, 0, 0], &[])?;
     let reply = state.last_reply(ClientId(150)).ok_or("no reply")?;

@@ -1,4 +1,3 @@
-use Rattle.std.proofs.Common.{◌++◌}
 use Rattle.std.proofs.lemmas.List.{append_assoc}
 use Rattle.lms_ots.proofs.Hashing.{Holds_same}
 use Rattle.lms_ots.proofs.hasher_with.Goals as goal

@@ -1,8 +1,4 @@
 -- Journals with a row more, as `proofs/Reporting.antt` and `proofs/Leaves.antt` have it.
-use Rattle.std.specs.Prelude.{ℕ, List}
-use Rattle.pbft_model.specs.Setup.{Setup}
-use Rattle.pbft_model.specs.Core.{Core}
-use Rattle.pbft_model.specs.Rows.{Row}
 use Rattle.pbft_model.proofs.Reporting.{one_row_more, one_core}
 use Rattle.pbft_model.proofs.Leaves.{signer_rows}
 use Rattle.pbft_model.proofs.a_journal_grows.Goals as goal

@@ -1,4 +1,3 @@
-use Rattle.std.proofs.Common.{arith}
 use Rattle.reg_ranges.specs.RangeOf.{range_of}
 use Rattle.reg_ranges.proofs.Sound.{sound_32}
 use Rattle.reg_ranges.proofs.transfer.transfer32.Goals as goal

@@ -3,7 +3,7 @@ use Rattle.std.specs.Option.{option_copied_mut}
 use Rattle.std.specs.BTreeMap as tree
 use Rattle.tenant_maps.specs.Entries.{has_room}
 use Rattle.tenant_maps.proofs.EntriesLemmas.{order}
-use Rattle.tenant_maps.proofs.MeaningLemmas.{IsTenantMap-after_insert, IsTenantMap-after_overwrite, IsKey-from, IsValue-from, has_room-few, can_insert}
+use Rattle.tenant_maps.proofs.MeaningLemmas.{IsTenantMap-after_insert, IsTenantMap-after_overwrite, IsKey-from, IsValue-from, can_insert}
 use Rattle.tenant_maps.proofs.tenant_map.TenantMapMapPort.put.Goals as goal
 
 pub invariant_of-self-inside : goal.invariant_of-self-inside

@@ -5,7 +5,7 @@ use Rattle.std.specs.Ordering.{nat_cmp}
 use Rattle.std.specs.Cmp.{nat_cmp_total}
 use Rattle.std.specs.FinMap as map
 use Rattle.bpf_model.specs.Machine.{Call, start, arguments_start, frame_end}
-use Rattle.bpf_model.proofs.tests.what_is_there_at_the_start.Goals as goal
+use Rattle.bpf_model.proofs.tests.registers_and_bytes_at_the_start.Goals as goal
 
 register : (call : Call) (r : ℕ) → map.get (start call).frame.registers r ≡ map.find nat_cmp r ((1, arguments_start) ∷ (2, length call.arguments) ∷ (10, frame_end 0) ∷ [])
 register call r = map.get-from_entries nat_cmp_total ((1, arguments_start) ∷ (2, length call.arguments) ∷ (10, frame_end 0) ∷ []) r
