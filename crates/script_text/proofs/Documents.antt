@@ -1,9 +1,8 @@
 -- The document of bytes that are UTF-8, and of others.
-use Rattle.std.proofs.Common.{◌≡◌, ◌⊎◌, List, ℕ, Option, None, Bool, true, false, inl, inr, ap, if◌then◌else◌}
+use Rattle.std.proofs.Common.{◌≡◌, ◌⊎◌, List, ℕ, None, Bool, true, false, inl, inr, ap, if◌then◌else◌}
 use Rattle.std.specs.Str.{IsUtf8, is_utf8}
 use Rattle.std.proofs.lemmas.Bool.{cases_Bool}
 use Rattle.std.proofs.lemmas.Str.{IsUtf8-from_is_utf8, is_utf8-from_IsUtf8}
-use Rattle.toml.specs.Data.{Members}
 use Rattle.toml.specs.Parse.{parse_document}
 use Rattle.script_text.specs.Scripts.{document}
 

@@ -1,7 +1,7 @@
 -- The faults that a text has are none of a run: no read or write fails in it, and nothing is delivered.
 use Rattle.std.proofs.Common.{◌≡◌, ℕ, List, [], Option, Some, None, Result, Ok, Err, subst, if◌then◌else◌, Bool, true, false}
 use Rattle.std.specs.Prelude.{nat_lt, length}
-use Rattle.toml.specs.Data.{Data, Items, Members, no_items, item}
+use Rattle.toml.specs.Data.{Items, Members, no_items, item}
 use Rattle.host_types.specs.Configuration.{replicas_for}
 use Rattle.script_text.specs.Faults.{kind_of}
 use Rattle.script_text.specs.Heads.{HeadFacts, head_in}

@@ -1,6 +1,5 @@
 -- Statement: the head of a script: who takes part.
 use Rattle.std.specs.Prelude.{◌≡◌, codes, ℕ, ℤ, pos, negsuc, ◌==◌, nat_lt, List, [], ◌∷◌, map, replicate, slice_get, Option, Some, None, is_none, option_and_then, Result, Ok, Err, if◌then◌else◌}
-use Rattle.std.specs.Option.{option_map}
 use Rattle.toml.specs.Data.{Members, as_integer, get_member}
 use Rattle.host_types.specs.Configuration.{Configuration, fault_of, replicas_for}
 use Rattle.host_types.specs.declared.ReplicaId.{ReplicaId}
