@@ -1,5 +1,5 @@
 -- The correct replica of an id, and an input at it.
-use Rattle.std.proofs.Common.{◌≡◌, ℕ, zero, suc, ◌+◌, ◌<◌, ◌≤◌, inl, inr, Bool, true, false, cond, eqb, List, [], ◌∷◌, ◌++◌, length, get_or, set, find, map, Option, Some, None, Result, Ok, Err, refl, sym, ap, subst, ◌∙◌, arith}
+use Rattle.std.proofs.Common.{◌≡◌, ℕ, zero, suc, ◌+◌, ◌<◌, ◌≤◌, inl, inr, Bool, true, false, cond, eqb, List, [], ◌∷◌, length, get_or, set, find, map, Option, Some, None, Ok, Err, refl, sym, ap, subst, ◌∙◌, arith}
 use Rattle.std.specs.Prelude.{slice_get, option_and_then, MatchOption}
 use Rattle.std.proofs.lemmas.Bool.{eqb-true, eq-eqb}
 use Rattle.std.proofs.lemmas.Option.{slice_get-get_or}
@@ -10,7 +10,7 @@ use Rattle.replica_core.specs.Facts.{RowFacts}
 use Rattle.replica_core.specs.declared.row.Input.{Input}
 use Rattle.byz_world.specs.declared.fault.WorldFault.TheVariants as faults
 use Rattle.byz_world.specs.Handing.{AreFrom, MemberSteps, UnlessMemory, index_in}
-use Rattle.byz_world.specs.Worlds.{Answer, Comes, Hands, MemberFacts, Passes, WorldFacts, member_of}
+use Rattle.byz_world.specs.Worlds.{Answer, Comes, Hands, MemberFacts, Passes, WorldFacts}
 
 at_least : (c : Configuration) (low : ℕ) (ms : List MemberFacts) (i : ℕ) (d : MemberFacts) → AreFrom c low ms → i < length ms → low ≤ (get_or ms i d).replica.me
 at_least c low [] i d are below = absurd (omega arith)

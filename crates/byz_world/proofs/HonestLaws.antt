@@ -9,8 +9,8 @@ use Rattle.host_types.specs.Configuration.{Configuration, IsConfiguration, repli
 use Rattle.lms_tree.specs.Keys.{IsKeyOf}
 use Rattle.pbft_codec.specs.declared.signed.Role.TheVariants as roles
 use Rattle.pbft_model.specs.Core.{Core, start_of}
-use Rattle.pbft_model.specs.Histories.{IsCorrect, IsIn}
-use Rattle.pbft_model.specs.Journals.{Agrees, ComesTo, IsHonestFamily, Journals}
+use Rattle.pbft_model.specs.Histories.{IsIn}
+use Rattle.pbft_model.specs.Journals.{Agrees, ComesTo, Journals}
 use Rattle.pbft_model.specs.Rows.{IsLawfulFrom, IsListed, IsNext, Row}
 use Rattle.pbft_model.specs.Setup.{Setup}
 use Rattle.pbft_model.specs.Words.{SigningState}
@@ -20,7 +20,7 @@ use Rattle.seal.specs.declared.fault.SealFault.{SealFault}
 use Rattle.seal.specs.Signers.{key_of}
 use Rattle.view_change.specs.Setups.{setup_of}
 use Rattle.replica_core.specs.Facts.{RowFacts, row_of}
-use Rattle.replica_core.specs.Steps.{Goes, ReplicaFacts, Stops, StopsFrom}
+use Rattle.replica_core.specs.Steps.{Goes, ReplicaFacts, StopsFrom}
 use Rattle.replica_core.specs.declared.halt.Halt.{Halt}
 use Rattle.replica_core.specs.declared.row.Input.{Input}
 use Rattle.replica_core.specs.declared.row.Input.TheVariants as inputs

@@ -1,12 +1,12 @@
 -- Internal: an input at one correct replica, and what holds of every world.
-use Rattle.std.specs.Prelude.{◌≡◌, ℕ, ◌==◌, ◌+◌, ◌≤◌, List, [], ◌∷◌, ◌++◌, position, Option, Some, None, Result, Ok, Err}
+use Rattle.std.specs.Prelude.{◌≡◌, ℕ, ◌==◌, ◌+◌, ◌≤◌, List, [], ◌∷◌, ◌++◌, position, Option, Some, None, Ok, Err}
 use Rattle.host_types.specs.Configuration.{Configuration, IsConfiguration}
 use Rattle.replica_core.specs.Facts.{RowFacts}
-use Rattle.replica_core.specs.Steps.{Goes, ReplicaFacts, Stops}
+use Rattle.replica_core.specs.Steps.{Goes, Stops}
 use Rattle.replica_core.specs.declared.halt.Halt.{Halt}
 use Rattle.replica_core.specs.declared.row.Input.{Input}
 use Rattle.byz_world.specs.declared.fault.WorldFault.TheVariants as faults
-use Rattle.byz_world.specs.Worlds.{Answer, MemberFacts, WorldFacts}
+use Rattle.byz_world.specs.Worlds.{Answer, MemberFacts}
 
 -- What holds, unless memory ran out.
 abbrev pub UnlessMemory : Answer → Type 0 → Type 0

@@ -1,5 +1,5 @@
 -- Statement: replicas under events: what an event gives, what the correct replicas did, and when they agree.
-use Rattle.std.specs.Prelude.{◌≡◌, ℕ, ◌<◌, ◌≤◌, ◌==◌, Bool, true, false, not, nat_lt, List, [], ◌∷◌, ◌++◌, find, map, filter, flat_map, length, slice_get, option_and_then, Option, Some, None, IsSomeAnd, Result, Ok, Err, if◌then◌else◌, MatchOption, ◌⊎◌}
+use Rattle.std.specs.Prelude.{◌≡◌, ℕ, ◌≤◌, ◌==◌, Bool, true, false, not, nat_lt, List, [], ◌∷◌, ◌++◌, find, map, filter, flat_map, slice_get, option_and_then, Option, Some, None, IsSomeAnd, Result, Ok, Err, if◌then◌else◌, MatchOption, ◌⊎◌}
 use Rattle.std.specs.List.{range_with_len}
 use Rattle.host_types.specs.Configuration.{Configuration, replicas_for}
 use Rattle.lms_tree.specs.Keys.{IsKeyOf}

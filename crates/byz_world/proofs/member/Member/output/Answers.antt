@@ -1,4 +1,4 @@
-use Rattle.std.proofs.Common.{◌≡◌, ℕ, ◌+◌, ◌-◌, ◌≤◌, arith, drop, List, get_or, length, sym, ap, subst, ◌<◌, ◌∙◌}
+use Rattle.std.proofs.Common.{◌≡◌, ◌+◌, ◌-◌, ◌≤◌, arith, drop, List, get_or, length, sym, ap, subst, ◌<◌, ◌∙◌}
 use Rattle.std.specs.Prelude.{slice_get}
 use Rattle.replica_core.specs.Facts.{RowFacts}
 use Rattle.replica_core.specs.declared.row.Output.{Output}

@@ -1,7 +1,7 @@
-use Rattle.std.proofs.Common.{◌≡◌, List, eqb, set, sym, ap, subst, ◌∙◌}
+use Rattle.std.proofs.Common.{◌≡◌, eqb, set, sym, ap, subst, ◌∙◌}
 use Rattle.std.proofs.lemmas.List.Quantifiers.{position-Some}
 use Rattle.replica_core.specs.declared.row.Input.TheVariants as inputs
-use Rattle.byz_world.specs.Handing.{AreFrom, UnlessMemory, index_in}
+use Rattle.byz_world.specs.Handing.{UnlessMemory, index_in}
 use Rattle.byz_world.specs.Worlds.{Comes, MemberFacts, WorldFacts}
 use Rattle.byz_world.proofs.HandingLaws.{comes_at, comes_none, config_at, members_kept}
 use Rattle.byz_world.proofs.world.World.hand.Goals as goal

@@ -1,9 +1,8 @@
-use Rattle.std.proofs.Common.{◌≡◌, List, set, sym, ap, subst, ◌∙◌}
-use Rattle.std.proofs.lemmas.List.Quantifiers.{position-Some}
+use Rattle.std.proofs.Common.{◌≡◌, set, sym, ap, subst, ◌∙◌}
 use Rattle.replica_core.specs.declared.row.Input.TheVariants as inputs
-use Rattle.byz_world.specs.Handing.{AreFrom, UnlessMemory, index_in}
-use Rattle.byz_world.specs.Worlds.{Comes, MemberFacts, WorldFacts}
-use Rattle.byz_world.proofs.HandingLaws.{comes_at, comes_none, config_at, members_kept}
+use Rattle.byz_world.specs.Handing.{UnlessMemory, index_in}
+use Rattle.byz_world.specs.Worlds.{Comes, WorldFacts}
+use Rattle.byz_world.proofs.HandingLaws.{comes_at, comes_none, members_kept}
 use Rattle.byz_world.proofs.world.World.hand_timeout.Goals as goal
 
 pub returns-in_default-clause-given : goal.returns-in_default-clause-given
