@@ -134,7 +134,7 @@ fn access(numbers: &mut Numbers) -> [u8; 8] {
 }
 
 /// Loads and stores, behind stores over the last 128 bytes of the frame.
-fn accesses(alloc: Global, count: u32) -> Result<Program, AllocError> {
+pub fn accesses(alloc: Global, count: u32) -> Result<Program, AllocError> {
     let mut numbers = Numbers(2);
     let mut code = with_registers(alloc)?;
     for index in 1..17i16 {

@@ -1,6 +1,6 @@
 //! Runs of the programs, and their times.
 
-use crate::programs::{Program, all, joins, straight, tests, two_calls_each};
+use crate::programs::{Program, accesses, all, joins, straight, tests, two_calls_each};
 use anyhow::{Result, anyhow};
 use bpf_machine::run;
 use bpf_verifier::{Procedure, VerifyFault, verify};
@@ -157,16 +157,18 @@ fn keeps_visits(rt: &HostRuntime) -> Result<bool> {
     Ok(visit <= slot.saturating_mul(VISIT))
 }
 
-/// Prints what the verifier takes for a slot of tests that it decides, and of tests whose edges join, and
-/// for a visit of code with calls; an error where it is too much.
+/// Prints what the verifier takes for a slot of tests that it decides, of tests whose edges join, and of
+/// loads and stores, and for a visit of code with calls; an error where it is too much.
 pub fn print_verification(rt: &HostRuntime) -> Result<()> {
     let alloc = rt.alloc();
     let (short, long) = (tests(alloc, "short", 123)?, tests(alloc, "long", 507)?);
     let decided = keeps_limits(rt, "decided tests", &short, &long)?;
     let (short, long) = (joins(alloc, "short", 123)?, joins(alloc, "long", 507)?);
     let joined = keeps_limits(rt, "tests with joins", &short, &long)?;
+    let (short, long) = (accesses(alloc, 230)?, accesses(alloc, 998)?);
+    let accessed = keeps_limits(rt, "loads and stores", &short, &long)?;
     let visits = keeps_visits(rt)?;
-    if decided && joined && visits {
+    if decided && joined && accessed && visits {
         Ok(())
     } else {
         Err(anyhow!("a limit is passed"))
