@@ -1,6 +1,6 @@
 //! Opcode bytes, and what they stand for.
 
-ghost use Rattle.std.specs.Prelude.{◌≡◌, ◌<◌, ◌==◌, true, false, find, pos, Some, IfSome};
+ghost use Rattle.std.specs.Prelude.{◌≡◌, ◌⊎◌, ◌<◌, ◌==◌, true, false, find, pos, Some, IfSome};
 ghost use Rattle.std.specs.Option.{option_map};
 ghost use Rattle.bpf_decode.specs.Opcodes.{opcode_byte, opcode_of, alu_opcode, test_opcode, load_opcode, stored_size, memory_opcode, single_opcodes, class_bits, jump_class, source_bit, operation_bits, test_bits, size_bits, widths, sources, narrows, operations, tests, sizes, short_sizes, variant_of, has_form, uses_offset, has_operand, operation_of, offset_of, swap_width};
 ghost use Rattle.bpf_num.specs.ByteSwap.{swap_bits};
@@ -93,10 +93,8 @@ impl Opcode {
             0x3 => Some(Opcode::Store {
                 size: stored_size(byte / 32, byte / 8 % 4)?,
             }),
-            0x4 => alu_opcode(AluWidth::W32, byte / 8 % 2, byte / 16),
-            0x5 => test_opcode(false, byte / 8 % 2, byte / 16),
-            0x6 => test_opcode(true, byte / 8 % 2, byte / 16),
-            0x7 => alu_opcode(AluWidth::W64, byte / 8 % 2, byte / 16),
+            class @ (0x4 | 0x7) => alu_opcode(width_of(class), byte / 8 % 2, byte / 16),
+            class @ (0x5 | 0x6) => test_opcode(is_narrow(class), byte / 8 % 2, byte / 16),
             _ => None,
         }
     }
@@ -300,6 +298,26 @@ fn single_opcode(byte: u8) -> Option<Opcode>
     }
 }
 
+/// The width of a class of arithmetic.
+fn width_of(class: u8) -> AluWidth
+    requires { (class ≡ 0x4) ⊎ (class ≡ 0x7) }
+    ensures { class_bits result ≡ class }
+{
+    if class == 0x4 {
+        AluWidth::W32
+    } else {
+        AluWidth::W64
+    }
+}
+
+/// Whether a class of tests is that of low halves.
+fn is_narrow(class: u8) -> bool
+    requires { (class ≡ 0x5) ⊎ (class ≡ 0x6) }
+    ensures { jump_class result ≡ class }
+{
+    class == 0x6
+}
+
 fn negation(width: AluWidth) -> Opcode
     ensures { result ≡ Alu width Neg K }
 {
@@ -405,6 +423,7 @@ fn source_bit(source: SourceKind) -> u8
     }
 }
 
+#[inline(never)]
 fn operation_of(bits: u8) -> Option<Operation>
     ensures { result ≡ find (λ o. operation_bits o == bits) operations }
 {
@@ -445,6 +464,7 @@ fn operation_bits(operation: Operation) -> u8
     }
 }
 
+#[inline(never)]
 fn test_of(bits: u8) -> Option<Test>
     ensures { result ≡ find (λ t. test_bits t == bits) tests }
 {
