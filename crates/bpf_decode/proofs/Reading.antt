@@ -4,7 +4,6 @@ use Rattle.std.specs.Prelude.{Result, Ok, Err, IfErr, ◌||◌, ◌&&◌, not, �
 use Rattle.std.proofs.lemmas.Bool.{le-ltb}
 use Rattle.bpf_num.specs.declared.AluOp.{AluOp}
 use Rattle.bpf_num.specs.declared.AluWidth.{AluWidth}
-use Rattle.bpf_decode.specs.declared.insn.Insn.{Insn}
 use Rattle.bpf_decode.specs.declared.insn.Insn.TheVariants as insn
 use Rattle.bpf_decode.specs.declared.insn.Reg.{Reg}
 use Rattle.bpf_decode.specs.declared.insn.Source.TheVariants as source
@@ -26,9 +25,9 @@ fault_is : (o : Opcode) (s : Slot) (b : Option Slot) (f : DecodeFault) → opcod
 fault_is o s b f e d r h =
     ap (λ (p : Option Opcode). fault_of p s b) e ∙ rw (le-ltb 10 s.dst d, le-ltb 10 s.src r) h
 
-pub refused_by : (r : Result Insn DecodeFault) (o : Opcode) (s : Slot) (b : Option Slot) → opcode_of s.opcode ≡ Some o → s.dst ≤ 10 → s.src ≤ 10 → IfErr r (λ f. form_fault o s b ≡ Some f) → IfErr r (λ f. slot_fault s b ≡ Some f)
-refused_by (Ok insn) o s b e d r h = tt
-refused_by (Err f) o s b e d r h = fault_is o s b f e d r h
+pub refused_by : (A : Type 0) (r : Result A DecodeFault) (o : Opcode) (s : Slot) (b : Option Slot) → opcode_of s.opcode ≡ Some o → s.dst ≤ 10 → s.src ≤ 10 → IfErr r (λ f. form_fault o s b ≡ Some f) → IfErr r (λ f. slot_fault s b ≡ Some f)
+refused_by A (Ok x) o s b e d r h = tt
+refused_by A (Err f) o s b e d r h = fault_is o s b f e d r h
 
 pub or_false : (p q : Bool) → (p || q) ≡ false → (p ≡ false) × (q ≡ false)
 or_false true q h = absurd cc

@@ -48,21 +48,21 @@ fn read_code(alloc: Global, bytes: &[u8]) -> Result<Vec<Insn>, Refusal>
     let mut code = Vec::with_capacity(alloc, slots)?;
     let mut slot = 0;
     while slot < slots {
-        let insn = read_insn(bytes, slot)?;
-        code.push(insn)?;
-        slot += insn.slots();
+        let at = code.len();
+        code.push(Insn::Exit)?;
+        read_insn(bytes, slot, &mut code[at])?;
+        slot += code[at].slots();
     }
     Ok(code)
 }
 
-/// The instruction that the slots from this one on encode, or the slot's first fault.
-fn read_insn(bytes: &[u8], slot: usize) -> Result<Insn, Refusal>
+/// Puts the instruction that the slots from this one on encode in its place; or the slot's first fault.
+fn read_insn(bytes: &[u8], slot: usize, insn: &mut Insn) -> Result<(), Refusal>
     requires within { 8 * slot + 8 ≤ length bytes.now }
     requires whole { length bytes.now % 8 ≡ 0 }
     requires few { slot < 1024 }
-    ensures found { IfOk result (λ insn. EncodesAt bytes.now slot insn) }
-    ensures fits { IfOk result (λ insn.
-        8 * slot + 8 * length (insn_slots insn) ≤ length bytes.now) }
+    ensures found { OnOk result (EncodesAt bytes.now slot insn.new) }
+    ensures fits { OnOk result (8 * slot + 8 * length (insn_slots insn.new) ≤ length bytes.now) }
     ensures refused { IfErr result (λ refusal.
         (refusal.slot ≡ slot) × FaultyAt bytes.now refusal.fault slot) }
 {
@@ -73,8 +73,8 @@ fn read_insn(bytes: &[u8], slot: usize) -> Result<Insn, Refusal>
     } else {
         None
     };
-    match first.to_insn(behind) {
-        Ok(insn) => Ok(insn),
+    match first.read(behind, insn) {
+        Ok(()) => Ok(()),
         Err(fault) => Err(Refusal {
             fault,
             slot: slot as u32,

@@ -1,6 +1,6 @@
 //! Slots as fields: between their bytes and the instructions that they encode.
 
-ghost use Rattle.std.specs.Prelude.{◌≡◌, length, ◌≤◌, ◌/◌, ◌%◌, ◌^◌, IfOk, IfErr, IfSome, Some, Option};
+ghost use Rattle.std.specs.Prelude.{◌≡◌, length, ◌≤◌, ◌/◌, ◌%◌, ◌^◌, OnOk, IfErr, IfSome, Some, Option};
 ghost use Rattle.bpf_num.specs.declared.AluWidth.{AluWidth};
 ghost use Rattle.bpf_decode.specs.declared.slot.Slot.{Slot};
 ghost use Rattle.bpf_decode.specs.declared.opcode.Opcode.TheVariants as opcode;
@@ -68,12 +68,13 @@ impl Slot {
         ]
     }
 
-    /// The instruction whose first slot this is, before the slot behind it; or the slot's first
-    /// fault.
-    pub fn to_insn(self, behind: Option<Slot>) -> Result<Insn, DecodeFault>
+    /// Puts the instruction whose first slot this is, before the slot behind it, in its place; or the
+    /// slot's first fault, and the instruction in that place is then any. It is written where it
+    /// stays, since to hand it over costs as much as to read it.
+    pub fn read(self, behind: Option<Slot>, insn: &mut Insn) -> Result<(), DecodeFault>
         requires fits { IsSlot self }
         requires behind_fits { IfSome behind (λ slot. IsSlot slot) }
-        ensures found { IfOk result (λ insn. Reads self behind insn) }
+        ensures found { OnOk result (Reads self behind insn.new) }
         ensures refused { IfErr result (λ fault. slot_fault self behind ≡ Some fault) }
     {
         let Some(opcode) = Opcode::of(self.opcode) else {
@@ -87,21 +88,21 @@ impl Slot {
                 width,
                 operation,
                 source,
-            } => self.alu(behind, width, operation, source, dst, src),
-            Opcode::Swap { kind } => self.swap(behind, kind, dst),
-            Opcode::LoadImm => self.load_imm(behind, dst),
-            Opcode::Load { size, signed } => self.load(behind, size, signed, dst, src),
-            Opcode::StoreImm { size } => self.store_imm(behind, size, dst),
-            Opcode::Store { size } => self.store(behind, size, dst, src),
-            Opcode::Jump => self.jump(behind),
-            Opcode::JumpLong => self.jump_long(behind),
+            } => self.alu(behind, width, operation, source, dst, src, insn),
+            Opcode::Swap { kind } => self.swap(behind, kind, dst, insn),
+            Opcode::LoadImm => self.load_imm(behind, dst, insn),
+            Opcode::Load { size, signed } => self.load(behind, size, signed, dst, src, insn),
+            Opcode::StoreImm { size } => self.store_imm(behind, size, dst, insn),
+            Opcode::Store { size } => self.store(behind, size, dst, src, insn),
+            Opcode::Jump => self.jump(behind, insn),
+            Opcode::JumpLong => self.jump_long(behind, insn),
             Opcode::Test {
                 narrow,
                 test,
                 source,
-            } => self.test(behind, narrow, test, source, dst, src),
-            Opcode::Call => self.call(behind),
-            Opcode::Exit => self.exit(behind),
+            } => self.test(behind, narrow, test, source, dst, src, insn),
+            Opcode::Call => self.call(behind, insn),
+            Opcode::Exit => self.exit(behind, insn),
         }
     }
 
@@ -113,13 +114,14 @@ impl Slot {
         source: SourceKind,
         dst: Reg,
         src: Reg,
-    ) -> Result<Insn, DecodeFault>
+        insn: &mut Insn,
+    ) -> Result<(), DecodeFault>
         requires fits { IsSlot self }
         requires opcode { self.opcode ≡ opcode_byte (opcode.Alu width operation source) }
         requires dst { dst.number ≡ self.dst }
         requires src { src.number ≡ self.src }
         requires form { IsOpcode (opcode.Alu width operation source) }
-        ensures found { IfOk result (λ insn. Reads self behind insn) }
+        ensures found { OnOk result (Reads self behind insn.new) }
         ensures refused { IfErr result (λ fault.
             form_fault (opcode.Alu width operation source) self behind ≡ Some fault) }
     {
@@ -133,12 +135,13 @@ impl Slot {
             SourceKind::K => Source::Imm(self.imm),
             SourceKind::X => Source::Reg(src),
         };
-        Ok(Insn::Alu {
+        *insn = Insn::Alu {
             width,
             op,
             dst,
             src,
-        })
+        };
+        Ok(())
     }
 
     /// Whether an arithmetic instruction has a field without a use that is not zero.
@@ -155,11 +158,17 @@ impl Slot {
         }
     }
 
-    fn swap(self, behind: Option<Slot>, kind: SwapKind, dst: Reg) -> Result<Insn, DecodeFault>
+    fn swap(
+        self,
+        behind: Option<Slot>,
+        kind: SwapKind,
+        dst: Reg,
+        insn: &mut Insn,
+    ) -> Result<(), DecodeFault>
         requires fits { IsSlot self }
         requires opcode { self.opcode ≡ opcode_byte (opcode.Swap kind) }
         requires dst { dst.number ≡ self.dst }
-        ensures found { IfOk result (λ insn. Reads self behind insn) }
+        ensures found { OnOk result (Reads self behind insn.new) }
         ensures refused { IfErr result (λ fault.
             form_fault (opcode.Swap kind) self behind ≡ Some fault) }
     {
@@ -169,15 +178,16 @@ impl Slot {
         if self.src != 0 || self.offset != 0 {
             return Err(DecodeFault::FieldNotZero);
         }
-        Ok(Insn::Swap { kind, width, dst })
+        *insn = Insn::Swap { kind, width, dst };
+        Ok(())
     }
 
-    fn load_imm(self, behind: Option<Slot>, dst: Reg) -> Result<Insn, DecodeFault>
+    fn load_imm(self, behind: Option<Slot>, dst: Reg, insn: &mut Insn) -> Result<(), DecodeFault>
         requires fits { IsSlot self }
         requires opcode { self.opcode ≡ opcode_byte (opcode.LoadImm) }
         requires dst { dst.number ≡ self.dst }
         requires behind_fits { IfSome behind (λ slot. IsSlot slot) }
-        ensures found { IfOk result (λ insn. Reads self behind insn) }
+        ensures found { OnOk result (Reads self behind insn.new) }
         ensures refused { IfErr result (λ fault.
             form_fault (opcode.LoadImm) self behind ≡ Some fault) }
     {
@@ -188,7 +198,8 @@ impl Slot {
             return Err(DecodeFault::FieldNotZero);
         }
         let value = wide_value(self.imm, half.imm);
-        Ok(Insn::LoadImm { dst, value })
+        *insn = Insn::LoadImm { dst, value };
+        Ok(())
     }
 
     fn load(
@@ -198,45 +209,54 @@ impl Slot {
         signed: bool,
         dst: Reg,
         base: Reg,
-    ) -> Result<Insn, DecodeFault>
+        insn: &mut Insn,
+    ) -> Result<(), DecodeFault>
         requires fits { IsSlot self }
         requires opcode { self.opcode ≡ opcode_byte (opcode.Load size signed) }
         requires dst { dst.number ≡ self.dst }
         requires base { base.number ≡ self.src }
         requires form { IsLoad size signed }
-        ensures found { IfOk result (λ insn. Reads self behind insn) }
+        ensures found { OnOk result (Reads self behind insn.new) }
         ensures refused { IfErr result (λ fault.
             form_fault (opcode.Load size signed) self behind ≡ Some fault) }
     {
         if self.imm != 0 {
             return Err(DecodeFault::FieldNotZero);
         }
-        Ok(Insn::Load {
+        *insn = Insn::Load {
             size,
             signed,
             dst,
             base,
             offset: self.offset,
-        })
+        };
+        Ok(())
     }
 
-    fn store_imm(self, behind: Option<Slot>, size: Size, base: Reg) -> Result<Insn, DecodeFault>
+    fn store_imm(
+        self,
+        behind: Option<Slot>,
+        size: Size,
+        base: Reg,
+        insn: &mut Insn,
+    ) -> Result<(), DecodeFault>
         requires fits { IsSlot self }
         requires opcode { self.opcode ≡ opcode_byte (opcode.StoreImm size) }
         requires base { base.number ≡ self.dst }
-        ensures found { IfOk result (λ insn. Reads self behind insn) }
+        ensures found { OnOk result (Reads self behind insn.new) }
         ensures refused { IfErr result (λ fault.
             form_fault (opcode.StoreImm size) self behind ≡ Some fault) }
     {
         if self.src != 0 {
             return Err(DecodeFault::FieldNotZero);
         }
-        Ok(Insn::StoreImm {
+        *insn = Insn::StoreImm {
             size,
             base,
             offset: self.offset,
             imm: self.imm,
-        })
+        };
+        Ok(())
     }
 
     fn store(
@@ -245,52 +265,56 @@ impl Slot {
         size: Size,
         base: Reg,
         src: Reg,
-    ) -> Result<Insn, DecodeFault>
+        insn: &mut Insn,
+    ) -> Result<(), DecodeFault>
         requires fits { IsSlot self }
         requires opcode { self.opcode ≡ opcode_byte (opcode.Store size) }
         requires base { base.number ≡ self.dst }
         requires src { src.number ≡ self.src }
-        ensures found { IfOk result (λ insn. Reads self behind insn) }
+        ensures found { OnOk result (Reads self behind insn.new) }
         ensures refused { IfErr result (λ fault.
             form_fault (opcode.Store size) self behind ≡ Some fault) }
     {
         if self.imm != 0 {
             return Err(DecodeFault::FieldNotZero);
         }
-        Ok(Insn::Store {
+        *insn = Insn::Store {
             size,
             base,
             offset: self.offset,
             src,
-        })
+        };
+        Ok(())
     }
 
-    fn jump(self, behind: Option<Slot>) -> Result<Insn, DecodeFault>
+    fn jump(self, behind: Option<Slot>, insn: &mut Insn) -> Result<(), DecodeFault>
         requires fits { IsSlot self }
         requires opcode { self.opcode ≡ opcode_byte (opcode.Jump) }
-        ensures found { IfOk result (λ insn. Reads self behind insn) }
+        ensures found { OnOk result (Reads self behind insn.new) }
         ensures refused { IfErr result (λ fault.
             form_fault (opcode.Jump) self behind ≡ Some fault) }
     {
         if self.dst != 0 || self.src != 0 || self.imm != 0 {
             return Err(DecodeFault::FieldNotZero);
         }
-        Ok(Insn::Jump {
+        *insn = Insn::Jump {
             offset: self.offset,
-        })
+        };
+        Ok(())
     }
 
-    fn jump_long(self, behind: Option<Slot>) -> Result<Insn, DecodeFault>
+    fn jump_long(self, behind: Option<Slot>, insn: &mut Insn) -> Result<(), DecodeFault>
         requires fits { IsSlot self }
         requires opcode { self.opcode ≡ opcode_byte (opcode.JumpLong) }
-        ensures found { IfOk result (λ insn. Reads self behind insn) }
+        ensures found { OnOk result (Reads self behind insn.new) }
         ensures refused { IfErr result (λ fault.
             form_fault (opcode.JumpLong) self behind ≡ Some fault) }
     {
         if self.dst != 0 || self.src != 0 || self.offset != 0 {
             return Err(DecodeFault::FieldNotZero);
         }
-        Ok(Insn::JumpLong { offset: self.imm })
+        *insn = Insn::JumpLong { offset: self.imm };
+        Ok(())
     }
 
     fn test(
@@ -301,12 +325,13 @@ impl Slot {
         source: SourceKind,
         dst: Reg,
         src: Reg,
-    ) -> Result<Insn, DecodeFault>
+        insn: &mut Insn,
+    ) -> Result<(), DecodeFault>
         requires fits { IsSlot self }
         requires opcode { self.opcode ≡ opcode_byte (opcode.Test narrow test source) }
         requires dst { dst.number ≡ self.dst }
         requires src { src.number ≡ self.src }
-        ensures found { IfOk result (λ insn. Reads self behind insn) }
+        ensures found { OnOk result (Reads self behind insn.new) }
         ensures refused { IfErr result (λ fault.
             form_fault (opcode.Test narrow test source) self behind ≡ Some fault) }
     {
@@ -317,19 +342,20 @@ impl Slot {
         if stray {
             return Err(DecodeFault::FieldNotZero);
         }
-        Ok(Insn::Test {
+        *insn = Insn::Test {
             narrow,
             test,
             dst,
             src: operand,
             offset: self.offset,
-        })
+        };
+        Ok(())
     }
 
-    fn call(self, behind: Option<Slot>) -> Result<Insn, DecodeFault>
+    fn call(self, behind: Option<Slot>, insn: &mut Insn) -> Result<(), DecodeFault>
         requires fits { IsSlot self }
         requires opcode { self.opcode ≡ opcode_byte (opcode.Call) }
-        ensures found { IfOk result (λ insn. Reads self behind insn) }
+        ensures found { OnOk result (Reads self behind insn.new) }
         ensures refused { IfErr result (λ fault.
             form_fault (opcode.Call) self behind ≡ Some fault) }
     {
@@ -337,23 +363,25 @@ impl Slot {
             return Err(DecodeFault::FieldNotZero);
         }
         match self.src {
-            0 => Ok(Insn::CallHelper { helper: self.imm }),
-            1 => Ok(Insn::CallLocal { offset: self.imm }),
-            _ => Err(DecodeFault::FieldNotZero),
+            0 => *insn = Insn::CallHelper { helper: self.imm },
+            1 => *insn = Insn::CallLocal { offset: self.imm },
+            _ => return Err(DecodeFault::FieldNotZero),
         }
+        Ok(())
     }
 
-    fn exit(self, behind: Option<Slot>) -> Result<Insn, DecodeFault>
+    fn exit(self, behind: Option<Slot>, insn: &mut Insn) -> Result<(), DecodeFault>
         requires fits { IsSlot self }
         requires opcode { self.opcode ≡ opcode_byte (opcode.Exit) }
-        ensures found { IfOk result (λ insn. Reads self behind insn) }
+        ensures found { OnOk result (Reads self behind insn.new) }
         ensures refused { IfErr result (λ fault.
             form_fault (opcode.Exit) self behind ≡ Some fault) }
     {
         if self.dst != 0 || self.src != 0 || self.offset != 0 || self.imm != 0 {
             return Err(DecodeFault::FieldNotZero);
         }
-        Ok(Insn::Exit)
+        *insn = Insn::Exit;
+        Ok(())
     }
 
     /// Whether the second slot of a wide instruction holds more than its immediate.

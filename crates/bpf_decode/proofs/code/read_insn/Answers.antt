@@ -11,7 +11,7 @@ use Rattle.bpf_decode.proofs.code.read_insn.Goals.{then-first-eq-WIDE, else-firs
 pub returns-in-Ok-clause-found : goal.returns-in-Ok-clause-found
 returns-in-Ok-clause-found c =
     let s = c.slot_at-first.result in
-    let x = c.in-Ok.insn in
+    let x = c.read.new.insn in
     elim c.if-first-eq-WIDE.branch [
       | then-first-eq-WIDE w ↦ read_encodes c.args.bytes.now c.args.slot s w.slot_behind-behind.result x c.slot_at-first.ensures w.slot_behind-behind.ensures.behind (subst (λ (o : Option Slot). Reads s o x) w.behind-is c.in-Ok.ensures.found)
       | else-first-eq-WIDE w ↦ narrow_encodes c.args.bytes.now (λ i. Fits-lt-pow (c.type_inv.bytes i)) c.args.slot c.requires.within c.requires.whole s c.slot_at-first.ensures w.if-first-eq-WIDE.false c.if-first-eq-WIDE.behind w.behind-is x c.in-Ok.ensures.found
