@@ -50,31 +50,32 @@ fn read_code(alloc: Global, bytes: &[u8]) -> Result<Vec<Insn>, Refusal>
     while slot < slots {
         let at = code.len();
         code.push(Insn::Exit)?;
-        read_insn(bytes, slot, &mut code[at])?;
-        slot += code[at].slots();
+        slot += read_insn(bytes, slot, &mut code[at])?;
     }
     Ok(code)
 }
 
-/// Puts the instruction that the slots from this one on encode in its place; or the slot's first fault.
-fn read_insn(bytes: &[u8], slot: usize, insn: &mut Insn) -> Result<(), Refusal>
+/// Puts the instruction that the slots from this one on encode in its place, and returns how many they
+/// are; or the slot's first fault.
+fn read_insn(bytes: &[u8], slot: usize, insn: &mut Insn) -> Result<usize, Refusal>
     requires within { 8 * slot + 8 ≤ length bytes.now }
     requires whole { length bytes.now % 8 ≡ 0 }
     requires few { slot < 1024 }
-    ensures found { OnOk result (EncodesAt bytes.now slot insn.new) }
-    ensures fits { OnOk result (8 * slot + 8 * length (insn_slots insn.new) ≤ length bytes.now) }
+    ensures found { IfOk result (λ slots. EncodesAt bytes.now slot insn.new) }
+    ensures slots { IfOk result (λ slots. slots ≡ length (insn_slots insn.new)) }
+    ensures fits { IfOk result (λ slots. 8 * slot + 8 * slots ≤ length bytes.now) }
     ensures refused { IfErr result (λ refusal.
         (refusal.slot ≡ slot) × FaultyAt bytes.now refusal.fault slot) }
 {
     let first = slot_at(bytes, slot);
     // Only a wide instruction has a second slot.
-    let behind = if first.opcode == WIDE {
-        slot_behind(bytes, slot)
+    let (behind, slots) = if first.opcode == WIDE {
+        (slot_behind(bytes, slot), 2)
     } else {
-        None
+        (None, 1)
     };
     match first.read(behind, insn) {
-        Ok(()) => Ok(()),
+        Ok(()) => Ok(slots),
         Err(fault) => Err(Refusal {
             fault,
             slot: slot as u32,
