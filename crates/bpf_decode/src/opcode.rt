@@ -1,11 +1,13 @@
 //! Opcode bytes, and what they stand for.
 
-ghost use Rattle.std.specs.Prelude.{◌≡◌, ◌⊎◌, ◌<◌, ◌==◌, true, false, find, pos, Some, IfSome};
+ghost use Rattle.std.specs.Prelude.{◌≡◌, ◌⊎◌, ◌<◌, ◌==◌, ℤ, true, false, find, pos, Some, IfSome};
 ghost use Rattle.std.specs.Option.{option_map};
 ghost use Rattle.bpf_decode.specs.Opcodes.{opcode_byte, opcode_of, alu_opcode, test_opcode, load_opcode, stored_size, memory_opcode, single_opcodes, class_bits, jump_class, source_bit, operation_bits, test_bits, size_bits, widths, sources, narrows, operations, tests, sizes, short_sizes, variant_of, has_form, uses_offset, has_operand, operation_of, offset_of, swap_width};
+ghost use Rattle.bpf_num.specs.declared.AluWidth.{AluWidth};
 ghost use Rattle.bpf_num.specs.ByteSwap.{swap_bits};
 ghost use Rattle.bpf_decode.specs.declared.opcode.Opcode.TheVariants.{Alu};
 ghost use Rattle.bpf_decode.specs.declared.opcode.Operation.TheVariants.{Neg, Mov};
+ghost use Rattle.bpf_decode.specs.declared.opcode.SourceKind.{SourceKind};
 ghost use Rattle.bpf_decode.specs.declared.opcode.SourceKind.TheVariants.{K};
 ghost use Rattle.bpf_decode.specs.Parts.{IsOpcode};
 
@@ -156,31 +158,42 @@ pub fn variant(
     ensures offset { IfSome result (λ op. uses_offset operation ≡ true → offset_of op ≡ offset) }
     ensures no_offset { IfSome result (λ op. uses_offset operation ≡ false → offset_of op ≡ pos 0) }
 {
+    if operation == Operation::Neg && source == SourceKind::X {
+        return None;
+    }
+    if offset == 0 || !operation.uses_offset() {
+        return Some(first_variant(operation));
+    }
     match operation {
-        Operation::Add => Some(AluOp::Add),
-        Operation::Sub => Some(AluOp::Sub),
-        Operation::Mul => Some(AluOp::Mul),
-        Operation::Div => match offset {
-            0 => Some(AluOp::Div),
-            1 => Some(AluOp::Sdiv),
-            _ => None,
-        },
-        Operation::Or => Some(AluOp::Or),
-        Operation::And => Some(AluOp::And),
-        Operation::Lsh => Some(AluOp::Lsh),
-        Operation::Rsh => Some(AluOp::Rsh),
-        Operation::Neg => match source {
-            SourceKind::K => Some(AluOp::Neg),
-            SourceKind::X => None,
-        },
-        Operation::Mod => match offset {
-            0 => Some(AluOp::Mod),
-            1 => Some(AluOp::Smod),
-            _ => None,
-        },
-        Operation::Xor => Some(AluOp::Xor),
+        Operation::Div if offset == 1 => Some(AluOp::Sdiv),
+        Operation::Mod if offset == 1 => Some(AluOp::Smod),
         Operation::Mov => move_variant(width, source, offset),
-        Operation::Arsh => Some(AluOp::Arsh),
+        _ => None,
+    }
+}
+
+/// The variant of an operation that has the offset 0, or of one whose offset has no use the only one.
+fn first_variant(operation: Operation) -> AluOp
+    ensures found { (width : AluWidth) (source : SourceKind) (offset : ℤ) →
+        (operation ≡ Neg → source ≡ K) → (uses_offset operation ≡ true → offset ≡ pos 0) →
+        variant_of width operation source offset ≡ Some result }
+    ensures operation { operation_of result ≡ operation }
+    ensures offset { offset_of result ≡ pos 0 }
+{
+    match operation {
+        Operation::Add => AluOp::Add,
+        Operation::Sub => AluOp::Sub,
+        Operation::Mul => AluOp::Mul,
+        Operation::Div => AluOp::Div,
+        Operation::Or => AluOp::Or,
+        Operation::And => AluOp::And,
+        Operation::Lsh => AluOp::Lsh,
+        Operation::Rsh => AluOp::Rsh,
+        Operation::Neg => AluOp::Neg,
+        Operation::Mod => AluOp::Mod,
+        Operation::Xor => AluOp::Xor,
+        Operation::Mov => AluOp::Mov,
+        Operation::Arsh => AluOp::Arsh,
     }
 }
 
