@@ -46,12 +46,14 @@ fn read_code(alloc: Global, bytes: &[u8]) -> Result<Vec<Insn>, Refusal>
     }
     let slots = bytes.len() / SLOT;
     let mut code = Vec::with_capacity(alloc, slots)?;
+    code.resize(slots, Insn::Exit)?;
+    let mut count = 0;
     let mut slot = 0;
     while slot < slots {
-        let at = code.len();
-        code.push(Insn::Exit)?;
-        slot += read_insn(bytes, slot, &mut code[at])?;
+        slot += read_insn(bytes, slot, &mut code[count])?;
+        count += 1;
     }
+    code.truncate(count);
     Ok(code)
 }
 
