@@ -1,13 +1,15 @@
 //! The structure of the code: what is wrong with an instruction at its slot, reached or not.
 
-ghost use Rattle.std.specs.Prelude.{◌≡◌, ℕ, ◌≤◌, ◌<◌, List, length, None, OnOk, IfErr};
+ghost use Rattle.std.specs.Prelude.{◌≡◌, ℕ, ◌≤◌, ◌<◌, ◌==◌, nat_le, if◌then◌else◌, List, length, Some, None, OnOk, IfErr};
+ghost use Rattle.std.specs.Option.{is_none};
 ghost use Rattle.bpf_decode.specs.declared.insn.Insn.{Insn};
 ghost use Rattle.bpf_model.specs.Code.{insns_by_slot};
-ghost use Rattle.bpf_model.specs.Verdict.{insn_structure_fault, structure_fault, jumps_back, offset_of, leads_outside, falls_through, calls_unknown, writes_r10, IsFirst};
+ghost use Rattle.bpf_model.specs.Verdict.{insn_structure_fault, structure_fault, is_backward, leads_outside, IsFirst};
+ghost use Rattle.map_helpers.specs.Helpers.{helper_of};
 ghost use Rattle.bpf_verifier.specs.Sweep.{IsStructured};
 
 use crate::slots::{begins_at, target_of};
-use bpf_decode::Insn;
+use bpf_decode::{Insn, Reg};
 use bpf_model::layout::FRAME_POINTER;
 use bpf_model::{Refusal, VerifyFault};
 use map_helpers::Helper;
@@ -38,8 +40,8 @@ fn slot_structure_fault(slots: &[Option<Insn>], slot: usize) -> Option<VerifyFau
     ensures { (code : List Insn) → slots.now ≡ insns_by_slot code → result ≡
         structure_fault code slot }
 {
-    match slots[slot] {
-        Some(insn) => insn_structure_fault(slots, slot, &insn),
+    match &slots[slot] {
+        Some(insn) => insn_structure_fault(slots, slot, insn),
         None => None,
     }
 }
@@ -51,84 +53,99 @@ fn insn_structure_fault(slots: &[Option<Insn>], slot: usize, insn: &Insn) -> Opt
     ensures { (code : List Insn) → slots.now ≡ insns_by_slot code →
         result ≡ insn_structure_fault code slot insn.now }
 {
-    if jumps_back(insn) {
+    match insn {
+        Insn::Alu { dst, .. } | Insn::Swap { dst, .. } | Insn::Load { dst, .. } => {
+            fault_behind(slots, slot + 1).or_else(|| fault_of_write(*dst))
+        }
+        Insn::LoadImm { dst, .. } => fault_behind(slots, slot + 2).or_else(|| fault_of_write(*dst)),
+        Insn::StoreImm { .. } | Insn::Store { .. } => fault_behind(slots, slot + 1),
+        Insn::Jump { offset } => fault_of_jump(slots, slot, i32::from(*offset)),
+        Insn::JumpLong { offset } => fault_of_jump(slots, slot, *offset),
+        Insn::Test { offset, .. } => {
+            fault_of_jump(slots, slot, i32::from(*offset)).or_else(|| fault_behind(slots, slot + 1))
+        }
+        Insn::CallHelper { helper } => {
+            fault_behind(slots, slot + 1).or_else(|| fault_of_helper(*helper))
+        }
+        Insn::CallLocal { offset } => {
+            fault_of_target(slots, slot, *offset).or_else(|| fault_behind(slots, slot + 1))
+        }
+        Insn::Exit => None,
+    }
+}
+
+/// What is wrong with a jump: it leads back, or outside.
+fn fault_of_jump(slots: &[Option<Insn>], slot: usize, offset: i32) -> Option<VerifyFault>
+    requires { slot ≤ 1024 }
+    ensures { (code : List Insn) → slots.now ≡ insns_by_slot code →
+        result ≡ (if is_backward offset then Some VerifyFault.JumpBackward
+        else if leads_outside code slot (Some offset) then Some VerifyFault.JumpOutside
+        else None) }
+{
+    if offset < 0 {
         Some(VerifyFault::JumpBackward)
-    } else if leads_outside(slots, slot, offset_of(insn)) {
+    } else {
+        fault_of_target(slots, slot, offset)
+    }
+}
+
+/// What is wrong with where an offset leads to: no instruction begins there.
+fn fault_of_target(slots: &[Option<Insn>], slot: usize, offset: i32) -> Option<VerifyFault>
+    requires { slot ≤ 1024 }
+    ensures { (code : List Insn) → slots.now ≡ insns_by_slot code →
+        result ≡ (if leads_outside code slot (Some offset) then Some VerifyFault.JumpOutside
+        else None) }
+{
+    if leads_outside(slots, slot, offset) {
         Some(VerifyFault::JumpOutside)
-    } else if falls_through(insn) && slot + insn.slots() >= slots.len() {
-        Some(VerifyFault::FallsOffEnd)
-    } else if calls_unknown(insn) {
-        Some(VerifyFault::UnknownHelper)
-    } else if writes_r10(insn) {
-        Some(VerifyFault::WritesFramePointer)
     } else {
         None
     }
 }
 
-/// Whether an instruction is a jump, or a test, that leads back.
-fn jumps_back(insn: &Insn) -> bool
-    ensures { result ≡ jumps_back insn.now }
-{
-    match insn {
-        Insn::Jump { offset } | Insn::Test { offset, .. } => *offset < 0,
-        Insn::JumpLong { offset } => *offset < 0,
-        _ => false,
-    }
-}
-
-/// The offset of a jump, a test or a local call.
-fn offset_of(insn: &Insn) -> Option<i32>
-    ensures { result ≡ offset_of insn.now }
-{
-    match insn {
-        Insn::Jump { offset } | Insn::Test { offset, .. } => Some(i32::from(*offset)),
-        Insn::JumpLong { offset } | Insn::CallLocal { offset } => Some(*offset),
-        _ => None,
-    }
-}
-
 /// Whether no instruction begins where an offset leads to.
-fn leads_outside(slots: &[Option<Insn>], slot: usize, offset: Option<i32>) -> bool
+fn leads_outside(slots: &[Option<Insn>], slot: usize, offset: i32) -> bool
     requires { slot ≤ 1024 }
     ensures { (code : List Insn) → slots.now ≡ insns_by_slot code → result ≡
-        leads_outside code slot offset }
+        leads_outside code slot (Some offset) }
 {
-    match offset {
-        Some(offset) => match target_of(slot, offset) {
-            Some(target) => !begins_at(slots, target),
-            None => true,
-        },
-        None => false,
+    match target_of(slot, offset) {
+        Some(target) => !begins_at(slots, target),
+        None => true,
     }
 }
 
-/// Whether the slot behind an instruction may run next.
-fn falls_through(insn: &Insn) -> bool
-    ensures { result ≡ falls_through insn.now }
+/// What is wrong with an instruction that falls through to a slot: the code ends before it.
+fn fault_behind(slots: &[Option<Insn>], behind: usize) -> Option<VerifyFault>
+    ensures { result ≡ (if nat_le (length slots.now) behind then Some VerifyFault.FallsOffEnd
+        else None) }
 {
-    !matches!(insn, Insn::Jump { .. } | Insn::JumpLong { .. } | Insn::Exit)
-}
-
-/// Whether an instruction calls a helper that this host doesn't have.
-fn calls_unknown(insn: &Insn) -> bool
-    ensures { result ≡ calls_unknown insn.now }
-{
-    match insn {
-        Insn::CallHelper { helper } => Helper::of(*helper).is_none(),
-        _ => false,
+    if slots.len() <= behind {
+        Some(VerifyFault::FallsOffEnd)
+    } else {
+        None
     }
 }
 
-/// Whether an instruction would write r10, the frame pointer.
-fn writes_r10(insn: &Insn) -> bool
-    ensures { result ≡ writes_r10 insn.now }
+/// What is wrong with a call of a helper: this host doesn't have it.
+fn fault_of_helper(number: i32) -> Option<VerifyFault>
+    ensures { result ≡ (if is_none (helper_of number) then Some VerifyFault.UnknownHelper
+        else None) }
 {
-    match insn {
-        Insn::Alu { dst, .. }
-        | Insn::Swap { dst, .. }
-        | Insn::LoadImm { dst, .. }
-        | Insn::Load { dst, .. } => dst.number == FRAME_POINTER,
-        _ => false,
+    if Helper::of(number).is_none() {
+        Some(VerifyFault::UnknownHelper)
+    } else {
+        None
+    }
+}
+
+/// What is wrong with an instruction that writes a register: it would write r10, the frame pointer.
+fn fault_of_write(dst: Reg) -> Option<VerifyFault>
+    ensures { result ≡ (if dst.number == 10 then Some VerifyFault.WritesFramePointer else None) }
+{
+    if dst.number == FRAME_POINTER {
+        Some(VerifyFault::WritesFramePointer)
+    } else {
+        None
     }
 }
