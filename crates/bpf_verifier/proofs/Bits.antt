@@ -1,68 +1,16 @@
 -- Bytes of the frame as bits of words.
-use Rattle.std.proofs.Common.{◌≡◌, ◌≢◌, ℕ, zero, suc, ◌+◌, ◌*◌, ◌/◌, ◌%◌, ◌^◌, ◌<◌, ◌≤◌, Bool, true, false, ◌&&◌, ◌||◌, not, eqb, leb, ltb, min, max, List, length, replicate, get_or, set, refl, sym, ap, ◌∙◌, arith, inl, inr, bit_and, bit_or}
-use Rattle.std.specs.Int.{w64, bit_at}
+use Rattle.std.proofs.Common.{◌≡◌, ◌≢◌, ℕ, zero, suc, ◌+◌, ◌-◌, ◌*◌, ◌⊎◌, ◌/◌, ◌%◌, ◌^◌, ◌<◌, ◌≤◌, Bool, true, false, ◌&&◌, ◌||◌, not, eqb, leb, ltb, min, max, List, length, replicate, get_or, set, refl, sym, ap, subst, ◌∙◌, arith, inl, inr, bit_and, bit_or}
+use Rattle.std.specs.Int.{bit_at}
 use Rattle.std.proofs.Math.Nat.{le-max_left, le-max_right}
-use Rattle.std.proofs.lemmas.Bool.{eq-eqb, le-leb, lt-leb, lt-ltb, le-ltb, cases_lt}
-use Rattle.std.proofs.lemmas.Bool.Decides.{eqb_tells, leb_tells}
+use Rattle.std.proofs.lemmas.Bool.{eqb-true, eqb-false, le-leb, lt-leb, lt-ltb, le-ltb, cases_lt}
+use Rattle.std.proofs.lemmas.Bool.Decides.{eqb_tells}
 use Rattle.std.proofs.lemmas.List.{ext_get_or, get_or-set_same, get_or-set_other, get_or_default, length-set}
-use Rattle.std.proofs.lemmas.Nat.Bits.{bit_at-zero, bit_at_and, bit_at-lt, bit_at_set_same, bit_at_set_other}
+use Rattle.std.proofs.lemmas.Nat.Bits.{bit_at-zero, bit_at_and, bit_at_or, bit_at-lt, bit_at_above, bit_at_ones, bit_at_ones_above, bit_at_mask_inside, bit_at_mask_below, ones_shl, ones_shr, same_from_bits}
 use Rattle.bpf_model.specs.Machine.{frame_start, frame_end, is_in_frame}
 use Rattle.bpf_verifier.specs.FrameBytes.{has_byte, AreZeroFrom}
 
 pub not_equal : (a b : ℕ) → a ≢ b → eqb a b ≡ false
 not_equal a b h = elim (eqb_tells a b) [ inl (e, same) ↦ absurd (h same) | inr (e, other) ↦ e ]
-
--- a byte that is put in
-pub inserted : (words : List ℕ) (index w : ℕ) → index / 64 < length words → w ≡ bit_or (get_or words (index / 64) 0) (1 * 2 ^ (index % 64) % 2 ^ 64) → (i : ℕ) → has_byte (set words (index / 64) w) i ≡ (eqb i index || has_byte words i)
-inserted words index w inside is i =
-    elim (eqb_tells (i / 64) (index / 64)) [
-      | inl (e, word) ↦
-          let there : get_or (set words (index / 64) w) (i / 64) 0 ≡ w = ap (λ (k : ℕ). get_or (set words (index / 64) w) k 0) word ∙ get_or-set_same words (index / 64) w 0 inside in
-          elim (eqb_tells (i % 64) (index % 64)) [
-            | inl (f, bit) ↦
-                let same : i ≡ index = omega (arith, word, bit) in
-                let small : index % 64 < 64 = omega arith in
-                let set_bit : bit_at w (i % 64) ≡ 1 = ap (λ (k : ℕ). bit_at w k) bit ∙ ap (λ (v : ℕ). bit_at v (index % 64)) is ∙ bit_at_set_same w64 (get_or words (index / 64) 0) (index % 64) small in
-                let here : has_byte (set words (index / 64) w) i ≡ true = ap (λ (v : ℕ). eqb (bit_at v (i % 64)) 1) there ∙ ap (λ (v : ℕ). eqb v 1) set_bit in
-                here ∙ sym (ap (λ (b : Bool). b || has_byte words i) (eq-eqb i index same))
-            | inr (f, other) ↦
-                let apart : i ≢ index = λ same. other (ap (λ (k : ℕ). k % 64) same) in
-                let small : index % 64 < 64 = omega arith in
-                let kept : bit_at w (i % 64) ≡ bit_at (get_or words (index / 64) 0) (i % 64) = ap (λ (v : ℕ). bit_at v (i % 64)) is ∙ bit_at_set_other w64 (get_or words (index / 64) 0) (index % 64) small (i % 64) other in
-                ap (λ (v : ℕ). eqb (bit_at v (i % 64)) 1) there ∙ ap (λ (v : ℕ). eqb v 1) kept ∙ ap (λ (k : ℕ). eqb (bit_at (get_or words k 0) (i % 64)) 1) (sym word)
-                ∙ sym (ap (λ (b : Bool). b || has_byte words i) (not_equal i index apart))
-          ]
-      | inr (e, other) ↦
-          let apart : i ≢ index = λ same. other (ap (λ (k : ℕ). k / 64) same) in
-          ap (λ (v : ℕ). eqb (bit_at v (i % 64)) 1) (get_or-set_other words (index / 64) (i / 64) w 0 other)
-          ∙ sym (ap (λ (b : Bool). b || has_byte words i) (not_equal i index apart))
-    ]
-
--- one more byte
-pub more_bytes : (from index i : ℕ) (o : Bool) → from ≤ index → (eqb i index || ((leb from i && ltb i index) || o)) ≡ ((leb from i && ltb i (index + 1)) || o)
-more_bytes from index i o low =
-    elim (eqb_tells i index) [
-      | inl (e, same) ↦
-          let first : leb from i ≡ true = le-leb from i (omega arith) in
-          let last : ltb i (index + 1) ≡ true = lt-ltb i (index + 1) (omega arith) in
-          ap (λ (b : Bool). b || ((leb from i && ltb i index) || o)) e ∙ sym (ap (λ (b : Bool). (b && ltb i (index + 1)) || o) first ∙ ap (λ (b : Bool). b || o) last)
-      | inr (e, other) ↦
-          let same : ltb i index ≡ ltb i (index + 1) = elim (cases_lt i index) [
-            | inl lt ↦ lt-ltb i index lt ∙ sym (lt-ltb i (index + 1) (omega arith))
-            | inr le ↦ le-ltb i index le ∙ sym (le-ltb i (index + 1) (above i index le other))
-          ] in
-          ap (λ (b : Bool). b || ((leb from i && ltb i index) || o)) e ∙ ap (λ (b : Bool). (leb from i && b) || o) same
-    ] where
-      above : (a b : ℕ) → b ≤ a → a ≢ b → b + 1 ≤ a
-      above a b h apart = elim (cases_lt b a) [ inl lt ↦ omega (arith, lt) | inr le ↦ absurd (apart (omega (arith, h, le))) ]
-
--- no byte yet
-pub no_bytes : (from i : ℕ) (o : Bool) → o ≡ ((leb from i && ltb i from) || o)
-no_bytes from i o =
-    elim (leb_tells from i) [
-      | inl (e, h) ↦ sym (ap (λ (b : Bool). (b && ltb i from) || o) e ∙ ap (λ (b : Bool). b || o) (le-ltb i from h))
-      | inr (e, h) ↦ sym (ap (λ (b : Bool). (b && ltb i from) || o) e)
-    ]
 
 -- a bit of both
 pub both_bits : (x y k : ℕ) → eqb (bit_at (bit_and x y) k) 1 ≡ (eqb (bit_at x k) 1 && eqb (bit_at y k) 1)
@@ -75,6 +23,158 @@ both_bits x y k = ap (λ (v : ℕ). eqb v 1) (bit_at_and x y k) ∙ small (bit_a
   small (suc (suc p)) q hp hq = absurd (omega (arith, hp))
   small zero (suc (suc q)) hp hq = absurd (omega (arith, hq))
   small (suc zero) (suc (suc q)) hp hq = absurd (omega (arith, hq))
+
+-- a bit of either
+pub either_bit : (x y k : ℕ) → eqb (bit_at (bit_or x y) k) 1 ≡ (eqb (bit_at y k) 1 || eqb (bit_at x k) 1)
+either_bit x y k = ap (λ (v : ℕ). eqb v 1) (bit_at_or x y k) ∙ small (bit_at x k) (bit_at y k) (bit_at-lt x k) (bit_at-lt y k) where
+  small : (p q : ℕ) → p < 2 → q < 2 → eqb (max p q) 1 ≡ (eqb q 1 || eqb p 1)
+  small zero zero hp hq = refl
+  small zero (suc zero) hp hq = refl
+  small (suc zero) zero hp hq = refl
+  small (suc zero) (suc zero) hp hq = refl
+  small (suc (suc p)) q hp hq = absurd (omega (arith, hp))
+  small zero (suc (suc q)) hp hq = absurd (omega (arith, hq))
+  small (suc zero) (suc (suc q)) hp hq = absurd (omega (arith, hq))
+
+-- the byte of a bit of a word
+byte_of : (words : List ℕ) (word k : ℕ) → k < 64 → has_byte words (64 * word + k) ≡ eqb (bit_at (get_or words word 0) k) 1
+byte_of words word k small =
+    let there : (64 * word + k) / 64 ≡ word = omega (arith, small) in
+    let bit : (64 * word + k) % 64 ≡ k = omega (arith, small) in
+    ap (λ (n : ℕ). eqb (bit_at (get_or words n 0) ((64 * word + k) % 64)) 1) there ∙ ap (λ (n : ℕ). eqb (bit_at (get_or words word 0) n) 1) bit
+
+-- the bits of a mask of ones: those from low on, those before high
+low_ones : (low k : ℕ) → low < 64 → k < 64 → eqb (bit_at ((2 ^ 64 - 1) * 2 ^ low % 2 ^ 64) k) 1 ≡ leb low k
+low_ones low k small inside =
+    let e : (2 ^ 64 - 1) * 2 ^ low % 2 ^ 64 ≡ 2 ^ 64 - 2 ^ low = ones_shl 64 low (omega (arith, small)) in
+    ap (λ (v : ℕ). eqb (bit_at v k) 1) e ∙ elim (cases_lt k low) [
+      | inl below ↦ ap (λ (v : ℕ). eqb v 1) (bit_at_mask_below low 64 k below) ∙ sym (lt-leb low k below)
+      | inr above ↦ ap (λ (v : ℕ). eqb v 1) (bit_at_mask_inside low 64 k above inside) ∙ sym (le-leb low k above)
+    ]
+
+high_ones : (high k : ℕ) → high ≤ 64 → eqb (bit_at ((2 ^ 64 - 1) / 2 ^ (64 - high)) k) 1 ≡ ltb k high
+high_ones high k small =
+    let back : 64 - (64 - high) ≡ high = omega (arith, small) in
+    let e : (2 ^ 64 - 1) / 2 ^ (64 - high) ≡ 2 ^ high - 1 = ones_shr 64 (64 - high) (omega arith) ∙ ap (λ (n : ℕ). 2 ^ n - 1) back in
+    ap (λ (v : ℕ). eqb (bit_at v k) 1) e ∙ elim (cases_lt k high) [
+      | inl below ↦ ap (λ (v : ℕ). eqb v 1) (bit_at_ones high k below) ∙ sym (lt-ltb k high below)
+      | inr above ↦ ap (λ (v : ℕ). eqb v 1) (bit_at_ones_above high k above) ∙ sym (le-ltb k high above)
+    ]
+
+-- the mask of the bytes from one on and before another
+pub mask_bits : (word from to low high k : ℕ) → low ≡ from - word * 64 → high ≡ min (to - word * 64) 64 → from < 64 * word + 64 → 64 * word < to → k < 64 → eqb (bit_at (bit_and ((2 ^ 64 - 1) * 2 ^ low % 2 ^ 64) ((2 ^ 64 - 1) / 2 ^ (64 - high))) k) 1 ≡ (leb from (64 * word + k) && ltb (64 * word + k) to)
+mask_bits word from to low high k low-is high-is behind before inside =
+    both_bits ((2 ^ 64 - 1) * 2 ^ low % 2 ^ 64) ((2 ^ 64 - 1) / 2 ^ (64 - high)) k
+    ∙ ap (λ (b : Bool). b && eqb (bit_at ((2 ^ 64 - 1) / 2 ^ (64 - high)) k) 1) (low_ones low k (omega (arith, low-is, behind, before)) inside ∙ first)
+    ∙ ap (λ (b : Bool). leb from (64 * word + k) && b) (high_ones high k (omega (arith, high-is)) ∙ last) where
+      first : leb low k ≡ leb from (64 * word + k)
+      first = elim (cases_lt k low) [
+        | inl below ↦ lt-leb low k below ∙ sym (lt-leb from (64 * word + k) (omega (arith, low-is, below)))
+        | inr above ↦ le-leb low k above ∙ sym (le-leb from (64 * word + k) (omega (arith, low-is, above)))
+      ]
+
+      last : ltb k high ≡ ltb (64 * word + k) to
+      last = elim (cases_lt k high) [
+        | inl below ↦ lt-ltb k high below ∙ sym (lt-ltb (64 * word + k) to (omega (arith, high-is, below)))
+        | inr above ↦ le-ltb k high above ∙ sym (le-ltb (64 * word + k) to (omega (arith, high-is, above, inside)))
+      ]
+
+-- bytes of one word that are put in
+pub inserted : (words : List ℕ) (word mask w : ℕ) → word < length words → w ≡ bit_or (get_or words word 0) mask → (i : ℕ) → has_byte (set words word w) i ≡ ((eqb (i / 64) word && eqb (bit_at mask (i % 64)) 1) || has_byte words i)
+inserted words word mask w inside is i =
+    elim (eqb_tells (i / 64) word) [
+      | inl (e, same) ↦ (
+          let there : get_or (set words word w) (i / 64) 0 ≡ bit_or (get_or words word 0) mask = ap (λ (k : ℕ). get_or (set words word w) k 0) same ∙ get_or-set_same words word w 0 inside ∙ is in
+          ap (λ (v : ℕ). eqb (bit_at v (i % 64)) 1) there ∙ either_bit (get_or words word 0) mask (i % 64)
+          ∙ ap (λ (k : ℕ). eqb (bit_at mask (i % 64)) 1 || eqb (bit_at (get_or words k 0) (i % 64)) 1) (sym same)
+          ∙ sym (ap (λ (b : Bool). (b && eqb (bit_at mask (i % 64)) 1) || has_byte words i) e)
+          )
+      | inr (e, other) ↦
+          ap (λ (v : ℕ). eqb (bit_at v (i % 64)) 1) (get_or-set_other words word (i / 64) w 0 other)
+          ∙ sym (ap (λ (b : Bool). (b && eqb (bit_at mask (i % 64)) 1) || has_byte words i) e)
+    ]
+
+-- the bytes of one more word
+pub more_words : (word i : ℕ) (test : ℕ → Bool) (bit o : Bool) → bit ≡ test (64 * word + i % 64) → ((eqb (i / 64) word && bit) || ((test i && ltb i (64 * word)) || o)) ≡ ((test i && ltb i (64 * (word + 1))) || o)
+more_words word i test bit o is =
+    elim (eqb_tells (i / 64) word) [
+      | inl (e, same) ↦ (
+          let here : 64 * word + i % 64 ≡ i = omega (arith, same) in
+          let past : ltb i (64 * word) ≡ false = le-ltb i (64 * word) (omega (arith, same)) in
+          let within : ltb i (64 * (word + 1)) ≡ true = lt-ltb i (64 * (word + 1)) (omega (arith, same)) in
+          ap (λ (b : Bool). (b && bit) || ((test i && ltb i (64 * word)) || o)) e
+          ∙ ap (λ (b : Bool). b || ((test i && ltb i (64 * word)) || o)) (is ∙ ap test here)
+          ∙ ap (λ (b : Bool). test i || ((test i && b) || o)) past
+          ∙ once (test i) o
+          ∙ ap (λ (b : Bool). (test i && b) || o) (sym within)
+          )
+      | inr (e, other) ↦ ap (λ (b : Bool). (b && bit) || ((test i && ltb i (64 * word)) || o)) e ∙ ap (λ (b : Bool). (test i && b) || o) (unmoved other)
+    ] where
+      once : (t p : Bool) → (t || ((t && false) || p)) ≡ ((t && true) || p)
+      once true p = refl
+      once false p = refl
+
+      next : (a b : ℕ) → b ≤ a → a ≢ b → b < a
+      next a b h apart = elim (cases_lt b a) [ inl lt ↦ lt | inr le ↦ absurd (apart (omega (arith, h, le))) ]
+
+      unmoved : i / 64 ≢ word → ltb i (64 * word) ≡ ltb i (64 * (word + 1))
+      unmoved other = elim (cases_lt (i / 64) word) [
+        | inl below ↦ lt-ltb i (64 * word) (omega (arith, below)) ∙ sym (lt-ltb i (64 * (word + 1)) (omega (arith, below)))
+        | inr above ↦ (
+            let past : word < i / 64 = next (i / 64) word above other in
+            le-ltb i (64 * word) (omega (arith, past)) ∙ sym (le-ltb i (64 * (word + 1)) (omega (arith, past)))
+            )
+      ]
+
+-- a word that has all bits of a mask, and one that lacks one
+pub bits_present : (words : List ℕ) (word mask : ℕ) → eqb (bit_and (get_or words word 0) mask) mask ≡ true → (k : ℕ) → k < 64 → bit_at mask k ≡ 1 → has_byte words (64 * word + k) ≡ true
+bits_present words word mask all k small one =
+    byte_of words word k small
+    ∙ sym (and_one (eqb (bit_at (get_or words word 0) k) 1) (eqb (bit_at mask k) 1) (ap (λ (v : ℕ). eqb v 1) one))
+    ∙ sym (both_bits (get_or words word 0) mask k)
+    ∙ ap (λ (v : ℕ). eqb (bit_at v k) 1) (eqb-true _ _ all) ∙ ap (λ (v : ℕ). eqb v 1) one where
+      and_one : (a b : Bool) → b ≡ true → (a && b) ≡ a
+      and_one true b h = h
+      and_one false b h = refl
+
+-- of the first n bits of a mask a word has each, or it lacks one
+lacking : (word mask n : ℕ) → ((k : ℕ) → k < n → bit_at (bit_and word mask) k ≡ bit_at mask k) ⊎ ((k : ℕ) × (k < n) × (bit_at mask k ≡ 1) × (eqb (bit_at word k) 1 ≡ false))
+lacking word mask zero = inl (λ k h. absurd (omega (arith, h)))
+lacking word mask (suc n) =
+    elim (lacking word mask n) [
+      | inl same ↦ elim (one_bit (bit_at word n) (bit_at mask n) (bit_at-lt word n) (bit_at-lt mask n)) [
+        | inl e ↦ inl (λ k h. elim (cases_lt k n) [
+          | inl lt ↦ same k lt
+          | inr le ↦ (
+              let last : n ≡ k = omega (arith, h, le) in
+              subst (λ (j : ℕ). bit_at (bit_and word mask) j ≡ bit_at mask j) last (bit_at_and word mask n ∙ e)
+              )
+        ])
+        | inr (one, none) ↦ inr (n, omega arith, one, none)
+      ]
+      | inr (k, small, one, none) ↦ inr (k, omega (arith, small), one, none)
+    ] where
+      one_bit : (p q : ℕ) → p < 2 → q < 2 → (min p q ≡ q) ⊎ ((q ≡ 1) × (eqb p 1 ≡ false))
+      one_bit zero zero hp hq = inl refl
+      one_bit zero (suc zero) hp hq = inr (refl, refl)
+      one_bit (suc zero) zero hp hq = inl refl
+      one_bit (suc zero) (suc zero) hp hq = inl refl
+      one_bit (suc (suc p)) q hp hq = absurd (omega (arith, hp))
+      one_bit zero (suc (suc q)) hp hq = absurd (omega (arith, hq))
+      one_bit (suc zero) (suc (suc q)) hp hq = absurd (omega (arith, hq))
+
+pub bits_absent : (words : List ℕ) (word mask : ℕ) → mask < 2 ^ 64 → eqb (bit_and (get_or words word 0) mask) mask ≡ false → (k : ℕ) × (k < 64) × (bit_at mask k ≡ 1) × (has_byte words (64 * word + k) ≡ false)
+bits_absent words word mask fits some =
+    elim (lacking (get_or words word 0) mask 64) [
+      | inl same ↦ absurd (eqb-false _ _ some (same_from_bits (bit_and (get_or words word 0) mask) mask (λ k. elim (cases_lt k 64) [
+        | inl lt ↦ same k lt
+        | inr le ↦ (
+            let none : bit_at mask k ≡ 0 = bit_at_above mask 64 k fits le in
+            bit_at_and (get_or words word 0) mask k ∙ omega (arith, none)
+            )
+      ])))
+      | inr (k, small, one, none) ↦ (k, small, one, byte_of words word k small ∙ none)
+    ]
 
 -- ---- loops over the words
 

@@ -1,6 +1,7 @@
 //! A set of bytes of the stack.
 
-ghost use Rattle.std.specs.Prelude.{◌≤◌};
+ghost use Rattle.std.specs.Prelude.{◌≡◌, ℕ, ◌+◌, ◌*◌, ◌≤◌, ◌<◌, ◌&&◌, ◌==◌, nat_le, nat_lt};
+ghost use Rattle.std.specs.Int.{bit_at};
 ghost use Rattle.bpf_verifier.specs.FrameBytes.{AreZeroFrom};
 
 use bpf_model::layout::{FRAME_SIZE, STACK_SIZE};
@@ -25,7 +26,8 @@ pub struct FrameBytes {
 }
 
 impl FrameBytes {
-    ghost use Rattle.std.specs.Prelude.{◌≡◌, ℕ, ◌+◌, ◌≤◌, ◌<◌, ◌&&◌, ◌||◌, not, ◌==◌, nat_le, nat_lt, true, false};
+    ghost use Rattle.std.specs.Prelude.{◌≡◌, ℕ, ◌+◌, ◌*◌, ◌/◌, ◌%◌, ◌≤◌, ◌<◌, ◌&&◌, ◌||◌, not, ◌==◌, nat_le, nat_lt, true, false};
+    ghost use Rattle.std.specs.Int.{bit_at};
     ghost use Rattle.bpf_model.specs.Machine.{frame_start, is_in_frame};
     ghost use Rattle.bpf_verifier.specs.FrameBytes.{has_byte};
 
@@ -55,21 +57,23 @@ impl FrameBytes {
         ensures absent { result ≡ false → (i : ℕ) × (from ≤ i) × (i < to) ×
             (has_byte self.now.words i ≡ false) }
     {
-        for index in from..to {
-            if !self.contains(index) {
+        for word in from / BITS..to.div_ceil(BITS) {
+            if !self.has_bits(word, mask(word, from, to)) {
                 return false;
             }
         }
         true
     }
 
-    fn insert(&mut self, index: usize)
-        requires { index < 4096 }
-        ensures { (i : ℕ) → has_byte self.new.words i ≡ (i == index || has_byte self.old.words i) }
+    /// Whether a word has all bits of a mask.
+    fn has_bits(&self, word: usize, mask: u64) -> bool
+        requires { word < 64 }
+        ensures present { result ≡ true → (k : ℕ) → k < 64 → bit_at mask k ≡ 1 →
+            has_byte self.now.words (64 * word + k) ≡ true }
+        ensures absent { result ≡ false → (k : ℕ) × (k < 64) × (bit_at mask k ≡ 1) ×
+            (has_byte self.now.words (64 * word + k) ≡ false) }
     {
-        let word = index / BITS;
-        self.words[word] |= 1 << (index % BITS);
-        self.used = self.used.max(word + 1);
+        self.words[word] & mask == mask
     }
 
     /// Puts in all bytes from one on and before another.
@@ -79,9 +83,19 @@ impl FrameBytes {
         ensures { (i : ℕ) → has_byte self.new.words i ≡
             (nat_le from i && nat_lt i to || has_byte self.old.words i) }
     {
-        for index in from..to {
-            self.insert(index);
+        for word in from / BITS..to.div_ceil(BITS) {
+            self.insert_bits(word, mask(word, from, to));
         }
+    }
+
+    /// Puts in the bytes of a word whose bits a mask has.
+    fn insert_bits(&mut self, word: usize, mask: u64)
+        requires { word < 64 }
+        ensures { (i : ℕ) → has_byte self.new.words i ≡
+            ((i / 64 == word) && (bit_at mask (i % 64) == 1) || has_byte self.old.words i) }
+    {
+        self.words[word] |= mask;
+        self.used = self.used.max(word + 1);
     }
 
     /// Keeps the bytes of both sets.
@@ -116,4 +130,18 @@ impl FrameBytes {
             self.words[word] = 0;
         }
     }
+}
+
+/// The bits of a word for those of its bytes that lie from one byte on and before another.
+fn mask(word: usize, from: usize, to: usize) -> u64
+    requires few { word < 64 }
+    requires behind { from < 64 * word + 64 }
+    requires before { 64 * word < to }
+    ensures { (k : ℕ) → k < 64 → (bit_at result k == 1) ≡
+        (nat_le from (64 * word + k) && nat_lt (64 * word + k) to) }
+{
+    let start = word * BITS;
+    let low = from.saturating_sub(start);
+    let high = (to - start).min(BITS);
+    (u64::MAX << low) & (u64::MAX >> (BITS - high))
 }
