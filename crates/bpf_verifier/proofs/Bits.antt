@@ -178,35 +178,35 @@ bits_absent words word mask fits some =
 
 -- ---- loops over the words
 
--- the first k words have the bits of both
-pub record AreIntersected (k : ℕ) (now old other : List ℕ) : Type 0 where
-  pub intersected : (n : ℕ) → n < k → get_or now n 0 ≡ bit_and (get_or old n 0) (get_or other n 0)
+-- the first k numbers are made of those of two lists, the rest are the first's
+pub record AreMerged (f : ℕ → ℕ → ℕ) (k : ℕ) (now old other : List ℕ) : Type 0 where
+  pub merged : (n : ℕ) → n < k → get_or now n 0 ≡ f (get_or old n 0) (get_or other n 0)
   pub rest : (n : ℕ) → k ≤ n → get_or now n 0 ≡ get_or old n 0
 
-pub intersected_none : (old other : List ℕ) → AreIntersected 0 old old other
-intersected_none old other = record { intersected = λ n h. absurd (omega (arith, h)); rest = λ n h. refl }
+pub merged_none : (f : ℕ → ℕ → ℕ) (old other : List ℕ) → AreMerged f 0 old old other
+merged_none f old other = record { merged = λ n h. absurd (omega (arith, h)); rest = λ n h. refl }
 
-pub intersected_more : (k : ℕ) (now old other : List ℕ) (x d e : ℕ) → AreIntersected k now old other → k < length now → k < length other → x ≡ bit_and (get_or now k d) (get_or other k e) → AreIntersected (k + 1) (set now k x) old other
-intersected_more k now old other x d e m inside there is = record {
-  intersected = λ n less. elim (eqb_tells n k) [
-    | inl (_, same) ↦ ap (λ (j : ℕ). get_or (set now k x) j 0) same ∙ here ∙ ap (λ (j : ℕ). bit_and (get_or old j 0) (get_or other j 0)) (sym same)
-    | inr (_, apart) ↦ get_or-set_other now k n x 0 apart ∙ m.intersected n (below n less apart)
+pub merged_more : (f : ℕ → ℕ → ℕ) (k : ℕ) (now old other : List ℕ) (x d e : ℕ) → AreMerged f k now old other → k < length now → k < length other → x ≡ f (get_or now k d) (get_or other k e) → AreMerged f (k + 1) (set now k x) old other
+merged_more f k now old other x d e m inside there is = record {
+  merged = λ n less. elim (eqb_tells n k) [
+    | inl (_, same) ↦ ap (λ (j : ℕ). get_or (set now k x) j 0) same ∙ here ∙ ap (λ (j : ℕ). f (get_or old j 0) (get_or other j 0)) (sym same)
+    | inr (_, apart) ↦ get_or-set_other now k n x 0 apart ∙ m.merged n (below n less apart)
   ];
   rest = λ n past. get_or-set_other now k n x 0 (λ (same : n ≡ k). absurd (omega (arith, past, same))) ∙ m.rest n (omega (arith, past));
 } where
   below : (n : ℕ) → n < k + 1 → (n ≡ k → ⊥) → n < k
   below n less apart = elim (cases_lt n k) [ inl lt ↦ lt | inr le ↦ absurd (apart (omega (arith, less, le))) ]
 
-  here : get_or (set now k x) k 0 ≡ bit_and (get_or old k 0) (get_or other k 0)
+  here : get_or (set now k x) k 0 ≡ f (get_or old k 0) (get_or other k 0)
   here =
       get_or-set_same now k x 0 inside ∙ is
-      ∙ ap (λ (v : ℕ). bit_and v (get_or other k e)) (get_or_default now k d 0 inside ∙ m.rest k (omega arith))
-      ∙ ap (λ (v : ℕ). bit_and (get_or old k 0) v) (get_or_default other k e 0 there)
+      ∙ ap (λ (v : ℕ). f v (get_or other k e)) (get_or_default now k d 0 inside ∙ m.rest k (omega arith))
+      ∙ ap (λ (v : ℕ). f (get_or old k 0) v) (get_or_default other k e 0 there)
 
-pub intersected_all : (now old other : List ℕ) (used : ℕ) → AreIntersected used now old other → AreZeroFrom used old → (i : ℕ) → has_byte now i ≡ (has_byte old i && has_byte other i)
+pub intersected_all : (now old other : List ℕ) (used : ℕ) → AreMerged bit_and used now old other → AreZeroFrom used old → (i : ℕ) → has_byte now i ≡ (has_byte old i && has_byte other i)
 intersected_all now old other used m none i =
     elim (cases_lt (i / 64) used) [
-      | inl low ↦ ap (λ (v : ℕ). eqb (bit_at v (i % 64)) 1) (m.intersected (i / 64) low) ∙ both_bits (get_or old (i / 64) 0) (get_or other (i / 64) 0) (i % 64)
+      | inl low ↦ ap (λ (v : ℕ). eqb (bit_at v (i % 64)) 1) (m.merged (i / 64) low) ∙ both_bits (get_or old (i / 64) 0) (get_or other (i / 64) 0) (i % 64)
       | inr past ↦ (
           let absent : has_byte old i ≡ false = ap (λ (v : ℕ). eqb (bit_at v (i % 64)) 1) (none (i / 64) past) ∙ ap (λ (v : ℕ). eqb v 1) (bit_at-zero (i % 64)) in
           ap (λ (v : ℕ). eqb (bit_at v (i % 64)) 1) (m.rest (i / 64) past) ∙ absent ∙ sym (ap (λ (b : Bool). b && has_byte other i) absent)

@@ -1,7 +1,9 @@
 pub mod Bits
 pub mod Loops
+pub mod RegisterRanges
 pub mod States
 pub mod Tables
+pub mod Tested
 pub mod Sweeps
 pub mod Functions
 pub mod Visiting

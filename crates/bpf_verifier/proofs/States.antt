@@ -1,10 +1,9 @@
 -- The verifier's arrays, and the abstract states that they represent.
-use Rattle.std.proofs.Common.{◌≡◌, ℕ, zero, suc, ◌+◌, ◌-◌, ◌<◌, ◌≤◌, Bool, true, false, ◌&&◌, ◌||◌, cond, eqb, leb, List, [], ◌∷◌, length, get_or, set, Option, Some, None, refl, sym, ap, subst, ◌∙◌, arith, inl, inr}
+use Rattle.std.proofs.Common.{◌≡◌, ℕ, zero, suc, ◌+◌, ◌-◌, ◌<◌, ◌≤◌, Bool, true, false, ◌&&◌, ◌||◌, cond, eqb, leb, List, [], ◌∷◌, Option, Some, None, refl, sym, ap, subst, ◌∙◌, arith, inl, inr}
 use Rattle.std.specs.Option.{option_map}
 use Rattle.std.specs.List.{list_any}
-use Rattle.std.proofs.lemmas.Bool.{le-leb, lt-leb, cases_lt}
-use Rattle.std.proofs.lemmas.Bool.Decides.{leb_tells, eqb_tells}
-use Rattle.std.proofs.lemmas.List.{get_or_default, get_or_past, get_or-set_same, get_or-set_other, length-set}
+use Rattle.std.proofs.lemmas.Bool.{le-leb, lt-leb}
+use Rattle.std.proofs.lemmas.Bool.Decides.{leb_tells}
 use Rattle.reg_ranges.specs.Ranges as reg
 use Rattle.reg_ranges.specs.RangeOf.{range_of}
 use Rattle.reg_ranges.specs.declared.range.Range.{Range}
@@ -15,10 +14,12 @@ use Rattle.bpf_model.specs.AbstractState as model
 use Rattle.bpf_model.specs.AbstractState.{join_option, all_initialized, extent, in_bounds, is_initialized, is_written, entry_state, after_call, after_helper}
 use Rattle.bpf_model.proofs.Memories.{in_bounds_cases}
 use Rattle.bpf_verifier.specs.declared.abstract_state.AbstractState.{AbstractState}
+use Rattle.bpf_verifier.specs.declared.registers.RegisterRanges.{RegisterRanges}
 use Rattle.bpf_verifier.specs.FrameBytes.{has_byte, AreBitsOf}
 use Rattle.bpf_verifier.specs.Represents.{ranges_of, state_of, Represents, RepresentsOption, join_with}
 use Rattle.bpf_verifier.proofs.Bits.{not_equal}
 use Rattle.bpf_verifier.proofs.Loops.{all_true, one_false}
+use Rattle.bpf_verifier.proofs.RegisterRanges.{listed, range_past}
 
 -- ---- bytes that are read
 
@@ -58,52 +59,6 @@ module _ (words : List ℕ) (range : reg.Range) (size d : ℕ) (shallow : d < 8)
 
 -- ---- joins
 
--- the ranges of the first k registers are joined
-pub record AreJoined (k : ℕ) (now old other : List (Option Range)) : Type 0 where
-  pub long : length now ≡ 11
-  pub joined : (r : ℕ) → r < k → ranges_of now r ≡ join_option (ranges_of old r) (ranges_of other r)
-  pub rest : (r : ℕ) → k ≤ r → ranges_of now r ≡ ranges_of old r
-
-pub joined_none : (old other : List (Option Range)) → length old ≡ 11 → AreJoined 0 old old other
-joined_none old other long = record {
-  long = long;
-  joined = λ r h. absurd (omega (arith, h));
-  rest = λ r h. refl;
-}
-
-pub joined_more : (k : ℕ) (now old other : List (Option Range)) (x d e : Option Range) → AreJoined k now old other → k < 11 → length other ≡ 11 → option_map range_of x ≡ join_option (option_map range_of (get_or now k d)) (option_map range_of (get_or other k e)) → AreJoined (k + 1) (set now k x) old other
-joined_more k now old other x d e j h long is = record {
-  long = length-set now k x ∙ j.long;
-  joined = λ r less. elim (eqb_tells r k) [
-    | inl (_, same) ↦ subst (λ (i : ℕ). ranges_of (set now k x) i ≡ join_option (ranges_of old i) (ranges_of other i)) (sym same) here
-    | inr (_, apart) ↦ ap (option_map range_of) (get_or-set_other now k r x None apart) ∙ j.joined r (below r less apart)
-  ];
-  rest = λ r past. ap (option_map range_of) (get_or-set_other now k r x None (λ (same : r ≡ k). absurd (omega (arith, past, same)))) ∙ j.rest r (omega (arith, past));
-} where
-  inside : k < length now
-  inside = let n = j.long in omega (arith, h, n)
-
-  below : (r : ℕ) → r < k + 1 → (r ≡ k → ⊥) → r < k
-  below r less apart = elim (cases_lt r k) [ inl lt ↦ lt | inr le ↦ absurd (apart (omega (arith, less, le))) ]
-
-  here : ranges_of (set now k x) k ≡ join_option (ranges_of old k) (ranges_of other k)
-  here =
-      ap (option_map range_of) (get_or-set_same now k x None inside) ∙ is
-      ∙ ap (λ (o : Option Range). join_option (option_map range_of o) (option_map range_of (get_or other k e))) (get_or_default now k d None inside)
-      ∙ ap (λ (o : Option Range). join_option (ranges_of now k) (option_map range_of o)) (get_or_default other k e None (omega (arith, h, long)))
-      ∙ ap (λ (o : Option reg.Range). join_option o (ranges_of other k)) (j.rest k (omega arith))
-
-pub joined_all : (now old other : List (Option Range)) → AreJoined 11 now old other → length old ≡ 11 → (r : ℕ) → ranges_of now r ≡ join_option (ranges_of old r) (ranges_of other r)
-joined_all now old other j long r =
-    elim (cases_lt r 11) [
-      | inl less ↦ j.joined r less
-      | inr past ↦
-          let n = j.long in
-          let gone : get_or now r None ≡ None = get_or_past now r None (omega (arith, past, n)) in
-          let none : get_or old r None ≡ None = get_or_past old r None (omega (arith, past, long)) in
-          ap (option_map range_of) gone ∙ sym (ap (λ (o : Option Range). join_option (option_map range_of o) (ranges_of other r)) none)
-    ]
-
 pub joined_is : (x y z : AbstractState) → ((r : ℕ) → ranges_of z.ranges r ≡ join_option (ranges_of x.ranges r) (ranges_of y.ranges r)) → ((i : ℕ) → i < 4096 → has_byte z.initialized.words i ≡ (has_byte x.initialized.words i && has_byte y.initialized.words i)) → (a b : model.AbstractState) → Represents x a → Represents y b → Represents z (model.join a b)
 joined_is x y z ranges bytes a b ra rb = record {
   ranges_are = λ r. ranges r ∙ rw (ra.ranges_are r, rb.ranges_are r) refl;
@@ -113,7 +68,7 @@ joined_is x y z ranges bytes a b ra rb = record {
 -- a state with the same ranges and words represents the same
 pub represents_same : (x y : AbstractState) (of : model.AbstractState) → x.ranges ≡ y.ranges → x.initialized.words ≡ y.initialized.words → Represents y of → Represents x of
 represents_same x y of ranges words is = record {
-  ranges_are = λ r. ap (λ (rs : List (Option Range)). ranges_of rs r) ranges ∙ is.ranges_are r;
+  ranges_are = λ r. ap (λ (rs : RegisterRanges). ranges_of rs r) ranges ∙ is.ranges_are r;
   initialized_are = λ i h. ap (λ (ws : List ℕ). has_byte ws i) words ∙ is.initialized_are i h;
 }
 
@@ -123,29 +78,29 @@ join_visit before state after s joins is (Some a) h = joins a s h is
 
 -- ---- after a helper
 
-module _ (ranges : List (Option Range)) (long : length ranges ≡ 11) (init : ℕ → Bool) (most : ℕ) (answer : Range) (is : range_of answer ≡ reg.range 0 most) (written : List Access) where
-  pub called_ranges : (x6 x7 x8 x9 x10 : Option Range) → x6 ≡ get_or ranges 6 None → x7 ≡ get_or ranges 7 None → x8 ≡ get_or ranges 8 None → x9 ≡ get_or ranges 9 None → x10 ≡ get_or ranges 10 None → (r : ℕ) → ranges_of (Some answer ∷ None ∷ None ∷ None ∷ None ∷ None ∷ x6 ∷ x7 ∷ x8 ∷ x9 ∷ x10 ∷ []) r ≡ (after_helper (state_of ranges init) most written).ranges r
+module _ (ranges : RegisterRanges) (init : ℕ → Bool) (most : ℕ) (answer : Range) (is : range_of answer ≡ reg.range 0 most) (written : List Access) where
+  pub called_ranges : (x6 x7 x8 x9 x10 : Option Range) → option_map range_of x6 ≡ ranges_of ranges 6 → option_map range_of x7 ≡ ranges_of ranges 7 → option_map range_of x8 ≡ ranges_of ranges 8 → option_map range_of x9 ≡ ranges_of ranges 9 → option_map range_of x10 ≡ ranges_of ranges 10 → (r : ℕ) → listed (Some answer ∷ None ∷ None ∷ None ∷ None ∷ None ∷ x6 ∷ x7 ∷ x8 ∷ x9 ∷ x10 ∷ []) r ≡ (after_helper (state_of ranges init) most written).ranges r
   called_ranges x6 x7 x8 x9 x10 e6 e7 e8 e9 e10 zero = ap Some is
   called_ranges x6 x7 x8 x9 x10 e6 e7 e8 e9 e10 (suc zero) = refl
   called_ranges x6 x7 x8 x9 x10 e6 e7 e8 e9 e10 (suc (suc zero)) = refl
   called_ranges x6 x7 x8 x9 x10 e6 e7 e8 e9 e10 (suc (suc (suc zero))) = refl
   called_ranges x6 x7 x8 x9 x10 e6 e7 e8 e9 e10 (suc (suc (suc (suc zero)))) = refl
   called_ranges x6 x7 x8 x9 x10 e6 e7 e8 e9 e10 (suc (suc (suc (suc (suc zero))))) = refl
-  called_ranges x6 x7 x8 x9 x10 e6 e7 e8 e9 e10 (suc (suc (suc (suc (suc (suc zero)))))) = ap (option_map range_of) e6
-  called_ranges x6 x7 x8 x9 x10 e6 e7 e8 e9 e10 (suc (suc (suc (suc (suc (suc (suc zero))))))) = ap (option_map range_of) e7
-  called_ranges x6 x7 x8 x9 x10 e6 e7 e8 e9 e10 (suc (suc (suc (suc (suc (suc (suc (suc zero)))))))) = ap (option_map range_of) e8
-  called_ranges x6 x7 x8 x9 x10 e6 e7 e8 e9 e10 (suc (suc (suc (suc (suc (suc (suc (suc (suc zero))))))))) = ap (option_map range_of) e9
-  called_ranges x6 x7 x8 x9 x10 e6 e7 e8 e9 e10 (suc (suc (suc (suc (suc (suc (suc (suc (suc (suc zero)))))))))) = ap (option_map range_of) e10
+  called_ranges x6 x7 x8 x9 x10 e6 e7 e8 e9 e10 (suc (suc (suc (suc (suc (suc zero)))))) = e6
+  called_ranges x6 x7 x8 x9 x10 e6 e7 e8 e9 e10 (suc (suc (suc (suc (suc (suc (suc zero))))))) = e7
+  called_ranges x6 x7 x8 x9 x10 e6 e7 e8 e9 e10 (suc (suc (suc (suc (suc (suc (suc (suc zero)))))))) = e8
+  called_ranges x6 x7 x8 x9 x10 e6 e7 e8 e9 e10 (suc (suc (suc (suc (suc (suc (suc (suc (suc zero))))))))) = e9
+  called_ranges x6 x7 x8 x9 x10 e6 e7 e8 e9 e10 (suc (suc (suc (suc (suc (suc (suc (suc (suc (suc zero)))))))))) = e10
   called_ranges x6 x7 x8 x9 x10 e6 e7 e8 e9 e10 (suc (suc (suc (suc (suc (suc (suc (suc (suc (suc (suc r))))))))))) =
       let n : ℕ = suc (suc (suc (suc (suc (suc (suc (suc (suc (suc (suc r)))))))))) in
-      let none : get_or ranges n None ≡ None = get_or_past ranges n None (omega (arith, long)) in
+      let none : ranges_of ranges n ≡ None = range_past ranges.lo ranges.hi ranges.known n (omega arith) in
       let zero_test : eqb n 0 ≡ false = not_equal n 0 (λ e. omega arith) in
       let six : leb 6 n ≡ true = le-leb 6 n (omega arith) in
       sym (ap (λ (b : Bool). cond b (Some (reg.range 0 most)) (cond (leb 6 n) (ranges_of ranges n) None)) zero_test
       ∙ ap (λ (b : Bool). cond b (ranges_of ranges n) None) six
-      ∙ ap (option_map range_of) none)
+      ∙ none)
 
-module _ (ranges next : List (Option Range)) (words after_words : List ℕ) (most : ℕ) (writes : List Access) (init : ℕ → Bool) where
+module _ (ranges : RegisterRanges) (words after_words : List ℕ) (most : ℕ) (writes : List Access) (init : ℕ → Bool) where
   -- the state after a helper, of the bytes that it wrote
   pub represents_helper : (state : AbstractState) → ((r : ℕ) → ranges_of state.ranges r ≡ (after_helper (state_of ranges init) most writes).ranges r) → state.initialized.words ≡ after_words → AreBitsOf words init → ((i : ℕ) → i < 4096 → has_byte after_words i ≡ (list_any (λ access. is_written (ranges_of ranges access.register) (fixed_size access.size) (frame_start 0 + i)) writes || has_byte words i)) → Represents state (after_helper (state_of ranges init) most writes)
   represents_helper state are same bits bytes = record {
@@ -155,18 +110,15 @@ module _ (ranges next : List (Option Range)) (words after_words : List ℕ) (mos
 
 -- ---- around a call
 
-past_end : (ranges : List (Option Range)) (r : ℕ) → length ranges ≡ 11 → 11 ≤ r → ranges_of ranges r ≡ None
-past_end ranges r long far = ap (option_map range_of) (get_or_past ranges r None (omega (arith, long, far)))
-
 module _ (x : AbstractState) (of : model.AbstractState) (is : Represents x of) where
   -- a function is entered
-  pub entered_ranges : (d : ℕ) (fp : Range) → range_of fp ≡ reg.single (frame_end d) → (x1 x2 x3 x4 x5 : Option Range) → x1 ≡ get_or x.ranges 1 None → x2 ≡ get_or x.ranges 2 None → x3 ≡ get_or x.ranges 3 None → x4 ≡ get_or x.ranges 4 None → x5 ≡ get_or x.ranges 5 None → (r : ℕ) → ranges_of (None ∷ x1 ∷ x2 ∷ x3 ∷ x4 ∷ x5 ∷ None ∷ None ∷ None ∷ None ∷ Some fp ∷ []) r ≡ (entry_state d of).ranges r
+  pub entered_ranges : (d : ℕ) (fp : Range) → range_of fp ≡ reg.single (frame_end d) → (x1 x2 x3 x4 x5 : Option Range) → option_map range_of x1 ≡ ranges_of x.ranges 1 → option_map range_of x2 ≡ ranges_of x.ranges 2 → option_map range_of x3 ≡ ranges_of x.ranges 3 → option_map range_of x4 ≡ ranges_of x.ranges 4 → option_map range_of x5 ≡ ranges_of x.ranges 5 → (r : ℕ) → listed (None ∷ x1 ∷ x2 ∷ x3 ∷ x4 ∷ x5 ∷ None ∷ None ∷ None ∷ None ∷ Some fp ∷ []) r ≡ (entry_state d of).ranges r
   entered_ranges d fp e x1 x2 x3 x4 x5 e1 e2 e3 e4 e5 zero = refl
-  entered_ranges d fp e x1 x2 x3 x4 x5 e1 e2 e3 e4 e5 (suc zero) = ap (option_map range_of) e1 ∙ is.ranges_are 1
-  entered_ranges d fp e x1 x2 x3 x4 x5 e1 e2 e3 e4 e5 (suc (suc zero)) = ap (option_map range_of) e2 ∙ is.ranges_are 2
-  entered_ranges d fp e x1 x2 x3 x4 x5 e1 e2 e3 e4 e5 (suc (suc (suc zero))) = ap (option_map range_of) e3 ∙ is.ranges_are 3
-  entered_ranges d fp e x1 x2 x3 x4 x5 e1 e2 e3 e4 e5 (suc (suc (suc (suc zero)))) = ap (option_map range_of) e4 ∙ is.ranges_are 4
-  entered_ranges d fp e x1 x2 x3 x4 x5 e1 e2 e3 e4 e5 (suc (suc (suc (suc (suc zero))))) = ap (option_map range_of) e5 ∙ is.ranges_are 5
+  entered_ranges d fp e x1 x2 x3 x4 x5 e1 e2 e3 e4 e5 (suc zero) = e1 ∙ is.ranges_are 1
+  entered_ranges d fp e x1 x2 x3 x4 x5 e1 e2 e3 e4 e5 (suc (suc zero)) = e2 ∙ is.ranges_are 2
+  entered_ranges d fp e x1 x2 x3 x4 x5 e1 e2 e3 e4 e5 (suc (suc (suc zero))) = e3 ∙ is.ranges_are 3
+  entered_ranges d fp e x1 x2 x3 x4 x5 e1 e2 e3 e4 e5 (suc (suc (suc (suc zero)))) = e4 ∙ is.ranges_are 4
+  entered_ranges d fp e x1 x2 x3 x4 x5 e1 e2 e3 e4 e5 (suc (suc (suc (suc (suc zero))))) = e5 ∙ is.ranges_are 5
   entered_ranges d fp e x1 x2 x3 x4 x5 e1 e2 e3 e4 e5 (suc (suc (suc (suc (suc (suc zero)))))) = refl
   entered_ranges d fp e x1 x2 x3 x4 x5 e1 e2 e3 e4 e5 (suc (suc (suc (suc (suc (suc (suc zero))))))) = refl
   entered_ranges d fp e x1 x2 x3 x4 x5 e1 e2 e3 e4 e5 (suc (suc (suc (suc (suc (suc (suc (suc zero)))))))) = refl
@@ -184,23 +136,23 @@ module _ (x : AbstractState) (of : model.AbstractState) (is : Represents x of) w
         no_and false = refl
 
   -- a function returns
-  pub resumed_ranges : (long : length x.ranges ≡ 11) (y : AbstractState) (exit : model.AbstractState) → Represents y exit → (d : ℕ) (x0 x6 x7 x8 x9 x10 : Option Range) → x0 ≡ get_or y.ranges 0 None → x6 ≡ get_or x.ranges 6 None → x7 ≡ get_or x.ranges 7 None → x8 ≡ get_or x.ranges 8 None → x9 ≡ get_or x.ranges 9 None → x10 ≡ get_or x.ranges 10 None → (r : ℕ) → ranges_of (x0 ∷ None ∷ None ∷ None ∷ None ∷ None ∷ x6 ∷ x7 ∷ x8 ∷ x9 ∷ x10 ∷ []) r ≡ (after_call d of exit).ranges r
-  resumed_ranges long y exit out d x0 x6 x7 x8 x9 x10 e0 e6 e7 e8 e9 e10 zero = ap (option_map range_of) e0 ∙ out.ranges_are 0
-  resumed_ranges long y exit out d x0 x6 x7 x8 x9 x10 e0 e6 e7 e8 e9 e10 (suc zero) = refl
-  resumed_ranges long y exit out d x0 x6 x7 x8 x9 x10 e0 e6 e7 e8 e9 e10 (suc (suc zero)) = refl
-  resumed_ranges long y exit out d x0 x6 x7 x8 x9 x10 e0 e6 e7 e8 e9 e10 (suc (suc (suc zero))) = refl
-  resumed_ranges long y exit out d x0 x6 x7 x8 x9 x10 e0 e6 e7 e8 e9 e10 (suc (suc (suc (suc zero)))) = refl
-  resumed_ranges long y exit out d x0 x6 x7 x8 x9 x10 e0 e6 e7 e8 e9 e10 (suc (suc (suc (suc (suc zero))))) = refl
-  resumed_ranges long y exit out d x0 x6 x7 x8 x9 x10 e0 e6 e7 e8 e9 e10 (suc (suc (suc (suc (suc (suc zero)))))) = ap (option_map range_of) e6 ∙ is.ranges_are 6
-  resumed_ranges long y exit out d x0 x6 x7 x8 x9 x10 e0 e6 e7 e8 e9 e10 (suc (suc (suc (suc (suc (suc (suc zero))))))) = ap (option_map range_of) e7 ∙ is.ranges_are 7
-  resumed_ranges long y exit out d x0 x6 x7 x8 x9 x10 e0 e6 e7 e8 e9 e10 (suc (suc (suc (suc (suc (suc (suc (suc zero)))))))) = ap (option_map range_of) e8 ∙ is.ranges_are 8
-  resumed_ranges long y exit out d x0 x6 x7 x8 x9 x10 e0 e6 e7 e8 e9 e10 (suc (suc (suc (suc (suc (suc (suc (suc (suc zero))))))))) = ap (option_map range_of) e9 ∙ is.ranges_are 9
-  resumed_ranges long y exit out d x0 x6 x7 x8 x9 x10 e0 e6 e7 e8 e9 e10 (suc (suc (suc (suc (suc (suc (suc (suc (suc (suc zero)))))))))) = ap (option_map range_of) e10 ∙ is.ranges_are 10
-  resumed_ranges long y exit out d x0 x6 x7 x8 x9 x10 e0 e6 e7 e8 e9 e10 (suc (suc (suc (suc (suc (suc (suc (suc (suc (suc (suc r))))))))))) =
+  pub resumed_ranges : (y : AbstractState) (exit : model.AbstractState) → Represents y exit → (d : ℕ) (x0 x6 x7 x8 x9 x10 : Option Range) → option_map range_of x0 ≡ ranges_of y.ranges 0 → option_map range_of x6 ≡ ranges_of x.ranges 6 → option_map range_of x7 ≡ ranges_of x.ranges 7 → option_map range_of x8 ≡ ranges_of x.ranges 8 → option_map range_of x9 ≡ ranges_of x.ranges 9 → option_map range_of x10 ≡ ranges_of x.ranges 10 → (r : ℕ) → listed (x0 ∷ None ∷ None ∷ None ∷ None ∷ None ∷ x6 ∷ x7 ∷ x8 ∷ x9 ∷ x10 ∷ []) r ≡ (after_call d of exit).ranges r
+  resumed_ranges y exit out d x0 x6 x7 x8 x9 x10 e0 e6 e7 e8 e9 e10 zero = e0 ∙ out.ranges_are 0
+  resumed_ranges y exit out d x0 x6 x7 x8 x9 x10 e0 e6 e7 e8 e9 e10 (suc zero) = refl
+  resumed_ranges y exit out d x0 x6 x7 x8 x9 x10 e0 e6 e7 e8 e9 e10 (suc (suc zero)) = refl
+  resumed_ranges y exit out d x0 x6 x7 x8 x9 x10 e0 e6 e7 e8 e9 e10 (suc (suc (suc zero))) = refl
+  resumed_ranges y exit out d x0 x6 x7 x8 x9 x10 e0 e6 e7 e8 e9 e10 (suc (suc (suc (suc zero)))) = refl
+  resumed_ranges y exit out d x0 x6 x7 x8 x9 x10 e0 e6 e7 e8 e9 e10 (suc (suc (suc (suc (suc zero))))) = refl
+  resumed_ranges y exit out d x0 x6 x7 x8 x9 x10 e0 e6 e7 e8 e9 e10 (suc (suc (suc (suc (suc (suc zero)))))) = e6 ∙ is.ranges_are 6
+  resumed_ranges y exit out d x0 x6 x7 x8 x9 x10 e0 e6 e7 e8 e9 e10 (suc (suc (suc (suc (suc (suc (suc zero))))))) = e7 ∙ is.ranges_are 7
+  resumed_ranges y exit out d x0 x6 x7 x8 x9 x10 e0 e6 e7 e8 e9 e10 (suc (suc (suc (suc (suc (suc (suc (suc zero)))))))) = e8 ∙ is.ranges_are 8
+  resumed_ranges y exit out d x0 x6 x7 x8 x9 x10 e0 e6 e7 e8 e9 e10 (suc (suc (suc (suc (suc (suc (suc (suc (suc zero))))))))) = e9 ∙ is.ranges_are 9
+  resumed_ranges y exit out d x0 x6 x7 x8 x9 x10 e0 e6 e7 e8 e9 e10 (suc (suc (suc (suc (suc (suc (suc (suc (suc (suc zero)))))))))) = e10 ∙ is.ranges_are 10
+  resumed_ranges y exit out d x0 x6 x7 x8 x9 x10 e0 e6 e7 e8 e9 e10 (suc (suc (suc (suc (suc (suc (suc (suc (suc (suc (suc r))))))))))) =
       let n : ℕ = suc (suc (suc (suc (suc (suc (suc (suc (suc (suc (suc r)))))))))) in
       let zero_test : eqb n 0 ≡ false = not_equal n 0 (λ e. omega arith) in
       let six : leb 6 n ≡ true = le-leb 6 n (omega arith) in
-      let none : of.ranges n ≡ None = sym (is.ranges_are n) ∙ past_end x.ranges n long (omega arith) in
+      let none : of.ranges n ≡ None = sym (is.ranges_are n) ∙ range_past x.ranges.lo x.ranges.hi x.ranges.known n (omega arith) in
       sym (ap (λ (b : Bool). cond b (exit.ranges 0) (cond (leb 6 n) (of.ranges n) None)) zero_test
       ∙ ap (λ (b : Bool). cond b (of.ranges n) None) six
       ∙ none)

@@ -1,6 +1,7 @@
 pub mod Flat
 pub mod FrameBytes
 pub mod Observed
+pub mod Registers
 pub mod Represents
 pub mod Sweep
 pub mod Verified

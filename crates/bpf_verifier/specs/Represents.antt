@@ -1,19 +1,18 @@
 -- Statement: what the verifier's arrays say of an abstract state.
-use Rattle.std.specs.Prelude.{◌≡◌, ℕ, Bool, List, slice_index_or, Option, Some, None}
-use Rattle.std.specs.Option.{option_map}
+use Rattle.std.specs.Prelude.{◌≡◌, ℕ, Bool, Option, Some, None}
 use Rattle.reg_ranges.specs.Ranges as reg
-use Rattle.reg_ranges.specs.RangeOf.{range_of}
-use Rattle.reg_ranges.specs.declared.range.Range.{Range}
 use Rattle.bpf_model.specs.AbstractState as model
 use Rattle.bpf_verifier.specs.declared.abstract_state.AbstractState.{AbstractState}
+use Rattle.bpf_verifier.specs.declared.registers.RegisterRanges.{RegisterRanges}
 use Rattle.bpf_verifier.specs.FrameBytes.{AreBitsOf}
+use Rattle.bpf_verifier.specs.Registers.{range_at}
 
 -- The range of each register that has one.
-abbrev pub ranges_of : List (Option Range) → ℕ → Option reg.Range
-ranges_of ranges r = option_map range_of (slice_index_or ranges r None)
+abbrev pub ranges_of : RegisterRanges → ℕ → Option reg.Range
+ranges_of ranges r = range_at ranges.lo ranges.hi ranges.known r
 
 -- The state of these registers, with these initialized bytes.
-abbrev pub state_of : List (Option Range) → (ℕ → Bool) → model.AbstractState
+abbrev pub state_of : RegisterRanges → (ℕ → Bool) → model.AbstractState
 state_of ranges init = record { ranges = ranges_of ranges; initialized = init }
 
 -- The ranges are those of the state, and the words hold the initialized bytes of the stack.

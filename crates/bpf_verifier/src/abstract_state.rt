@@ -1,25 +1,21 @@
 //! The abstract state at a slot: the ranges of the registers and the initialized bytes of the stack.
 
-ghost use Rattle.std.specs.Prelude.{◌≡◌, ℕ, Some, None};
-ghost use Rattle.std.specs.Option.{option_map};
-ghost use Rattle.reg_ranges.specs.RangeOf.{range_of};
-ghost use Rattle.bpf_model.specs.AbstractState.{join_option};
-
 use crate::frame_bytes::FrameBytes;
+use crate::registers::RegisterRanges;
 use bpf_decode::{Reg, Source};
-use bpf_model::layout::{ARGUMENTS_START, FRAME_END, FRAME_START, REGISTERS, STACK_END, frame_end};
-use reg_ranges::{Range, join};
+use bpf_model::layout::{ARGUMENTS_START, FRAME_END, FRAME_START, STACK_END, frame_end};
+use reg_ranges::Range;
 
 /// The range of each register that holds a number for certain, and which bytes of the stack are
 /// initialized for certain.
 #[derive(Clone, Copy)]
 pub struct AbstractState {
-    pub ranges: [Option<Range>; REGISTERS],
+    pub ranges: RegisterRanges,
     pub initialized: FrameBytes,
 }
 
 impl AbstractState {
-    ghost use Rattle.std.specs.Prelude.{◌≡◌, ℕ, ◌<◌, ◌≤◌, false, Some, Option, slice_set};
+    ghost use Rattle.std.specs.Prelude.{◌≡◌, ℕ, ◌<◌, ◌≤◌, ◌==◌, if◌then◌else◌, false, Some, Option};
     ghost use Rattle.std.specs.Option.{option_map, is_some};
     ghost use Rattle.std.specs.Int.{w64, cast_unsigned};
     ghost use Rattle.reg_ranges.specs.RangeOf.{range_of};
@@ -33,7 +29,7 @@ impl AbstractState {
         ensures { Represents result start_state }
     {
         AbstractState {
-            ranges: [
+            ranges: RegisterRanges::from_array([
                 None,
                 Some(Range::single(ARGUMENTS_START)),
                 Some(Range::new(0, 256)),
@@ -45,7 +41,7 @@ impl AbstractState {
                 None,
                 None,
                 Some(Range::single(FRAME_END)),
-            ],
+            ]),
             initialized: FrameBytes::none(),
         }
     }
@@ -55,11 +51,7 @@ impl AbstractState {
     pub fn range_of(&self, register: u8) -> Option<Range>
         ensures { option_map range_of result ≡ ranges_of self.now.ranges register }
     {
-        if (register as usize) < REGISTERS {
-            self.ranges[register as usize]
-        } else {
-            None
-        }
+        self.ranges.get(register)
     }
 
     /// Whether the byte at an address is one of the stack that is initialized for certain.
@@ -78,7 +70,7 @@ impl AbstractState {
     pub(crate) fn has(&self, register: u8) -> bool
         ensures { result ≡ is_some (ranges_of self.now.ranges register) }
     {
-        self.range_of(register).is_some()
+        self.ranges.has(register)
     }
 
     /// Whether all of these registers do.
@@ -114,10 +106,11 @@ impl AbstractState {
 
     /// Gives a register a range, or none.
     pub(crate) fn set(&mut self, register: Reg, range: Option<Range>)
-        ensures ranges { self.new.ranges ≡ slice_set self.old.ranges register.number range }
+        ensures ranges { (r : ℕ) → ranges_of self.new.ranges r ≡
+            (if r == register.number then option_map range_of range else ranges_of self.old.ranges r) }
         ensures initialized { self.new.initialized ≡ self.old.initialized }
     {
-        self.ranges[register.number as usize] = range;
+        self.ranges.set(register.number as usize, range);
     }
 
     /// Keeps what is certain in both states.
@@ -126,9 +119,7 @@ impl AbstractState {
         ensures { (a b : ModelState) → Represents self.old a → Represents other.now b →
             Represents self.new (join_with (Some a) b) }
     {
-        for register in 0..REGISTERS {
-            self.ranges[register] = join_ranges(self.ranges[register], other.ranges[register]);
-        }
+        self.ranges.join(&other.ranges);
         self.initialized.intersect(&other.initialized);
     }
 
@@ -139,19 +130,19 @@ impl AbstractState {
             Represents result (entry_state depth of) }
     {
         AbstractState {
-            ranges: [
+            ranges: RegisterRanges::from_array([
                 None,
-                self.ranges[1],
-                self.ranges[2],
-                self.ranges[3],
-                self.ranges[4],
-                self.ranges[5],
+                self.ranges.get(1),
+                self.ranges.get(2),
+                self.ranges.get(3),
+                self.ranges.get(4),
+                self.ranges.get(5),
                 None,
                 None,
                 None,
                 None,
                 Some(Range::single(frame_end(depth))),
-            ],
+            ]),
             initialized: self.initialized,
         }
     }
@@ -162,30 +153,20 @@ impl AbstractState {
         ensures { (of exit : ModelState) → Represents self.old of → Represents returned.now exit →
             Represents self.new (after_call depth of exit) }
     {
-        self.ranges = [
-            returned.ranges[0],
+        self.ranges = RegisterRanges::from_array([
+            returned.ranges.get(0),
             None,
             None,
             None,
             None,
             None,
-            self.ranges[6],
-            self.ranges[7],
-            self.ranges[8],
-            self.ranges[9],
-            self.ranges[10],
-        ];
+            self.ranges.get(6),
+            self.ranges.get(7),
+            self.ranges.get(8),
+            self.ranges.get(9),
+            self.ranges.get(10),
+        ]);
         self.initialized = returned.initialized;
         self.initialized.remove_frame(depth);
-    }
-}
-
-fn join_ranges(a: Option<Range>, b: Option<Range>) -> Option<Range>
-    ensures { option_map range_of result ≡
-        join_option (option_map range_of a) (option_map range_of b) }
-{
-    match (a, b) {
-        (Some(a), Some(b)) => Some(join(a, b)),
-        _ => None,
     }
 }

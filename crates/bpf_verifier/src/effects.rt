@@ -6,6 +6,7 @@ ghost use Rattle.bpf_model.specs.AbstractState.{loaded_range, transfer};
 
 use crate::abstract_state::AbstractState;
 use crate::checks::bytes_of;
+use crate::registers::RegisterRanges;
 use bpf_decode::{Insn, Reg, Size, Source};
 use bpf_model::layout::{FRAME_START, STACK_END};
 use bpf_num::{AluOp, AluWidth, Test};
@@ -110,19 +111,19 @@ impl AbstractState {
             let range = self.range_of(access.register);
             self.initialize(range, access.size.fixed());
         }
-        self.ranges = [
+        self.ranges = RegisterRanges::from_array([
             Some(Range::new(0, max_answer)),
             None,
             None,
             None,
             None,
             None,
-            self.ranges[6],
-            self.ranges[7],
-            self.ranges[8],
-            self.ranges[9],
-            self.ranges[10],
-        ];
+            self.ranges.get(6),
+            self.ranges.get(7),
+            self.ranges.get(8),
+            self.ranges.get(9),
+            self.ranges.get(10),
+        ]);
     }
 
     /// Initializes what a store writes.

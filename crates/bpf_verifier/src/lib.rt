@@ -11,6 +11,7 @@ mod frame_bytes;
 mod law;
 mod observer;
 mod procedure;
+mod registers;
 mod slots;
 mod structure;
 

@@ -4,7 +4,7 @@ use Rattle.std.proofs.lemmas.List.Folds.{list_all-append}
 use Rattle.map_helpers.specs.declared.helper.Helper.{Helper}
 use Rattle.bpf_model.specs.Access.{bytes_of}
 use Rattle.map_helpers.specs.Helpers.{helper_of, reads, writes}
-use Rattle.bpf_model.specs.AbstractState.{in_bounds, access_in_bounds, address_range, has_accesses, all_in_bounds, helper_reads, helper_writes}
+use Rattle.bpf_model.specs.AbstractState.{in_bounds, is_initialized, has_bytes, access_in_bounds, address_range, has_accesses, all_in_bounds, helper_reads, helper_writes}
 use Rattle.bpf_model.proofs.Options.{and_true}
 use Rattle.bpf_verifier.specs.Represents.{state_of, ranges_of}
 use Rattle.bpf_verifier.proofs.abstract_state.AbstractState.has_bytes.Goals as goal
@@ -31,3 +31,11 @@ are_initialized-requires c =
     ∙ ap (has_accesses c.requires.0 (state_of c.args.self.now.ranges (λ a. false))) (sym c.in-CallHelper.is) ∙ c.requires.2 (λ a. false) in
     let split = sym (list_all-append (access_in_bounds c.requires.0 (ranges_of c.args.self.now.ranges)) (reads h) (writes h)) ∙ whole in
     (c.requires.0, c.requires.1, ap (all_in_bounds c.requires.0 (ranges_of c.args.self.now.ranges)) c.reads.ensures ∙ (and_true _ _ split).0)
+
+pub returns-in-Load : goal.returns-in-Load
+returns-in-Load c = λ init bits.
+    let n = c.in-Load.offset in
+    let again : cast_signed w16 (cast_unsigned w16 n) ≡ n = search rules in
+    c.has_bytes_at.ensures init bits
+    ∙ ap (λ (z : ℤ). is_initialized init (address_range (state_of c.args.self.now.ranges init) c.in-Load.base.number z) (bytes_of c.in-Load.size)) again
+    ∙ ap (has_bytes (state_of c.args.self.now.ranges init)) (sym c.in-Load.is)

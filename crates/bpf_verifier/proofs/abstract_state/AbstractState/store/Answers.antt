@@ -1,11 +1,11 @@
-use Rattle.std.proofs.Common.{◌≡◌, ◌+◌, ◌∙◌, ◌||◌, ap, rules, List, Option, Bool, ℕ, ℤ}
+use Rattle.std.proofs.Common.{◌≡◌, ◌+◌, ◌∙◌, ◌||◌, ap, rules, Option, Bool, ℕ, ℤ}
 use Rattle.std.specs.Int.{w16, cast_signed, cast_unsigned}
 use Rattle.std.specs.Option.{option_map}
 use Rattle.reg_ranges.specs.RangeOf.{range_of}
 use Rattle.reg_ranges.specs.Ranges as reg
-use Rattle.reg_ranges.specs.declared.range.Range.{Range}
 use Rattle.bpf_model.specs.Machine.{frame_start}
 use Rattle.bpf_model.specs.AbstractState.{address_range, is_written}
+use Rattle.bpf_verifier.specs.declared.registers.RegisterRanges.{RegisterRanges}
 use Rattle.bpf_verifier.specs.Represents.{state_of, ranges_of}
 use Rattle.bpf_verifier.proofs.abstract_state.AbstractState.store.Goals as goal
 
@@ -15,7 +15,7 @@ returns c = λ init bits.
     let again : cast_signed w16 (cast_unsigned w16 n) ≡ n = search rules in
     let old = c.args.self.now.ranges in
     record {
-      ranges_are = λ r. ap (λ (rs : List (Option Range)). ranges_of rs r) c.initialize.ensures.ranges;
+      ranges_are = λ r. ap (λ (rs : RegisterRanges). ranges_of rs r) c.initialize.ensures.ranges;
       initialized_are = λ i h.
           c.initialize.ensures.initialized i h
           ∙ ap (λ (b : Bool). is_written (option_map range_of c.address_range-range.result) c.bytes_of.result (frame_start 0 + i) || b) (bits i h)

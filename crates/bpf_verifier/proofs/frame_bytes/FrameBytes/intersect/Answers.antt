@@ -1,16 +1,16 @@
-use Rattle.std.proofs.Common.{◌≡◌, rules, refl, length, arith}
+use Rattle.std.proofs.Common.{◌≡◌, rules, refl, length, arith, bit_and}
 use Rattle.bpf_verifier.specs.FrameBytes.{AreZeroFrom}
-use Rattle.bpf_verifier.proofs.Bits.{intersected_none, intersected_more, intersected_all}
+use Rattle.bpf_verifier.proofs.Bits.{merged_none, merged_more, intersected_all}
 use Rattle.bpf_verifier.proofs.frame_bytes.FrameBytes.intersect.Goals as goal
 
 pub loop-word-init : goal.loop-word-init
-loop-word-init c = intersected_none _ _
+loop-word-init c = merged_none bit_and _ _
 
 pub loop-word-preserved : goal.loop-word-preserved
 loop-word-preserved c =
     let a : length c.loop-word.self.words ≡ 64 = search rules in
     let b : length c.args.other.now.words ≡ 64 = search rules in
-    intersected_more c.loop-word.word c.loop-word.self.words c.args.self.now.words c.args.other.now.words _ _ _ c.loop-word.invariant (omega (arith, a, c.loop-word-test.true)) (omega (arith, b, c.loop-word-test.true)) refl
+    merged_more bit_and c.loop-word.word c.loop-word.self.words c.args.self.now.words c.args.other.now.words _ _ _ c.loop-word.invariant (omega (arith, a, c.loop-word-test.true)) (omega (arith, b, c.loop-word-test.true)) refl
 
 pub returns : goal.returns
 returns c = λ i h.

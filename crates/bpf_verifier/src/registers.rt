@@ -1,0 +1,93 @@
+//! The ranges of the registers.
+
+ghost use Rattle.bpf_verifier.specs.Registers.{AreOrdered};
+
+use bpf_model::layout::REGISTERS;
+use reg_ranges::Range;
+
+/// The range of each register that holds a number for certain: its ends, and a bit that says that it holds
+/// one. The ends of the others are in order too but mean nothing, so that a join has no branch.
+#[derive(Clone, Copy)]
+pub struct RegisterRanges {
+    lo: [u64; REGISTERS],
+    hi: [u64; REGISTERS],
+    known: u64,
+    ghost ordered: { AreOrdered lo hi },
+}
+
+impl RegisterRanges {
+    ghost use Rattle.std.specs.Prelude.{◌≡◌, ℕ, ◌<◌, ◌==◌, if◌then◌else◌, slice_index_or};
+    ghost use Rattle.std.specs.Option.{option_map, is_some};
+    ghost use Rattle.reg_ranges.specs.RangeOf.{range_of};
+    ghost use Rattle.bpf_model.specs.AbstractState.{join_option};
+    ghost use Rattle.bpf_verifier.specs.Represents.{ranges_of};
+
+    /// No register holds a number for certain.
+    fn none() -> RegisterRanges
+        ensures { (r : ℕ) → ranges_of result r ≡ None }
+    {
+        RegisterRanges {
+            lo: [0; REGISTERS],
+            hi: [0; REGISTERS],
+            known: 0,
+        }
+    }
+
+    /// The registers with these ranges, r0's first.
+    pub fn from_array(ranges: [Option<Range>; REGISTERS]) -> RegisterRanges
+        ensures { (r : ℕ) → ranges_of result r ≡ option_map range_of (slice_index_or ranges r None) }
+    {
+        let mut registers = RegisterRanges::none();
+        for register in 0..REGISTERS {
+            registers.set(register, ranges[register]);
+        }
+        registers
+    }
+
+    /// Whether a register holds a number for certain. Registers above r10 don't.
+    pub fn has(&self, register: u8) -> bool
+        ensures { result ≡ is_some (ranges_of self.now register) }
+    {
+        (register as usize) < REGISTERS && self.known >> register & 1 == 1
+    }
+
+    /// The range of a register that holds a number for certain.
+    pub fn get(&self, register: u8) -> Option<Range>
+        ensures { option_map range_of result ≡ ranges_of self.now register }
+    {
+        if self.has(register) {
+            let register = register as usize;
+            Some(Range::new(self.lo[register], self.hi[register]))
+        } else {
+            None
+        }
+    }
+
+    /// Gives a register a range, or none.
+    pub fn set(&mut self, register: usize, range: Option<Range>)
+        requires { register < 11 }
+        ensures { (r : ℕ) → ranges_of self.new r ≡
+            (if r == register then option_map range_of range else ranges_of self.old r) }
+    {
+        match range {
+            Some(range) => {
+                self.lo[register] = range.lo;
+                self.hi[register] = range.hi;
+                self.known |= 1 << register;
+            }
+            None => self.known &= !(1 << register),
+        }
+    }
+
+    /// Keeps the registers that hold a number in both, each with the least range that holds both of its own.
+    pub fn join(&mut self, other: &RegisterRanges)
+        ensures { (r : ℕ) → ranges_of self.new r ≡
+            join_option (ranges_of self.old r) (ranges_of other.now r) }
+    {
+        for register in 0..REGISTERS {
+            self.lo[register] = self.lo[register].min(other.lo[register]);
+            self.hi[register] = self.hi[register].max(other.hi[register]);
+        }
+        self.known &= other.known;
+    }
+}
