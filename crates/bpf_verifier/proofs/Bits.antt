@@ -12,29 +12,27 @@ use Rattle.bpf_verifier.specs.FrameBytes.{has_byte, AreZeroFrom}
 pub not_equal : (a b : ℕ) → a ≢ b → eqb a b ≡ false
 not_equal a b h = elim (eqb_tells a b) [ inl (e, same) ↦ absurd (h same) | inr (e, other) ↦ e ]
 
+-- what holds of each pair of bits
+each_pair : (P : ℕ → ℕ → Type 0) → P 0 0 → P 0 1 → P 1 0 → P 1 1 → (p q : ℕ) → p < 2 → q < 2 → P p q
+each_pair P a b c d zero zero hp hq = a
+each_pair P a b c d zero (suc zero) hp hq = b
+each_pair P a b c d (suc zero) zero hp hq = c
+each_pair P a b c d (suc zero) (suc zero) hp hq = d
+each_pair P a b c d (suc (suc p)) q hp hq = absurd (omega (arith, hp))
+each_pair P a b c d zero (suc (suc q)) hp hq = absurd (omega (arith, hq))
+each_pair P a b c d (suc zero) (suc (suc q)) hp hq = absurd (omega (arith, hq))
+
 -- a bit of both
 pub both_bits : (x y k : ℕ) → eqb (bit_at (bit_and x y) k) 1 ≡ (eqb (bit_at x k) 1 && eqb (bit_at y k) 1)
-both_bits x y k = ap (λ (v : ℕ). eqb v 1) (bit_at_and x y k) ∙ small (bit_at x k) (bit_at y k) (bit_at-lt x k) (bit_at-lt y k) where
-  small : (p q : ℕ) → p < 2 → q < 2 → eqb (min p q) 1 ≡ (eqb p 1 && eqb q 1)
-  small zero zero hp hq = refl
-  small zero (suc zero) hp hq = refl
-  small (suc zero) zero hp hq = refl
-  small (suc zero) (suc zero) hp hq = refl
-  small (suc (suc p)) q hp hq = absurd (omega (arith, hp))
-  small zero (suc (suc q)) hp hq = absurd (omega (arith, hq))
-  small (suc zero) (suc (suc q)) hp hq = absurd (omega (arith, hq))
+both_bits x y k =
+    ap (λ (v : ℕ). eqb v 1) (bit_at_and x y k)
+    ∙ each_pair (λ p q. eqb (min p q) 1 ≡ (eqb p 1 && eqb q 1)) refl refl refl refl (bit_at x k) (bit_at y k) (bit_at-lt x k) (bit_at-lt y k)
 
 -- a bit of either
 pub either_bit : (x y k : ℕ) → eqb (bit_at (bit_or x y) k) 1 ≡ (eqb (bit_at y k) 1 || eqb (bit_at x k) 1)
-either_bit x y k = ap (λ (v : ℕ). eqb v 1) (bit_at_or x y k) ∙ small (bit_at x k) (bit_at y k) (bit_at-lt x k) (bit_at-lt y k) where
-  small : (p q : ℕ) → p < 2 → q < 2 → eqb (max p q) 1 ≡ (eqb q 1 || eqb p 1)
-  small zero zero hp hq = refl
-  small zero (suc zero) hp hq = refl
-  small (suc zero) zero hp hq = refl
-  small (suc zero) (suc zero) hp hq = refl
-  small (suc (suc p)) q hp hq = absurd (omega (arith, hp))
-  small zero (suc (suc q)) hp hq = absurd (omega (arith, hq))
-  small (suc zero) (suc (suc q)) hp hq = absurd (omega (arith, hq))
+either_bit x y k =
+    ap (λ (v : ℕ). eqb v 1) (bit_at_or x y k)
+    ∙ each_pair (λ p q. eqb (max p q) 1 ≡ (eqb q 1 || eqb p 1)) refl refl refl refl (bit_at x k) (bit_at y k) (bit_at-lt x k) (bit_at-lt y k)
 
 -- the byte of a bit of a word
 byte_of : (words : List ℕ) (word k : ℕ) → k < 64 → has_byte words (64 * word + k) ≡ eqb (bit_at (get_or words word 0) k) 1
