@@ -58,7 +58,7 @@ fn read_code(alloc: Global, bytes: &[u8]) -> Result<Vec<Insn>, Refusal>
 }
 
 /// Puts the instruction that the slots from this one on encode in its place, and returns how many they
-/// are; or the slot's first fault.
+/// are; or returns the slot's first fault.
 fn read_insn(bytes: &[u8], slot: usize, insn: &mut Insn) -> Result<usize, Refusal>
     requires within { 8 * slot + 8 ≤ length bytes.now }
     requires whole { length bytes.now % 8 ≡ 0 }

@@ -68,9 +68,9 @@ impl Slot {
         ]
     }
 
-    /// Puts the instruction whose first slot this is, before the slot behind it, in its place; or the
-    /// slot's first fault, and the instruction in that place is then any. It is written where it
-    /// stays, since to hand it over costs as much as to read it.
+    /// Puts the instruction whose first slot this is, before the slot behind it, in its place; or returns
+    /// the slot's first fault, and what stands in that place then says nothing. The instruction is written
+    /// where it stays: handed over, its fields would be put together twice.
     pub fn read(self, behind: Option<Slot>, insn: &mut Insn) -> Result<(), DecodeFault>
         requires fits { IsSlot self }
         requires behind_fits { IfSome behind (λ slot. IsSlot slot) }
