@@ -2,7 +2,7 @@
 
 ghost use Rattle.std.specs.Prelude.{◌≡◌, ◌⊎◌, ◌<◌, ◌==◌, ℤ, true, false, find, pos, Some, IfSome};
 ghost use Rattle.std.specs.Option.{option_map};
-ghost use Rattle.bpf_decode.specs.Opcodes.{opcode_byte, opcode_of, alu_opcode, test_opcode, load_opcode, stored_size, memory_opcode, single_opcodes, class_bits, jump_class, source_bit, operation_bits, test_bits, size_bits, widths, sources, narrows, operations, tests, sizes, short_sizes, variant_of, has_form, uses_offset, has_operand, operation_of, offset_of, swap_width};
+ghost use Rattle.bpf_decode.specs.Opcodes.{opcode_byte, opcode_of, alu_opcode, test_opcode, load_opcode, memory_opcode, single_opcodes, class_bits, jump_class, source_bit, operation_bits, test_bits, size_bits, widths, sources, narrows, operations, tests, sizes, short_sizes, variant_of, has_form, uses_offset, has_operand, operation_of, offset_of, swap_width};
 ghost use Rattle.bpf_num.specs.declared.AluWidth.{AluWidth};
 ghost use Rattle.bpf_num.specs.ByteSwap.{swap_bits};
 ghost use Rattle.bpf_decode.specs.declared.opcode.Opcode.TheVariants.{Alu};
@@ -87,14 +87,12 @@ impl Opcode {
         if let Some(opcode) = single_opcode(byte) {
             return Some(opcode);
         }
+        // The size before the class: it is looked up then, where each class by itself would jump for it.
+        let (mode, size) = (byte / 32, size_of(byte / 8 % 4));
         match byte % 8 {
-            0x1 => load_opcode(byte / 32, byte / 8 % 4),
-            0x2 => Some(Opcode::StoreImm {
-                size: stored_size(byte / 32, byte / 8 % 4)?,
-            }),
-            0x3 => Some(Opcode::Store {
-                size: stored_size(byte / 32, byte / 8 % 4)?,
-            }),
+            0x1 => load_opcode(mode, size),
+            0x2 if mode == 3 => Some(Opcode::StoreImm { size }),
+            0x3 if mode == 3 => Some(Opcode::Store { size }),
             class @ (0x4 | 0x7) => alu_opcode(width_of(class), byte / 8 % 2, byte / 16),
             class @ (0x5 | 0x6) => test_opcode(is_narrow(class), byte / 8 % 2, byte / 16),
             _ => None,
@@ -368,11 +366,9 @@ fn test_opcode(narrow: bool, source: u8, operation: u8) -> Option<Opcode>
 }
 
 /// The opcode of a load, of a mode and a size.
-fn load_opcode(mode: u8, size: u8) -> Option<Opcode>
-    requires { size < 4 }
-    ensures { result ≡ load_opcode mode size }
+fn load_opcode(mode: u8, size: Size) -> Option<Opcode>
+    ensures { result ≡ load_opcode mode (size_bits size) }
 {
-    let size = size_of(size);
     match mode {
         3 => Some(Opcode::Load {
             size,
@@ -386,14 +382,7 @@ fn load_opcode(mode: u8, size: u8) -> Option<Opcode>
     }
 }
 
-/// The size of a store, of a mode and a size.
-fn stored_size(mode: u8, size: u8) -> Option<Size>
-    requires { size < 4 }
-    ensures { result ≡ stored_size mode size }
-{
-    if mode == 3 { Some(size_of(size)) } else { None }
-}
-
+/// The size that two bits name.
 fn size_of(bits: u8) -> Size
     requires { bits < 4 }
     ensures { Some result ≡ find (λ s. size_bits s == bits) sizes }

@@ -233,10 +233,11 @@ fn loaded_range(size: Size, signed: bool) -> Range
     if signed {
         return Range::new(0, u64::MAX);
     }
-    match size {
-        Size::B => Range::new(0, 0xff),
-        Size::H => Range::new(0, 0xffff),
-        Size::W => Range::new(0, 0xffff_ffff),
-        Size::Dw => Range::new(0, u64::MAX),
-    }
+    let greatest = match size {
+        Size::B => 0xff,
+        Size::H => 0xffff,
+        Size::W => 0xffff_ffff,
+        Size::Dw => u64::MAX,
+    };
+    Range::new(0, greatest)
 }

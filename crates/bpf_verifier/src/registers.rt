@@ -3,7 +3,7 @@
 ghost use Rattle.bpf_verifier.specs.Registers.{AreOrdered};
 
 use bpf_model::layout::REGISTERS;
-use reg_ranges::Range;
+use reg_ranges::{Range, join};
 
 /// The range of each register that holds a number for certain: its ends, and a bit that says that it holds
 /// one. The ends of the others are in order too but mean nothing, so that a join has no branch.
@@ -85,8 +85,12 @@ impl RegisterRanges {
             join_option (ranges_of self.old r) (ranges_of other.now r) }
     {
         for register in 0..REGISTERS {
-            self.lo[register] = self.lo[register].min(other.lo[register]);
-            self.hi[register] = self.hi[register].max(other.hi[register]);
+            let joined = join(
+                Range::new(self.lo[register], self.hi[register]),
+                Range::new(other.lo[register], other.hi[register]),
+            );
+            self.lo[register] = joined.lo;
+            self.hi[register] = joined.hi;
         }
         self.known &= other.known;
     }

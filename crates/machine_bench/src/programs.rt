@@ -134,8 +134,8 @@ fn access(numbers: &mut Numbers) -> [u8; 8] {
 }
 
 /// Loads and stores, behind stores over the last 128 bytes of the frame.
-pub fn accesses(alloc: Global, count: u32) -> Result<Program, AllocError> {
-    let mut numbers = Numbers(2);
+fn accesses(alloc: Global, seed: u64, count: u32) -> Result<Program, AllocError> {
+    let mut numbers = Numbers(seed);
     let mut code = with_registers(alloc)?;
     for index in 1..17i16 {
         code.extend_from_slice(&slot(0x7a, 10, 0, index.wrapping_mul(-8), 7))?;
@@ -147,8 +147,8 @@ pub fn accesses(alloc: Global, count: u32) -> Result<Program, AllocError> {
 }
 
 /// Appends tests that jump over an addition, some of them of low halves.
-fn push_tests(code: &mut Vec<u8>, count: u32) -> Result<(), AllocError> {
-    let mut numbers = Numbers(3);
+fn push_tests(code: &mut Vec<u8>, seed: u64, count: u32) -> Result<(), AllocError> {
+    let mut numbers = Numbers(seed);
     for _ in 0..count {
         let class = if numbers.below(4) == 0 { 1 } else { 0 };
         let opcode = one_of(&mut numbers, &TESTS).wrapping_add(class);
@@ -166,22 +166,53 @@ fn push_tests(code: &mut Vec<u8>, count: u32) -> Result<(), AllocError> {
 }
 
 /// Tests of constants: the verifier knows of each which edge is taken.
-pub fn tests(alloc: Global, name: &'static str, count: u32) -> Result<Program, AllocError> {
+fn tests(alloc: Global, seed: u64, count: u32) -> Result<Program, AllocError> {
     let mut code = with_registers(alloc)?;
-    push_tests(&mut code, count)?;
-    ended_program(name, code)
+    push_tests(&mut code, seed, count)?;
+    ended_program("tests", code)
 }
 
 /// Tests of numbers that are loaded: nearly each can be taken or not, and its edges join behind the
 /// addition.
-pub fn joins(alloc: Global, name: &'static str, count: u32) -> Result<Program, AllocError> {
+fn joins(alloc: Global, seed: u64, count: u32) -> Result<Program, AllocError> {
     let mut code = Vec::new(alloc);
     for register in [0u8, 3, 4, 5, 6, 7, 8, 9] {
         let offset = i16::from(register).wrapping_mul(4);
         code.extend_from_slice(&slot(0x61, register, 1, offset, 0))?;
     }
-    push_tests(&mut code, count)?;
-    ended_program(name, code)
+    push_tests(&mut code, seed, count)?;
+    ended_program("joins", code)
+}
+
+/// What the verifier is measured on.
+#[derive(Clone, Copy)]
+pub enum Kind {
+    /// Tests of which the verifier knows the outcome.
+    DecidedTests,
+    /// Tests whose edges join.
+    JoiningTests,
+    /// Loads and stores.
+    Accesses,
+}
+
+impl Kind {
+    /// What it is called where it is printed.
+    pub fn name(self) -> &'static str {
+        match self {
+            Kind::DecidedTests => "decided tests",
+            Kind::JoiningTests => "tests with joins",
+            Kind::Accesses => "loads and stores",
+        }
+    }
+
+    /// A program of at least 27 slots: so many, or one less. Another seed makes another program.
+    pub fn program(self, alloc: Global, seed: u64, slots: u32) -> Result<Program, AllocError> {
+        match self {
+            Kind::DecidedTests => tests(alloc, seed, slots.saturating_sub(9) / 2),
+            Kind::JoiningTests => joins(alloc, seed, slots.saturating_sub(9) / 2),
+            Kind::Accesses => accesses(alloc, seed, slots.saturating_sub(25)),
+        }
+    }
 }
 
 /// Local calls of a function of three instructions, which stands behind the exit.
@@ -253,8 +284,8 @@ pub fn all(alloc: Global) -> Result<Vec<Program>, AllocError> {
     programs.push(same_operation(alloc, 1000)?)?;
     programs.push(mixed(alloc, "mixed_128", 128)?)?;
     programs.push(mixed(alloc, "mixed_1000", 1000)?)?;
-    programs.push(accesses(alloc, 990)?)?;
-    programs.push(tests(alloc, "tests", 500)?)?;
+    programs.push(accesses(alloc, 2, 990)?)?;
+    programs.push(tests(alloc, 3, 500)?)?;
     programs.push(local_calls(alloc, 200)?)?;
     let mut code = Vec::new(alloc);
     code.extend_from_slice(&slot(0xb7, 0, 0, 0, 7))?;

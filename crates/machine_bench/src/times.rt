@@ -1,6 +1,6 @@
 //! Runs of the programs, and their times.
 
-use crate::programs::{Program, accesses, all, joins, straight, tests, two_calls_each};
+use crate::programs::{Kind, Program, all, straight, two_calls_each};
 use anyhow::{Result, anyhow};
 use bpf_machine::run;
 use bpf_verifier::{Procedure, VerifyFault, verify};
@@ -14,7 +14,7 @@ const ROUNDS: u32 = 20;
 /// What the verifier may take for a slot, in picoseconds.
 const SLOT: u128 = 40_000;
 
-/// What a slot of 1,024 may take, in thousandths of one of 256.
+/// What a slot of a program of 1,024 may take, in thousandths of one of 256.
 const LINEAR: u128 = 1300;
 
 /// How many visits the verifier makes before it gives up.
@@ -106,27 +106,44 @@ pub fn print_times(rt: &HostRuntime) -> Result<()> {
     Ok(())
 }
 
-/// The least time of verifying a program, for each of its slots, in picoseconds.
-fn picoseconds_of_slot(rt: &HostRuntime, program: &Program) -> Result<u128> {
-    let slots = (program.code.len() as u64 / 8).max(1);
+/// The least time of verifying programs in turn, for each of their slots, in picoseconds.
+fn picoseconds_of_slot(rt: &HostRuntime, programs: &[Program]) -> Result<u128> {
+    let mut slots = 0u64;
+    for program in programs {
+        slots = slots.saturating_add(program.code.len() as u64 / 8);
+    }
     let mut least = u128::MAX;
     for _ in 0..ROUNDS {
         let start = Instant::now(rt)?;
         for _ in 0..100 {
-            let _procedure = verified(rt, program)?;
+            for program in programs {
+                let _procedure = verified(rt, program)?;
+            }
         }
         least = least.min(start.elapsed(rt)?.as_nanos());
     }
-    Ok(least.saturating_mul(10) / u128::from(slots))
+    Ok(least.saturating_mul(10) / u128::from(slots.max(1)))
 }
 
-/// Prints what the verifier takes for a slot of two programs, the second one four times as long as the
-/// first. Whether both limits are kept.
-fn keeps_limits(rt: &HostRuntime, name: &str, short: &Program, long: &Program) -> Result<bool> {
-    let short = picoseconds_of_slot(rt, short)?;
-    let long = picoseconds_of_slot(rt, long)?;
+/// Prints what the verifier takes for a slot of four programs and of one that is as long as all four, so
+/// that the processor's predictor of branches has as much to learn on both sides. Whether both limits are
+/// kept.
+fn keeps_limits(rt: &HostRuntime, kind: Kind) -> Result<bool> {
+    let alloc = rt.alloc();
+    let long = [kind.program(alloc, 3, 1_023)?];
+    let short = [
+        kind.program(alloc, 4, 255)?,
+        kind.program(alloc, 5, 255)?,
+        kind.program(alloc, 6, 255)?,
+        kind.program(alloc, 7, 255)?,
+    ];
+    let (short, long) = (
+        picoseconds_of_slot(rt, &short)?,
+        picoseconds_of_slot(rt, &long)?,
+    );
     println!(rt;
-        "verify, {name}: {short} ps a slot of 255, {long} ps a slot of 1,023, limit {SLOT} ps"
+        "verify, {}: {short} ps a slot of four times 255, {long} ps a slot of 1,023, limit {SLOT} ps",
+        kind.name()
     )?;
     Ok(long <= SLOT && long.saturating_mul(1000) <= short.saturating_mul(LINEAR))
 }
@@ -150,7 +167,7 @@ fn picoseconds_of_visit(rt: &HostRuntime, program: &Program) -> Result<u128> {
 /// code. Whether the limit is kept.
 fn keeps_visits(rt: &HostRuntime) -> Result<bool> {
     let visit = picoseconds_of_visit(rt, &two_calls_each(rt.alloc(), 509)?)?;
-    let slot = picoseconds_of_slot(rt, &straight(rt.alloc(), 1024)?)?;
+    let slot = picoseconds_of_slot(rt, &[straight(rt.alloc(), 1024)?])?;
     println!(rt;
         "verify, calls: {visit} ps a visit of 65,536, straight code {slot} ps a slot of 1,024, limit {VISIT} times"
     )?;
@@ -160,13 +177,9 @@ fn keeps_visits(rt: &HostRuntime) -> Result<bool> {
 /// Prints what the verifier takes for a slot of tests that it decides, of tests whose edges join, and of
 /// loads and stores, and for a visit of code with calls; an error where it is too much.
 pub fn print_verification(rt: &HostRuntime) -> Result<()> {
-    let alloc = rt.alloc();
-    let (short, long) = (tests(alloc, "short", 123)?, tests(alloc, "long", 507)?);
-    let decided = keeps_limits(rt, "decided tests", &short, &long)?;
-    let (short, long) = (joins(alloc, "short", 123)?, joins(alloc, "long", 507)?);
-    let joined = keeps_limits(rt, "tests with joins", &short, &long)?;
-    let (short, long) = (accesses(alloc, 230)?, accesses(alloc, 998)?);
-    let accessed = keeps_limits(rt, "loads and stores", &short, &long)?;
+    let decided = keeps_limits(rt, Kind::DecidedTests)?;
+    let joined = keeps_limits(rt, Kind::JoiningTests)?;
+    let accessed = keeps_limits(rt, Kind::Accesses)?;
     let visits = keeps_visits(rt)?;
     if decided && joined && accessed && visits {
         Ok(())
