@@ -118,11 +118,9 @@ fn index_of(address: u64) -> usize
     requires { HasIndex address }
     ensures { result ≡ index_of address }
 {
-    if address < ARGUMENTS_START {
-        ARGUMENTS_SIZE + (address - FRAME_START) as usize
-    } else {
-        (address - ARGUMENTS_START) as usize
-    }
+    // Both begin at a multiple of 2^32, the frames at an odd one.
+    let is_frame = (address >> 32 & 1) as usize;
+    (address & 0xffff_ffff) as usize + ARGUMENTS_SIZE * is_frame
 }
 
 fn extend_8(value: u8, signed: bool) -> u64
