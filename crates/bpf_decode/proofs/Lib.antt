@@ -1,4 +1,5 @@
 pub mod Slots
+pub mod Table
 pub mod Reading
 pub mod Instructions
 pub mod Encodings

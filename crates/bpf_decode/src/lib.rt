@@ -6,6 +6,7 @@ mod code;
 mod insn;
 mod law;
 mod opcode;
+mod opcode_table;
 mod refusal;
 mod slot;
 

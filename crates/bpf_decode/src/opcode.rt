@@ -1,8 +1,7 @@
 //! Opcode bytes, and what they stand for.
 
-ghost use Rattle.std.specs.Prelude.{◌≡◌, ◌⊎◌, ◌<◌, ◌==◌, ℤ, true, false, find, pos, Some, IfSome};
-ghost use Rattle.std.specs.Option.{option_map};
-ghost use Rattle.bpf_decode.specs.Opcodes.{opcode_byte, opcode_of, alu_opcode, test_opcode, load_opcode, memory_opcode, single_opcodes, class_bits, jump_class, source_bit, operation_bits, test_bits, size_bits, widths, sources, narrows, operations, tests, sizes, short_sizes, variant_of, has_form, uses_offset, has_operand, operation_of, offset_of, swap_width};
+ghost use Rattle.std.specs.Prelude.{◌≡◌, ◌<◌, ◌==◌, ℤ, true, false, pos, Some, IfSome};
+ghost use Rattle.bpf_decode.specs.Opcodes.{opcode_byte, opcode_of, source_bit, operation_bits, test_bits, size_bits, variant_of, has_form, uses_offset, has_operand, operation_of, offset_of, swap_width};
 ghost use Rattle.bpf_num.specs.declared.AluWidth.{AluWidth};
 ghost use Rattle.bpf_num.specs.ByteSwap.{swap_bits};
 ghost use Rattle.bpf_decode.specs.declared.opcode.Opcode.TheVariants.{Alu};
@@ -12,6 +11,7 @@ ghost use Rattle.bpf_decode.specs.declared.opcode.SourceKind.TheVariants.{K};
 ghost use Rattle.bpf_decode.specs.Parts.{IsOpcode};
 
 use crate::insn::Size;
+use crate::opcode_table::OPCODES;
 use bpf_num::{AluOp, AluWidth, SwapKind, Test, Width};
 
 /// Where an instruction's second operand comes from: the opcode's source bit (RFC 9669, section 4).
@@ -84,19 +84,7 @@ impl Opcode {
         ensures found { result ≡ opcode_of byte }
         ensures encoded { IfSome result (λ opcode. (opcode_byte opcode ≡ byte) × IsOpcode opcode) }
     {
-        if let Some(opcode) = single_opcode(byte) {
-            return Some(opcode);
-        }
-        // The size before the class: it is looked up then, where each class by itself would jump for it.
-        let (mode, size) = (byte / 32, size_of(byte / 8 % 4));
-        match byte % 8 {
-            0x1 => load_opcode(mode, size),
-            0x2 if mode == 3 => Some(Opcode::StoreImm { size }),
-            0x3 if mode == 3 => Some(Opcode::Store { size }),
-            class @ (0x4 | 0x7) => alu_opcode(width_of(class), byte / 8 % 2, byte / 16),
-            class @ (0x5 | 0x6) => test_opcode(is_narrow(class), byte / 8 % 2, byte / 16),
-            _ => None,
-        }
+        OPCODES[(byte % 8) as usize][(byte / 8) as usize]
     }
 
     /// The byte that stands for it.
@@ -288,113 +276,6 @@ impl Operation {
     }
 }
 
-/// The opcodes that are one byte each.
-fn single_opcode(byte: u8) -> Option<Opcode>
-    ensures { result ≡ find (λ o. opcode_byte o == byte) single_opcodes }
-{
-    match byte {
-        0x18 => Some(Opcode::LoadImm),
-        0x05 => Some(Opcode::Jump),
-        0x06 => Some(Opcode::JumpLong),
-        0x85 => Some(Opcode::Call),
-        0x95 => Some(Opcode::Exit),
-        0x84 => Some(negation(AluWidth::W32)),
-        0x87 => Some(negation(AluWidth::W64)),
-        0xd4 => Some(Opcode::Swap { kind: SwapKind::Le }),
-        0xdc => Some(Opcode::Swap { kind: SwapKind::Be }),
-        0xd7 => Some(Opcode::Swap {
-            kind: SwapKind::Swap,
-        }),
-        _ => None,
-    }
-}
-
-/// The width of a class of arithmetic.
-fn width_of(class: u8) -> AluWidth
-    requires { (class ≡ 0x4) ⊎ (class ≡ 0x7) }
-    ensures { class_bits result ≡ class }
-{
-    if class == 0x4 {
-        AluWidth::W32
-    } else {
-        AluWidth::W64
-    }
-}
-
-/// Whether a class of tests is that of low halves.
-fn is_narrow(class: u8) -> bool
-    requires { (class ≡ 0x5) ⊎ (class ≡ 0x6) }
-    ensures { jump_class result ≡ class }
-{
-    class == 0x6
-}
-
-fn negation(width: AluWidth) -> Opcode
-    ensures { result ≡ Alu width Neg K }
-{
-    Opcode::Alu {
-        width,
-        operation: Operation::Neg,
-        source: SourceKind::K,
-    }
-}
-
-/// The arithmetic opcode of a width, a source and an operation.
-fn alu_opcode(width: AluWidth, source: u8, operation: u8) -> Option<Opcode>
-    requires { source < 2 }
-    ensures { result ≡ alu_opcode (class_bits width) source operation }
-{
-    let operation = operation_of(operation)?;
-    Some(Opcode::Alu {
-        width,
-        operation,
-        source: source_of(source),
-    })
-}
-
-/// The opcode of a test, of a class, a source and an operation.
-fn test_opcode(narrow: bool, source: u8, operation: u8) -> Option<Opcode>
-    requires { source < 2 }
-    ensures { result ≡ test_opcode (jump_class narrow) source operation }
-{
-    let test = test_of(operation)?;
-    Some(Opcode::Test {
-        narrow,
-        test,
-        source: source_of(source),
-    })
-}
-
-/// The opcode of a load, of a mode and a size.
-fn load_opcode(mode: u8, size: Size) -> Option<Opcode>
-    ensures { result ≡ load_opcode mode (size_bits size) }
-{
-    match mode {
-        3 => Some(Opcode::Load {
-            size,
-            signed: false,
-        }),
-        4 => match size {
-            Size::Dw => None,
-            Size::B | Size::H | Size::W => Some(Opcode::Load { size, signed: true }),
-        },
-        _ => None,
-    }
-}
-
-/// The size that two bits name.
-fn size_of(bits: u8) -> Size
-    requires { bits < 4 }
-    ensures { Some result ≡ find (λ s. size_bits s == bits) sizes }
-{
-    match bits {
-        0 => Size::W,
-        1 => Size::H,
-        2 => Size::B,
-        _ => Size::Dw,
-    }
-}
-
 fn size_bits(size: Size) -> u8
     ensures { result ≡ size_bits size }
 {
@@ -406,43 +287,12 @@ fn size_bits(size: Size) -> u8
     }
 }
 
-fn source_of(bit: u8) -> SourceKind
-    requires { bit < 2 }
-    ensures { Some result ≡ find (λ s. source_bit s == bit) sources }
-{
-    match bit {
-        0 => SourceKind::K,
-        _ => SourceKind::X,
-    }
-}
-
 fn source_bit(source: SourceKind) -> u8
     ensures { result ≡ source_bit source }
 {
     match source {
         SourceKind::K => 0,
         SourceKind::X => 1,
-    }
-}
-
-#[inline(never)]
-fn operation_of(bits: u8) -> Option<Operation>
-    ensures { result ≡ find (λ o. operation_bits o == bits) operations }
-{
-    match bits {
-        0x0 => Some(Operation::Add),
-        0x1 => Some(Operation::Sub),
-        0x2 => Some(Operation::Mul),
-        0x3 => Some(Operation::Div),
-        0x4 => Some(Operation::Or),
-        0x5 => Some(Operation::And),
-        0x6 => Some(Operation::Lsh),
-        0x7 => Some(Operation::Rsh),
-        0x9 => Some(Operation::Mod),
-        0xa => Some(Operation::Xor),
-        0xb => Some(Operation::Mov),
-        0xc => Some(Operation::Arsh),
-        _ => None,
     }
 }
 
@@ -463,26 +313,6 @@ fn operation_bits(operation: Operation) -> u8
         Operation::Xor => 0xa,
         Operation::Mov => 0xb,
         Operation::Arsh => 0xc,
-    }
-}
-
-#[inline(never)]
-fn test_of(bits: u8) -> Option<Test>
-    ensures { result ≡ find (λ t. test_bits t == bits) tests }
-{
-    match bits {
-        0x1 => Some(Test::Jeq),
-        0x2 => Some(Test::Jgt),
-        0x3 => Some(Test::Jge),
-        0x4 => Some(Test::Jset),
-        0x5 => Some(Test::Jne),
-        0x6 => Some(Test::Jsgt),
-        0x7 => Some(Test::Jsge),
-        0xa => Some(Test::Jlt),
-        0xb => Some(Test::Jle),
-        0xc => Some(Test::Jslt),
-        0xd => Some(Test::Jsle),
-        _ => None,
     }
 }
 
