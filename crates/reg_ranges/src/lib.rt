@@ -13,5 +13,5 @@ mod transfer;
 pub use hull::join;
 pub use range::Range;
 pub use swap::swap_range;
-pub use test::refine;
+pub use test::{refine, refine_edges};
 pub use transfer::{transfer32, transfer64};

@@ -1,13 +1,15 @@
 //! What a test that was taken, or wasn't, says of the ranges of its operands.
 
-ghost use Rattle.std.specs.Prelude.{◌≡◌, ℕ, ◌<◌, ◌&&◌, true, false};
+ghost use Rattle.std.specs.Prelude.{◌≡◌, ℕ, ◌<◌, ◌&&◌, ◌||◌, if◌then◌else◌, Some, None, true, false};
 ghost use Rattle.std.specs.Option.{option_map};
+ghost use Rattle.bpf_num.specs.declared.AluWidth.TheVariants.{W32, W64};
 ghost use Rattle.bpf_num.specs.Jump.{jump_test_of};
 ghost use Rattle.reg_ranges.specs.Ranges.{In, is_single, is_positive};
-ghost use Rattle.reg_ranges.specs.Refine.{refine_of, edge_of, wide_edge, narrow_edge, taken_edge, refuted_edge, equal_edge, unequal_edge, greater_edge, greater_or_equal_edge, without, exchanged, Keeps};
+ghost use Rattle.reg_ranges.specs.Refine.{ranges, is_zero, refine_of, edge_of, wide_edge, narrow_edge, taken_edge, refuted_edge, equal_edge, unequal_edge, greater_edge, greater_or_equal_edge, without, exchanged, Keeps};
 ghost use Rattle.reg_ranges.specs.RangeOf.{range_of, ranges_of};
 
 use crate::range::Range;
+use crate::transfer::LOW_HALF;
 use bpf_num::{AluWidth, Test, jump_test};
 
 /// The new ranges of the operands of a test that is taken, or isn't; none where the edge can't be taken.
@@ -26,95 +28,82 @@ pub fn refine(test: Test, narrow: bool, a: Range, b: Range, taken: bool) -> Opti
 fn refined(test: Test, narrow: bool, a: Range, b: Range, taken: bool) -> Option<(Range, Range)>
     ensures { option_map ranges_of result ≡ refine_of test narrow (range_of a) (range_of b) taken }
 {
+    let (on_refuted, on_taken) = refine_edges(test, narrow, a, b);
+    if taken { on_taken } else { on_refuted }
+}
+
+/// The new ranges of the operands of a test on both edges, first the one that isn't taken: what `refine` gives
+/// for each.
+#[inline(always)]
+pub fn refine_edges(
+    test: Test,
+    narrow: bool,
+    a: Range,
+    b: Range,
+) -> (Option<(Range, Range)>, Option<(Range, Range)>)
+    ensures refuted { option_map ranges_of result.0 ≡ refine_of test narrow (range_of a) (range_of b) false }
+    ensures taken { option_map ranges_of result.1 ≡ refine_of test narrow (range_of a) (range_of b) true }
+{
     if a.is_single() && b.is_single() {
-        if jump_test(test, narrow, a.lo, b.lo) == taken {
-            Some((a, b))
+        if jump_test(test, narrow, a.lo, b.lo) {
+            (None, Some((a, b)))
         } else {
-            None
+            (Some((a, b)), None)
         }
-    } else if !narrow {
-        edge(AluWidth::W64, test, a, b, taken)
-    } else if a.hi < 0x1_0000_0000 && b.hi < 0x1_0000_0000 {
-        edge(AluWidth::W32, test, a, b, taken)
+    } else if narrow && (a.hi > LOW_HALF || b.hi > LOW_HALF) {
+        (Some((a, b)), Some((a, b)))
+    } else {
+        edges(width_of(narrow), test, a, b)
+    }
+}
+
+#[inline(always)]
+fn width_of(narrow: bool) -> AluWidth
+    ensures { result ≡ (if narrow then W32 else W64) }
+{
+    if narrow { AluWidth::W32 } else { AluWidth::W64 }
+}
+
+/// The edges of a test on numbers of a width. A signed test is the unsigned one where no number has its sign
+/// bit set, and says nothing elsewhere.
+#[inline(always)]
+fn edges(
+    width: AluWidth,
+    test: Test,
+    a: Range,
+    b: Range,
+) -> (Option<(Range, Range)>, Option<(Range, Range)>)
+    requires { is_single (range_of a) ≡ true → is_single (range_of b) ≡ false }
+    ensures refuted { option_map ranges_of result.0 ≡ refuted_edge width test (range_of a) (range_of b) }
+    ensures taken { option_map ranges_of result.1 ≡ taken_edge width test (range_of a) (range_of b) }
+{
+    match test {
+        Test::Jeq => (unequal(a, b), equal(a, b)),
+        Test::Jne => (equal(a, b), unequal(a, b)),
+        Test::Jset => (Some((a, b)), with_common_bits(a, b)),
+        Test::Jsgt | Test::Jsge | Test::Jslt | Test::Jsle if !are_positive(width, a, b) => {
+            (Some((a, b)), Some((a, b)))
+        }
+        Test::Jgt | Test::Jsgt => (less_or_equal(a, b), greater(a, b)),
+        Test::Jge | Test::Jsge => (less(a, b), greater_or_equal(a, b)),
+        Test::Jlt | Test::Jslt => (greater_or_equal(a, b), less(a, b)),
+        Test::Jle | Test::Jsle => (greater(a, b), less_or_equal(a, b)),
+    }
+}
+
+/// The taken edge of a test for common bits, of which 0 has none.
+#[inline(always)]
+fn with_common_bits(a: Range, b: Range) -> Option<(Range, Range)>
+    ensures { option_map ranges_of result ≡ (if is_zero (range_of a) || is_zero (range_of b) then None else Some (ranges (range_of a) (range_of b))) }
+{
+    if a.hi == 0 || b.hi == 0 {
+        None
     } else {
         Some((a, b))
     }
 }
 
-/// The edge of a test on numbers of a width.
 #[inline(always)]
-fn edge(width: AluWidth, test: Test, a: Range, b: Range, taken: bool) -> Option<(Range, Range)>
-    requires { is_single (range_of a) ≡ true → is_single (range_of b) ≡ false }
-    ensures { option_map ranges_of result ≡ wide_edge width test (range_of a) (range_of b) taken }
-{
-    if taken {
-        taken_edge(width, test, a, b)
-    } else {
-        match test {
-            Test::Jeq => unequal(a, b),
-            Test::Jne => equal(a, b),
-            Test::Jgt => taken_edge(width, Test::Jle, a, b),
-            Test::Jge => taken_edge(width, Test::Jlt, a, b),
-            Test::Jlt => greater_or_equal(a, b),
-            Test::Jle => greater(a, b),
-            Test::Jset => Some((a, b)),
-            Test::Jsgt => taken_edge(width, Test::Jsle, a, b),
-            Test::Jsge => taken_edge(width, Test::Jslt, a, b),
-            Test::Jslt => taken_edge(width, Test::Jsge, a, b),
-            Test::Jsle => taken_edge(width, Test::Jsgt, a, b),
-        }
-    }
-}
-
-fn taken_edge(width: AluWidth, test: Test, a: Range, b: Range) -> Option<(Range, Range)>
-    requires { is_single (range_of a) ≡ true → is_single (range_of b) ≡ false }
-    ensures { option_map ranges_of result ≡ taken_edge width test (range_of a) (range_of b) }
-{
-    match test {
-        Test::Jeq => equal(a, b),
-        Test::Jne => unequal(a, b),
-        Test::Jgt => greater(a, b),
-        Test::Jge => greater_or_equal(a, b),
-        Test::Jlt => less(a, b),
-        Test::Jle => less_or_equal(a, b),
-        Test::Jset => {
-            if a.hi == 0 || b.hi == 0 {
-                None
-            } else {
-                Some((a, b))
-            }
-        }
-        Test::Jsgt => {
-            if are_positive(width, a, b) {
-                greater(a, b)
-            } else {
-                Some((a, b))
-            }
-        }
-        Test::Jsge => {
-            if are_positive(width, a, b) {
-                greater_or_equal(a, b)
-            } else {
-                Some((a, b))
-            }
-        }
-        Test::Jslt => {
-            if are_positive(width, a, b) {
-                less(a, b)
-            } else {
-                Some((a, b))
-            }
-        }
-        Test::Jsle => {
-            if are_positive(width, a, b) {
-                less_or_equal(a, b)
-            } else {
-                Some((a, b))
-            }
-        }
-    }
-}
-
 fn are_positive(width: AluWidth, a: Range, b: Range) -> bool
     ensures { result ≡ (is_positive width (range_of a) && is_positive width (range_of b)) }
 {
@@ -125,6 +114,7 @@ fn are_positive(width: AluWidth, a: Range, b: Range) -> bool
     a.hi < limit && b.hi < limit
 }
 
+#[inline(always)]
 fn equal(a: Range, b: Range) -> Option<(Range, Range)>
     ensures { option_map ranges_of result ≡ equal_edge (range_of a) (range_of b) }
 {
@@ -138,6 +128,7 @@ fn equal(a: Range, b: Range) -> Option<(Range, Range)>
     }
 }
 
+#[inline(always)]
 fn unequal(a: Range, b: Range) -> Option<(Range, Range)>
     requires { is_single (range_of a) ≡ true → is_single (range_of b) ≡ false }
     ensures { option_map ranges_of result ≡ unequal_edge (range_of a) (range_of b) }
@@ -148,6 +139,7 @@ fn unequal(a: Range, b: Range) -> Option<(Range, Range)>
 }
 
 /// The numbers of a range but this one, where it is an end.
+#[inline(always)]
 fn without(range: Range, value: u64) -> Range
     requires { range.lo < range.hi }
     ensures { range_of result ≡ without (range_of range) value }
@@ -161,6 +153,7 @@ fn without(range: Range, value: u64) -> Range
     }
 }
 
+#[inline(always)]
 fn greater(a: Range, b: Range) -> Option<(Range, Range)>
     ensures { option_map ranges_of result ≡ greater_edge (range_of a) (range_of b) }
 {
@@ -172,6 +165,7 @@ fn greater(a: Range, b: Range) -> Option<(Range, Range)>
     Some((first, second))
 }
 
+#[inline(always)]
 fn greater_or_equal(a: Range, b: Range) -> Option<(Range, Range)>
     ensures { option_map ranges_of result ≡ greater_or_equal_edge (range_of a) (range_of b) }
 {
@@ -183,6 +177,7 @@ fn greater_or_equal(a: Range, b: Range) -> Option<(Range, Range)>
     Some((first, second))
 }
 
+#[inline(always)]
 fn less(a: Range, b: Range) -> Option<(Range, Range)>
     ensures { option_map ranges_of result ≡ option_map exchanged (greater_edge (range_of b) (range_of a)) }
 {
@@ -192,6 +187,7 @@ fn less(a: Range, b: Range) -> Option<(Range, Range)>
     }
 }
 
+#[inline(always)]
 fn less_or_equal(a: Range, b: Range) -> Option<(Range, Range)>
     ensures { option_map ranges_of result ≡ option_map exchanged (greater_or_equal_edge (range_of b) (range_of a)) }
 {

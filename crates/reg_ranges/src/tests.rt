@@ -148,3 +148,35 @@ fn worked_edges(rt: HostRuntime) {
     assert!(rt; refine(Test::Jgt, false, range(0, 10), range(10, 15), true).is_none());
     assert!(rt; refine(Test::Jeq, false, range(3, 3), range(3, 3), false).is_none());
 }
+
+#[test]
+fn worked_both_edges(rt: HostRuntime) {
+    let rows = [
+        (
+            "both edges",
+            range(0, 20),
+            range(10, 15),
+            Some((range(0, 15), range(10, 15))),
+            Some((range(11, 20), range(10, 15))),
+        ),
+        (
+            "never taken",
+            range(0, 10),
+            range(10, 15),
+            Some((range(0, 10), range(10, 15))),
+            None,
+        ),
+        (
+            "two numbers decide it",
+            range(7, 7),
+            range(3, 3),
+            None,
+            Some((range(7, 7), range(3, 3))),
+        ),
+    ];
+    for (name, a, b, refuted, taken) in rows {
+        let found = refine_edges(Test::Jgt, false, a, b);
+        assert!(rt; found.0 == refuted, "{name}");
+        assert!(rt; found.1 == taken, "{name}");
+    }
+}

@@ -10,7 +10,7 @@ use crate::range::Range;
 use bpf_num::{AluOp, AluWidth, alu32, alu64};
 
 /// The greatest number of 32 bits.
-const LOW_HALF: u64 = 0xffff_ffff;
+pub(crate) const LOW_HALF: u64 = 0xffff_ffff;
 
 /// The range after an instruction of class ALU64. Each result of numbers in the operands' ranges lies in it.
 pub fn transfer64(op: AluOp, a: Range, b: Range) -> Range
