@@ -278,3 +278,8 @@ pub read_is_only : (bytes : List ℕ) (r : Result (Vec Insn) Refusal) → IfOk r
 read_is_only bytes (Ok v) found refused code c = same_code bytes v.items code found c
 read_is_only bytes (Err r) found (inl memory) code c = memory
 read_is_only bytes (Err r) found (inr wrong) code c = absurd (refused_is_no_code bytes code r.fault r.slot wrong c)
+
+-- a refusal that is handed on
+pub refused_on : (bytes : List ℕ) (A : Type 0) (result : Result A Refusal) (r : Refusal) → (r.fault ≡ Memory) ⊎ IsRefused bytes r.fault r.slot → IfErr result (λ x. x ≡ r) → IfErr result (λ x. (x.fault ≡ Memory) ⊎ IsRefused bytes x.fault x.slot)
+refused_on bytes A (Ok x) r is same = tt
+refused_on bytes A (Err x) r is same = subst (λ (y : Refusal). (y.fault ≡ Memory) ⊎ IsRefused bytes y.fault y.slot) (sym same) is

@@ -5,3 +5,4 @@ pub mod Instructions
 pub mod Encodings
 pub mod Deciding
 pub mod Narrow
+pub mod Taking

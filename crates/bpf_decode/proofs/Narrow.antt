@@ -8,11 +8,57 @@ use Rattle.bpf_decode.specs.declared.opcode.SourceKind.TheVariants.{K, X}
 use Rattle.bpf_decode.specs.declared.slot.Slot.{Slot}
 use Rattle.bpf_decode.specs.declared.refusal.DecodeFault.{DecodeFault}
 use Rattle.bpf_decode.specs.Opcodes.{opcode_of}
-use Rattle.bpf_decode.specs.Encoding.{EncodesAt, IsAt, IsBehind}
+use Rattle.bpf_decode.specs.declared.insn.Source.TheVariants as source
+use Rattle.bpf_decode.specs.Encoding.{EncodesAt, IsAt, IsBehind, insn_slots}
 use Rattle.bpf_decode.specs.Faults.{FaultyAt, fault_of, slot_fault}
 use Rattle.bpf_decode.specs.Parts.{Reads}
+use Rattle.bpf_decode.specs.Opcodes.{opcode_byte}
+use Rattle.bpf_decode.proofs.Instructions.{fields, first_is, opcode_again, opcode_right}
 use Rattle.bpf_decode.proofs.Encodings.{read_encodes}
 use Rattle.bpf_decode.proofs.Deciding.{AreBytes, behind_at, opcode_right_of}
+
+module _ (s : Slot) (b : Option Slot) (x : Insn) (r : Reads s b x) where
+  byte : opcode_byte (fields x).opcode ≡ s.opcode
+  byte = sym (ap (λ (t : Slot). t.opcode) (first_is x)) ∙ ap (λ (t : Slot). t.opcode) r.first
+
+  -- the wide opcode has two slots
+  pub wide_slots : s.opcode ≡ 24 → length (insn_slots x) ≡ 2
+  wide_slots wide = two x (some_is (sym (opcode_again (fields x).opcode (opcode_right x r.in_range)) ∙ ap opcode_of (byte ∙ wide))) where
+    some_is : {o p : Opcode} → Some o ≡ Some p → o ≡ p
+    some_is e = cc
+
+    two : (y : Insn) → (fields y).opcode ≡ opcode.LoadImm → length (insn_slots y) ≡ 2
+    two (insn.LoadImm dst value) e = refl
+    two (insn.Alu width op dst (source.Imm value)) e = absurd cc
+    two (insn.Alu width op dst (source.Reg src)) e = absurd cc
+    two (insn.Swap kind width dst) e = absurd cc
+    two (insn.Load size signed dst base offset) e = absurd cc
+    two (insn.StoreImm size base offset imm) e = absurd cc
+    two (insn.Store size base offset src) e = absurd cc
+    two (insn.Jump offset) e = absurd cc
+    two (insn.JumpLong offset) e = absurd cc
+    two (insn.Test narrow test dst (source.Imm value) offset) e = absurd cc
+    two (insn.Test narrow test dst (source.Reg src) offset) e = absurd cc
+    two (insn.CallHelper helper) e = absurd cc
+    two (insn.CallLocal offset) e = absurd cc
+    two insn.Exit e = absurd cc
+
+  -- every other one has one
+  pub narrow_slots : (s.opcode ≡ 24 → ⊥) → length (insn_slots x) ≡ 1
+  narrow_slots narrow = one x byte where
+    one : (y : Insn) → opcode_byte (fields y).opcode ≡ s.opcode → length (insn_slots y) ≡ 1
+    one (insn.LoadImm dst value) e = absurd (narrow (sym e))
+    one (insn.Alu width op dst src) e = refl
+    one (insn.Swap kind width dst) e = refl
+    one (insn.Load size signed dst base offset) e = refl
+    one (insn.StoreImm size base offset imm) e = refl
+    one (insn.Store size base offset src) e = refl
+    one (insn.Jump offset) e = refl
+    one (insn.JumpLong offset) e = refl
+    one (insn.Test narrow test dst src offset) e = refl
+    one (insn.CallHelper helper) e = refl
+    one (insn.CallLocal offset) e = refl
+    one insn.Exit e = refl
 
 module _ (s : Slot) (b : Option Slot) (narrow : s.opcode ≡ 24 → ⊥) where
   pub narrow_fault : slot_fault s None ≡ slot_fault s b

@@ -1,5 +1,5 @@
 -- A slot and the instruction or the fault that is read from it.
-use Rattle.std.proofs.Common.{◌≡◌, ℕ, ◌≤◌, Bool, true, false, rules, Option, Some, pos, ℤ, refl, sym, ap, ◌∙◌}
+use Rattle.std.proofs.Common.{◌≡◌, ℕ, ◌≤◌, Bool, true, false, rules, Option, Some, pos, ℤ, refl, sym, ap, ◌∙◌, ◌⊎◌, inr}
 use Rattle.std.specs.Prelude.{Result, Ok, Err, IfErr, ◌||◌, ◌&&◌, not, ◌==◌}
 use Rattle.std.proofs.lemmas.Bool.{le-ltb}
 use Rattle.bpf_num.specs.declared.AluOp.{AluOp}
@@ -8,7 +8,7 @@ use Rattle.bpf_decode.specs.declared.insn.Insn.TheVariants as insn
 use Rattle.bpf_decode.specs.declared.insn.Reg.{Reg}
 use Rattle.bpf_decode.specs.declared.insn.Source.TheVariants as source
 use Rattle.bpf_decode.specs.declared.refusal.DecodeFault.{DecodeFault}
-use Rattle.bpf_decode.specs.declared.refusal.DecodeFault.TheVariants.{FieldNotZero}
+use Rattle.bpf_decode.specs.declared.refusal.DecodeFault.TheVariants.{FieldNotZero, Memory}
 use Rattle.bpf_decode.specs.declared.opcode.Opcode.{Opcode}
 use Rattle.bpf_decode.specs.declared.opcode.Opcode.TheVariants as opcode
 use Rattle.bpf_decode.specs.declared.opcode.Operation.{Operation}
@@ -25,9 +25,10 @@ fault_is : (o : Opcode) (s : Slot) (b : Option Slot) (f : DecodeFault) → opcod
 fault_is o s b f e d r h =
     ap (λ (p : Option Opcode). fault_of p s b) e ∙ rw (le-ltb 10 s.dst d, le-ltb 10 s.src r) h
 
-pub refused_by : (A : Type 0) (r : Result A DecodeFault) (o : Opcode) (s : Slot) (b : Option Slot) → opcode_of s.opcode ≡ Some o → s.dst ≤ 10 → s.src ≤ 10 → IfErr r (λ f. form_fault o s b ≡ Some f) → IfErr r (λ f. slot_fault s b ≡ Some f)
-refused_by A (Ok x) o s b e d r h = tt
-refused_by A (Err f) o s b e d r h = fault_is o s b f e d r h
+-- a fault that is handed on
+pub refused_by : (A S : Type 0) (now : S) (r : Result A DecodeFault) (o : Opcode) (s : Slot) (b : Option Slot) (f : DecodeFault) → opcode_of s.opcode ≡ Some o → s.dst ≤ 10 → s.src ≤ 10 → form_fault o s b ≡ Some f → IfErr r (λ x. x ≡ f) → IfErr r (λ x. (x ≡ Memory) ⊎ ((slot_fault s b ≡ Some x) × (now ≡ now)))
+refused_by A S now (Ok x) o s b f e d r h same = tt
+refused_by A S now (Err x) o s b f e d r h same = inr (fault_is o s b x e d r (h ∙ ap Some (sym same)), refl)
 
 pub or_false : (p q : Bool) → (p || q) ≡ false → (p ≡ false) × (q ≡ false)
 or_false true q h = absurd cc

@@ -2,3 +2,4 @@ pub mod Faults
 pub mod Opcodes
 pub mod Encoding
 pub mod Parts
+pub mod Taken

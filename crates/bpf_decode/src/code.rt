@@ -1,14 +1,16 @@
 //! Code as a whole: reads and writes lists of instructions.
 
-ghost use Rattle.std.specs.Prelude.{◌≡◌, ◌+◌, ◌*◌, ◌%◌, ◌≤◌, ◌<◌, ◌⊎◌, ◌++◌, List, length, IfOk, IfErr, IfSome, OnOk, MatchResult};
+ghost use Rattle.std.specs.Prelude.{◌≡◌, ◌+◌, ◌*◌, ◌%◌, ◌≤◌, ◌<◌, ◌⊎◌, ◌++◌, List, length, take, IfOk, IfErr, IfSome, OnOk, MatchResult};
 ghost use Rattle.std.specs.List.{flat_map};
 ghost use Rattle.bpf_decode.specs.declared.insn.Insn.{Insn};
 ghost use Rattle.bpf_decode.specs.declared.refusal.DecodeFault.TheVariants.{Memory};
+ghost use Rattle.bpf_decode.specs.Taken.{TakesAll};
 ghost use Rattle.bpf_decode.specs.Faults.{IsCode, IsRefused, FaultyAt, length_fault};
 ghost use Rattle.bpf_decode.specs.Encoding.{encoding, insn_slots, slot_bytes, EncodesAt, IsAt, IsBehind, IsSlot};
 
 use crate::insn::Insn;
 use crate::refusal::{DecodeFault, Refusal};
+use crate::sink::Sink;
 use crate::slot::Slot;
 use std::alloc::{AllocError, Global};
 
@@ -41,33 +43,45 @@ fn read_code(alloc: Global, bytes: &[u8]) -> Result<Vec<Insn>, Refusal>
     ensures refused { IfErr result (λ refusal.
         (refusal.fault ≡ Memory) ⊎ IsRefused bytes.now refusal.fault refusal.slot) }
 {
+    let mut code = Vec::with_capacity(alloc, MAX_SLOTS.min(bytes.len() / SLOT))?;
+    read_into(bytes, &mut code)?;
+    Ok(code)
+}
+
+/// Reads code as `decode_all` does, and gives each instruction to a sink as it is read. After a refusal the
+/// sink has taken the instructions before its slot; where memory ran out, these or some of them.
+pub fn read_into<S: Sink>(bytes: &[u8], sink: &mut S) -> Result<(), Refusal>
+    ensures found { OnOk result ((code : List Insn) × IsCode bytes.now code
+        × TakesAll S.takes sink.old code sink.new) }
+    ensures refused { IfErr result (λ refusal.
+        (refusal.fault ≡ Memory) ⊎ IsRefused bytes.now refusal.fault refusal.slot) }
+    ensures left { IfErr result (λ refusal. (refusal.fault ≡ Memory)
+        ⊎ ((before : List Insn) × (take (8 * refusal.slot) bytes.now ≡ encoding before)
+        × TakesAll S.takes sink.old before sink.new)) }
+{
     if let Some(fault) = length_fault(bytes.len()) {
         return Err(Refusal { fault, slot: 0 });
     }
     let slots = bytes.len() / SLOT;
-    let mut code = Vec::with_capacity(alloc, slots)?;
-    code.resize(slots, Insn::Exit)?;
-    let mut count = 0;
     let mut slot = 0;
     while slot < slots {
-        slot += read_insn(bytes, slot, &mut code[count])?;
-        count += 1;
+        slot += read_insn(bytes, slot, sink)?;
     }
-    code.truncate(count);
-    Ok(code)
+    Ok(())
 }
 
-/// Puts the instruction that the slots from this one on encode in its place, and returns how many they
-/// are; or returns the slot's first fault.
-fn read_insn(bytes: &[u8], slot: usize, insn: &mut Insn) -> Result<usize, Refusal>
+/// Gives a sink the instruction that the slots from this one on encode, and returns how many they are; or
+/// returns the slot's first fault.
+#[inline(always)]
+fn read_insn<S: Sink>(bytes: &[u8], slot: usize, sink: &mut S) -> Result<usize, Refusal>
     requires within { 8 * slot + 8 ≤ length bytes.now }
     requires whole { length bytes.now % 8 ≡ 0 }
     requires few { slot < 1024 }
-    ensures found { IfOk result (λ slots. EncodesAt bytes.now slot insn.new) }
-    ensures slots { IfOk result (λ slots. slots ≡ length (insn_slots insn.new)) }
+    ensures found { IfOk result (λ slots. (insn : Insn) × EncodesAt bytes.now slot insn
+        × (slots ≡ length (insn_slots insn)) × S.takes sink.old insn sink.new) }
     ensures fits { IfOk result (λ slots. 8 * slot + 8 * slots ≤ length bytes.now) }
-    ensures refused { IfErr result (λ refusal.
-        (refusal.slot ≡ slot) × FaultyAt bytes.now refusal.fault slot) }
+    ensures refused { IfErr result (λ refusal. (refusal.fault ≡ Memory) ⊎
+        ((refusal.slot ≡ slot) × FaultyAt bytes.now refusal.fault slot × (sink.new ≡ sink.old))) }
 {
     let first = slot_at(bytes, slot);
     // Only a wide instruction has a second slot.
@@ -76,7 +90,7 @@ fn read_insn(bytes: &[u8], slot: usize, insn: &mut Insn) -> Result<usize, Refusa
     } else {
         (None, 1)
     };
-    match first.read(behind, insn) {
+    match first.read(behind, sink) {
         Ok(()) => Ok(slots),
         Err(fault) => Err(Refusal {
             fault,

@@ -8,11 +8,13 @@ mod law;
 mod opcode;
 mod opcode_table;
 mod refusal;
+mod sink;
 mod slot;
 
-pub use code::{decode_all, encode_all};
+pub use code::{decode_all, encode_all, read_into};
 pub use insn::{Insn, Reg, Size, Source};
 pub use law::{bytes_are_decided, code_is_one};
 pub use opcode::{Opcode, Operation, SourceKind};
 pub use refusal::{DecodeFault, Refusal};
+pub use sink::Sink;
 pub use slot::Slot;

@@ -1,10 +1,12 @@
 //! Slots as fields: between their bytes and the instructions that they encode.
 
-ghost use Rattle.std.specs.Prelude.{◌≡◌, length, ◌≤◌, ◌/◌, ◌%◌, ◌^◌, OnOk, IfErr, IfSome, Some, Option};
+ghost use Rattle.std.specs.Prelude.{◌≡◌, ◌⊎◌, length, ◌≤◌, ◌/◌, ◌%◌, ◌^◌, IfOk, OnOk, IfErr, IfSome, Some, Option};
 ghost use Rattle.bpf_num.specs.declared.AluWidth.{AluWidth};
 ghost use Rattle.bpf_decode.specs.declared.slot.Slot.{Slot};
 ghost use Rattle.bpf_decode.specs.declared.opcode.Opcode.TheVariants as opcode;
+ghost use Rattle.bpf_decode.specs.declared.insn.Insn.{Insn};
 ghost use Rattle.bpf_decode.specs.declared.insn.Insn.TheVariants as insn;
+ghost use Rattle.bpf_decode.specs.declared.refusal.DecodeFault.TheVariants.{Memory};
 ghost use Rattle.bpf_decode.specs.Opcodes.{opcode_byte};
 ghost use Rattle.bpf_decode.specs.Encoding.{slot_bytes, first_slot, half_slot, slot_with, signed_32, IsSlot, IsLoad};
 ghost use Rattle.bpf_decode.specs.Faults.{slot_fault, form_fault, has_stray_field, is_stray_half};
@@ -15,6 +17,7 @@ use crate::opcode::{
     Opcode, Operation, SourceKind, offset_of, swap_immediate, swap_width, variant,
 };
 use crate::refusal::DecodeFault;
+use crate::sink::Sink;
 use bpf_num::{AluOp, AluWidth, SwapKind, Test};
 
 /// A slot of code: 8 bytes as fields, none of them checked (RFC 9669, section 3.1).
@@ -68,14 +71,16 @@ impl Slot {
         ]
     }
 
-    /// Puts the instruction whose first slot this is, before the slot behind it, in its place; or returns
-    /// the slot's first fault, and what stands in that place then says nothing. The instruction is written
-    /// where it stays: handed over, its fields would be put together twice.
-    pub fn read(self, behind: Option<Slot>, insn: &mut Insn) -> Result<(), DecodeFault>
+    /// Gives the instruction whose first slot this is, before the slot behind it, to a sink, or returns the
+    /// slot's first fault, and the sink is as it was. Each kind of instruction is given where it is read, so
+    /// that what the sink does with it needs no second look at the kind.
+    #[inline(always)]
+    pub fn read<S: Sink>(self, behind: Option<Slot>, sink: &mut S) -> Result<(), DecodeFault>
         requires fits { IsSlot self }
         requires behind_fits { IfSome behind (λ slot. IsSlot slot) }
-        ensures found { OnOk result (Reads self behind insn.new) }
-        ensures refused { IfErr result (λ fault. slot_fault self behind ≡ Some fault) }
+        ensures found { OnOk result ((insn : Insn) × Reads self behind insn × S.takes sink.old insn sink.new) }
+        ensures refused { IfErr result (λ fault. (fault ≡ Memory)
+            ⊎ ((slot_fault self behind ≡ Some fault) × (sink.new ≡ sink.old))) }
     {
         let Some(opcode) = Opcode::of(self.opcode) else {
             return Err(DecodeFault::BadOpcode);
@@ -88,24 +93,27 @@ impl Slot {
                 width,
                 operation,
                 source,
-            } => self.alu(behind, width, operation, source, dst, src, insn),
-            Opcode::Swap { kind } => self.swap(behind, kind, dst, insn),
-            Opcode::LoadImm => self.load_imm(behind, dst, insn),
-            Opcode::Load { size, signed } => self.load(behind, size, signed, dst, src, insn),
-            Opcode::StoreImm { size } => self.store_imm(behind, size, dst, insn),
-            Opcode::Store { size } => self.store(behind, size, dst, src, insn),
-            Opcode::Jump => self.jump(behind, insn),
-            Opcode::JumpLong => self.jump_long(behind, insn),
+            } => give(self.alu(behind, width, operation, source, dst, src)?, sink),
+            Opcode::Swap { kind } => give(self.swap(behind, kind, dst)?, sink),
+            Opcode::LoadImm => give(self.load_imm(behind, dst)?, sink),
+            Opcode::Load { size, signed } => {
+                give(self.load(behind, size, signed, dst, src)?, sink)
+            }
+            Opcode::StoreImm { size } => give(self.store_imm(behind, size, dst)?, sink),
+            Opcode::Store { size } => give(self.store(behind, size, dst, src)?, sink),
+            Opcode::Jump => give(self.jump(behind)?, sink),
+            Opcode::JumpLong => give(self.jump_long(behind)?, sink),
             Opcode::Test {
                 narrow,
                 test,
                 source,
-            } => self.test(behind, narrow, test, source, dst, src, insn),
-            Opcode::Call => self.call(behind, insn),
-            Opcode::Exit => self.exit(behind, insn),
+            } => give(self.test(behind, narrow, test, source, dst, src)?, sink),
+            Opcode::Call => give(self.call(behind)?, sink),
+            Opcode::Exit => give(self.exit(behind)?, sink),
         }
     }
 
+    #[inline(always)]
     fn alu(
         self,
         behind: Option<Slot>,
@@ -114,14 +122,13 @@ impl Slot {
         source: SourceKind,
         dst: Reg,
         src: Reg,
-        insn: &mut Insn,
-    ) -> Result<(), DecodeFault>
+    ) -> Result<Insn, DecodeFault>
         requires fits { IsSlot self }
         requires opcode { self.opcode ≡ opcode_byte (opcode.Alu width operation source) }
         requires dst { dst.number ≡ self.dst }
         requires src { src.number ≡ self.src }
         requires form { IsOpcode (opcode.Alu width operation source) }
-        ensures found { OnOk result (Reads self behind insn.new) }
+        ensures found { IfOk result (λ insn. Reads self behind insn) }
         ensures refused { IfErr result (λ fault.
             form_fault (opcode.Alu width operation source) self behind ≡ Some fault) }
     {
@@ -135,13 +142,12 @@ impl Slot {
             SourceKind::K => Source::Imm(self.imm),
             SourceKind::X => Source::Reg(src),
         };
-        *insn = Insn::Alu {
+        Ok(Insn::Alu {
             width,
             op,
             dst,
             src,
-        };
-        Ok(())
+        })
     }
 
     /// Whether an arithmetic instruction has a field without a use that is not zero.
@@ -158,17 +164,12 @@ impl Slot {
         }
     }
 
-    fn swap(
-        self,
-        behind: Option<Slot>,
-        kind: SwapKind,
-        dst: Reg,
-        insn: &mut Insn,
-    ) -> Result<(), DecodeFault>
+    #[inline(always)]
+    fn swap(self, behind: Option<Slot>, kind: SwapKind, dst: Reg) -> Result<Insn, DecodeFault>
         requires fits { IsSlot self }
         requires opcode { self.opcode ≡ opcode_byte (opcode.Swap kind) }
         requires dst { dst.number ≡ self.dst }
-        ensures found { OnOk result (Reads self behind insn.new) }
+        ensures found { IfOk result (λ insn. Reads self behind insn) }
         ensures refused { IfErr result (λ fault.
             form_fault (opcode.Swap kind) self behind ≡ Some fault) }
     {
@@ -178,16 +179,16 @@ impl Slot {
         if self.src != 0 || self.offset != 0 {
             return Err(DecodeFault::FieldNotZero);
         }
-        *insn = Insn::Swap { kind, width, dst };
-        Ok(())
+        Ok(Insn::Swap { kind, width, dst })
     }
 
-    fn load_imm(self, behind: Option<Slot>, dst: Reg, insn: &mut Insn) -> Result<(), DecodeFault>
+    #[inline(always)]
+    fn load_imm(self, behind: Option<Slot>, dst: Reg) -> Result<Insn, DecodeFault>
         requires fits { IsSlot self }
         requires opcode { self.opcode ≡ opcode_byte (opcode.LoadImm) }
         requires dst { dst.number ≡ self.dst }
         requires behind_fits { IfSome behind (λ slot. IsSlot slot) }
-        ensures found { OnOk result (Reads self behind insn.new) }
+        ensures found { IfOk result (λ insn. Reads self behind insn) }
         ensures refused { IfErr result (λ fault.
             form_fault (opcode.LoadImm) self behind ≡ Some fault) }
     {
@@ -198,10 +199,10 @@ impl Slot {
             return Err(DecodeFault::FieldNotZero);
         }
         let value = wide_value(self.imm, half.imm);
-        *insn = Insn::LoadImm { dst, value };
-        Ok(())
+        Ok(Insn::LoadImm { dst, value })
     }
 
+    #[inline(always)]
     fn load(
         self,
         behind: Option<Slot>,
@@ -209,114 +210,106 @@ impl Slot {
         signed: bool,
         dst: Reg,
         base: Reg,
-        insn: &mut Insn,
-    ) -> Result<(), DecodeFault>
+    ) -> Result<Insn, DecodeFault>
         requires fits { IsSlot self }
         requires opcode { self.opcode ≡ opcode_byte (opcode.Load size signed) }
         requires dst { dst.number ≡ self.dst }
         requires base { base.number ≡ self.src }
         requires form { IsLoad size signed }
-        ensures found { OnOk result (Reads self behind insn.new) }
+        ensures found { IfOk result (λ insn. Reads self behind insn) }
         ensures refused { IfErr result (λ fault.
             form_fault (opcode.Load size signed) self behind ≡ Some fault) }
     {
         if self.imm != 0 {
             return Err(DecodeFault::FieldNotZero);
         }
-        *insn = Insn::Load {
+        Ok(Insn::Load {
             size,
             signed,
             dst,
             base,
             offset: self.offset,
-        };
-        Ok(())
+        })
     }
 
-    fn store_imm(
-        self,
-        behind: Option<Slot>,
-        size: Size,
-        base: Reg,
-        insn: &mut Insn,
-    ) -> Result<(), DecodeFault>
+    #[inline(always)]
+    fn store_imm(self, behind: Option<Slot>, size: Size, base: Reg) -> Result<Insn, DecodeFault>
         requires fits { IsSlot self }
         requires opcode { self.opcode ≡ opcode_byte (opcode.StoreImm size) }
         requires base { base.number ≡ self.dst }
-        ensures found { OnOk result (Reads self behind insn.new) }
+        ensures found { IfOk result (λ insn. Reads self behind insn) }
         ensures refused { IfErr result (λ fault.
             form_fault (opcode.StoreImm size) self behind ≡ Some fault) }
     {
         if self.src != 0 {
             return Err(DecodeFault::FieldNotZero);
         }
-        *insn = Insn::StoreImm {
+        Ok(Insn::StoreImm {
             size,
             base,
             offset: self.offset,
             imm: self.imm,
-        };
-        Ok(())
+        })
     }
 
+    #[inline(always)]
     fn store(
         self,
         behind: Option<Slot>,
         size: Size,
         base: Reg,
         src: Reg,
-        insn: &mut Insn,
-    ) -> Result<(), DecodeFault>
+    ) -> Result<Insn, DecodeFault>
         requires fits { IsSlot self }
         requires opcode { self.opcode ≡ opcode_byte (opcode.Store size) }
         requires base { base.number ≡ self.dst }
         requires src { src.number ≡ self.src }
-        ensures found { OnOk result (Reads self behind insn.new) }
+        ensures found { IfOk result (λ insn. Reads self behind insn) }
         ensures refused { IfErr result (λ fault.
             form_fault (opcode.Store size) self behind ≡ Some fault) }
     {
         if self.imm != 0 {
             return Err(DecodeFault::FieldNotZero);
         }
-        *insn = Insn::Store {
+        Ok(Insn::Store {
             size,
             base,
             offset: self.offset,
             src,
-        };
-        Ok(())
+        })
     }
 
-    fn jump(self, behind: Option<Slot>, insn: &mut Insn) -> Result<(), DecodeFault>
+    #[inline(always)]
+    fn jump(self, behind: Option<Slot>) -> Result<Insn, DecodeFault>
         requires fits { IsSlot self }
         requires opcode { self.opcode ≡ opcode_byte (opcode.Jump) }
-        ensures found { OnOk result (Reads self behind insn.new) }
+        ensures found { IfOk result (λ insn. Reads self behind insn) }
         ensures refused { IfErr result (λ fault.
             form_fault (opcode.Jump) self behind ≡ Some fault) }
     {
         if self.dst != 0 || self.src != 0 || self.imm != 0 {
             return Err(DecodeFault::FieldNotZero);
         }
-        *insn = Insn::Jump {
+        Ok(Insn::Jump {
             offset: self.offset,
-        };
-        Ok(())
+        })
     }
 
-    fn jump_long(self, behind: Option<Slot>, insn: &mut Insn) -> Result<(), DecodeFault>
+    #[inline(always)]
+    fn jump_long(self, behind: Option<Slot>) -> Result<Insn, DecodeFault>
         requires fits { IsSlot self }
         requires opcode { self.opcode ≡ opcode_byte (opcode.JumpLong) }
-        ensures found { OnOk result (Reads self behind insn.new) }
+        ensures found { IfOk result (λ insn. Reads self behind insn) }
         ensures refused { IfErr result (λ fault.
             form_fault (opcode.JumpLong) self behind ≡ Some fault) }
     {
         if self.dst != 0 || self.src != 0 || self.offset != 0 {
             return Err(DecodeFault::FieldNotZero);
         }
-        *insn = Insn::JumpLong { offset: self.imm };
-        Ok(())
+        Ok(Insn::JumpLong { offset: self.imm })
     }
 
+    #[inline(always)]
     fn test(
         self,
         behind: Option<Slot>,
@@ -325,13 +318,12 @@ impl Slot {
         source: SourceKind,
         dst: Reg,
         src: Reg,
-        insn: &mut Insn,
-    ) -> Result<(), DecodeFault>
+    ) -> Result<Insn, DecodeFault>
         requires fits { IsSlot self }
         requires opcode { self.opcode ≡ opcode_byte (opcode.Test narrow test source) }
         requires dst { dst.number ≡ self.dst }
         requires src { src.number ≡ self.src }
-        ensures found { OnOk result (Reads self behind insn.new) }
+        ensures found { IfOk result (λ insn. Reads self behind insn) }
         ensures refused { IfErr result (λ fault.
             form_fault (opcode.Test narrow test source) self behind ≡ Some fault) }
     {
@@ -342,20 +334,20 @@ impl Slot {
         if stray {
             return Err(DecodeFault::FieldNotZero);
         }
-        *insn = Insn::Test {
+        Ok(Insn::Test {
             narrow,
             test,
             dst,
             src: operand,
             offset: self.offset,
-        };
-        Ok(())
+        })
     }
 
-    fn call(self, behind: Option<Slot>, insn: &mut Insn) -> Result<(), DecodeFault>
+    #[inline(always)]
+    fn call(self, behind: Option<Slot>) -> Result<Insn, DecodeFault>
         requires fits { IsSlot self }
         requires opcode { self.opcode ≡ opcode_byte (opcode.Call) }
-        ensures found { OnOk result (Reads self behind insn.new) }
+        ensures found { IfOk result (λ insn. Reads self behind insn) }
         ensures refused { IfErr result (λ fault.
             form_fault (opcode.Call) self behind ≡ Some fault) }
     {
@@ -363,25 +355,24 @@ impl Slot {
             return Err(DecodeFault::FieldNotZero);
         }
         match self.src {
-            0 => *insn = Insn::CallHelper { helper: self.imm },
-            1 => *insn = Insn::CallLocal { offset: self.imm },
-            _ => return Err(DecodeFault::FieldNotZero),
+            0 => Ok(Insn::CallHelper { helper: self.imm }),
+            1 => Ok(Insn::CallLocal { offset: self.imm }),
+            _ => Err(DecodeFault::FieldNotZero),
         }
-        Ok(())
     }
 
-    fn exit(self, behind: Option<Slot>, insn: &mut Insn) -> Result<(), DecodeFault>
+    #[inline(always)]
+    fn exit(self, behind: Option<Slot>) -> Result<Insn, DecodeFault>
         requires fits { IsSlot self }
         requires opcode { self.opcode ≡ opcode_byte (opcode.Exit) }
-        ensures found { OnOk result (Reads self behind insn.new) }
+        ensures found { IfOk result (λ insn. Reads self behind insn) }
         ensures refused { IfErr result (λ fault.
             form_fault (opcode.Exit) self behind ≡ Some fault) }
     {
         if self.dst != 0 || self.src != 0 || self.offset != 0 || self.imm != 0 {
             return Err(DecodeFault::FieldNotZero);
         }
-        *insn = Insn::Exit;
-        Ok(())
+        Ok(Insn::Exit)
     }
 
     /// Whether the second slot of a wide instruction holds more than its immediate.
@@ -418,6 +409,18 @@ impl Slot {
             offset: 0,
             imm,
         }
+    }
+}
+
+/// Gives an instruction to a sink.
+#[inline(always)]
+fn give<S: Sink>(insn: Insn, sink: &mut S) -> Result<(), DecodeFault>
+    ensures taken { OnOk result (S.takes sink.old insn sink.new) }
+    ensures refused { IfErr result (λ fault. fault ≡ Memory) }
+{
+    match sink.take(insn) {
+        Ok(()) => Ok(()),
+        Err(_) => Err(DecodeFault::Memory),
     }
 }
 

@@ -7,7 +7,7 @@ use crate::reason::reason;
 use bpf_asm::print;
 use bpf_decode::Insn;
 use bpf_model::layout::{FRAME_SIZE, FRAMES, REGISTERS};
-use bpf_verifier::{AbstractState, Observer, VerifyFault, verify_observed};
+use bpf_verifier::{AbstractState, Observer, Slots, VerifyFault, verify_observed};
 use std::alloc::{AllocError, Global};
 use std::io::Write;
 
@@ -36,7 +36,7 @@ struct Explainer<O: Write + Drop> {
 impl<O: Write + Drop> Observer for Explainer<O> {
     fn visit(
         &mut self,
-        _code: &[Option<Insn>],
+        _code: &Slots,
         depth: u32,
         slot: usize,
         insn: &Insn,

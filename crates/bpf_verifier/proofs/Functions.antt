@@ -2,7 +2,6 @@
 use Rattle.std.proofs.Common.{◌≡◌, ◌⊎◌, ℕ, zero, suc, ◌+◌, ◌<◌, ◌≤◌, Bool, false, cond, eqb, max, List, [], ◌∷◌, ◌++◌, length, get_or, replicate, Option, Some, None, Box, refl, sym, ap, subst, ◌∙◌, arith, inl, inr}
 use Rattle.std.specs.Prelude.{slice_get, option_and_then}
 use Rattle.std.specs.declared.alloc.Global.{Global}
-use Rattle.std.proofs.lemmas.Option.{slice_get-get_or}
 use Rattle.std.proofs.lemmas.Bool.{cases_lt, eq-eqb}
 use Rattle.std.proofs.lemmas.Bool.Decides.{eqb_tells}
 use Rattle.std.proofs.lemmas.List.{get_or-set_same, get_or-set_other, length-set, length-replicate, length-append, append-nil, append_assoc}
@@ -22,6 +21,7 @@ use Rattle.bpf_verifier.specs.declared.abstract_state.AbstractState.{AbstractSta
 use Rattle.bpf_verifier.specs.declared.dataflow.Visit.{Visit}
 use Rattle.bpf_verifier.specs.declared.dataflow.Returned.{Returned}
 use Rattle.bpf_verifier.specs.Represents.{state_of, Represents}
+use Rattle.bpf_verifier.specs.Slots.{or_exit}
 use Rattle.bpf_verifier.specs.Sweep.{Pending, visit_in, RepresentsVisit, pending_at, Flowed, HasAtLeast, OfSteps, AreFew, AreRight, Fails, Entered, activation_of, IsEntered, SweepAt, IsStart, Followed}
 use Rattle.bpf_verifier.proofs.Bits.{not_equal}
 use Rattle.bpf_verifier.proofs.Sweeps.{states_flow, least_flow, brought, steps_flow, length_flow, taken, taken_others}
@@ -190,6 +190,14 @@ module _ (f : Entered) where
         nothing : (o : Option model.AbstractState) → state_at f.code A slot ≡ o → RepresentsVisit None (state_at f.code A slot) → state_at f.code A slot ≡ None
         nothing None q r = q
         nothing (Some m) q r = absurd (subst (RepresentsVisit None) q r)
+
+      -- an instruction begins where something has come to
+      pub begins_here : (v : Visit) → pending_at old slot ≡ Some v → (x : Insn) × (insn_at f.code slot ≡ Some x)
+      begins_here v e = let path = path_here v e in led path.0 v.steps path.1 where
+        led : (n count : ℕ) → Path f.code A B n count slot → (x : Insn) × (insn_at f.code slot ≡ Some x)
+        led zero count path = subst (λ (t : ℕ). (x : Insn) × (insn_at f.code t ≡ Some x)) (sym path.0) (is.insn, is.begins)
+        led (suc n) count (s, d, before, own, path, takes, one, to, sum) =
+            subst (λ (t : ℕ). (x : Insn) × (insn_at f.code t ≡ Some x)) to (edges_lead f.code A s d (is.structured s) one).begins
 
       no_path_here : pending_at old slot ≡ None → (n count : ℕ) → Path f.code A B n count slot → ⊥
       no_path_here e zero count path =
@@ -401,10 +409,16 @@ module _ (f : Entered) where
           }
 
 -- what stands at a slot of the code
-pub insn_there : (code : List Insn) (slots : List (Option Insn)) (slot : ℕ) (r : Option Insn) → slots ≡ insns_by_slot code → slot < length slots → r ≡ get_or slots slot r → insn_at code slot ≡ r
-insn_there code slots slot r same inside is =
-    ap (λ (l : List (Option Insn)). option_and_then (λ (insn : Option Insn). insn) (slice_get l slot)) (sym same)
-    ∙ ap (option_and_then (λ (insn : Option Insn). insn)) (slice_get-get_or slots slot r inside) ∙ sym is
+pub insn_there : (code : List Insn) (slots : List (Option Insn)) (slot : ℕ) (r : Insn) → slots ≡ insns_by_slot code → r ≡ or_exit (get_or slots slot None) → (y : Insn) × (insn_at code slot ≡ Some y) → insn_at code slot ≡ Some r
+insn_there code slots slot r same is (y, begins) =
+    let less = insn_at_less code slot y begins in
+    let long = ap length same in
+    let there : get_or slots slot None ≡ Some y = some_there slots slot y (omega (arith, less, long)) (ap (λ (l : List (Option Insn)). option_and_then (λ (insn : Option Insn). insn) (slice_get l slot)) same ∙ begins) in
+    begins ∙ ap Some (sym (is ∙ ap or_exit there)) where
+      some_there : (l : List (Option Insn)) (k : ℕ) (x : Insn) → k < length l → option_and_then (λ (insn : Option Insn). insn) (slice_get l k) ≡ Some x → get_or l k None ≡ Some x
+      some_there [] k x i e = absurd (omega arith)
+      some_there (z ∷ zs) zero x i e = e
+      some_there (z ∷ zs) (suc k) x i e = some_there zs k x (omega arith) e
 
 -- ---- what is pending at the start
 

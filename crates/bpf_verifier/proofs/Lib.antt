@@ -8,3 +8,4 @@ pub mod Sweeps
 pub mod Functions
 pub mod Visiting
 pub mod Verdicts
+pub mod Plain

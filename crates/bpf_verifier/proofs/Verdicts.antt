@@ -5,13 +5,14 @@ use Rattle.bpf_decode.specs.declared.insn.Insn.{Insn}
 use Rattle.bpf_decode.specs.declared.refusal.DecodeFault.{DecodeFault}
 use Rattle.bpf_decode.specs.declared.refusal.DecodeFault.TheVariants as decode
 use Rattle.bpf_decode.specs.Faults.{IsCode, IsRefused}
-use Rattle.bpf_decode.proofs.Encodings.{same_code}
+use Rattle.bpf_decode.proofs.Encodings.{same_code, refused_is_no_code}
 use Rattle.bpf_model.specs.Code.{insns_by_slot}
 use Rattle.bpf_model.specs.Dataflow.{IsBound}
 use Rattle.bpf_model.specs.Faults.{verify_fault_of}
 use Rattle.bpf_model.specs.Run.{IsSafe}
-use Rattle.bpf_model.specs.Verdict.{Accepts, Refuses, IsAccepted, IsFirstVisit, dataflow_fault}
+use Rattle.bpf_model.specs.Verdict.{Accepts, Refuses, IsAccepted, IsFirst, IsFirstVisit, structure_fault, dataflow_fault}
 use Rattle.bpf_model.proofs.Totality.{same_bound, not_both}
+use Rattle.bpf_model.specs.declared.fault.Refusal.{Refusal}
 use Rattle.bpf_model.specs.declared.fault.VerifyFault.{VerifyFault}
 use Rattle.bpf_model.specs.declared.fault.VerifyFault.TheVariants.{Decode, Memory}
 use Rattle.bpf_model.proofs.Safety.{safe, bounded}
@@ -21,11 +22,11 @@ use Rattle.bpf_verifier.specs.Verified.{IsProcedure, has_local_calls}
 use Rattle.bpf_verifier.specs.Sweep.{IsStructured}
 
 -- what the two passes find together
-pub accepted_by : (code : List Insn) (a b : List (Option Insn)) (bound : ℕ) → a ≡ insns_by_slot code → b ≡ insns_by_slot code → ((c : List Insn) → a ≡ insns_by_slot c → IsStructured c) → ((c : List Insn) → b ≡ insns_by_slot c → IsStructured c → (index : ℕ) → dataflow_fault c index ≡ None) → ((c : List Insn) → b ≡ insns_by_slot c → IsStructured c → IsBound c bound) → IsAccepted code bound
-accepted_by code a b bound is-a is-b structure dataflow longest = record {
-  structure = structure code is-a;
-  dataflow = dataflow code is-b (structure code is-a);
-  longest = longest code is-b (structure code is-a);
+pub accepted_by : (code : List Insn) (slots : List (Option Insn)) (bound : ℕ) → slots ≡ insns_by_slot code → IsStructured code → ((c : List Insn) → slots ≡ insns_by_slot c → IsStructured c → (index : ℕ) → dataflow_fault c index ≡ None) → ((c : List Insn) → slots ≡ insns_by_slot c → IsStructured c → IsBound c bound) → IsAccepted code bound
+accepted_by code slots bound is structure dataflow longest = record {
+  structure = structure;
+  dataflow = dataflow code is structure;
+  longest = longest code is structure;
 }
 
 -- code that was accepted makes a procedure, with its table
@@ -73,7 +74,22 @@ only_memory bytes code fault slot is structure (inl memory) other accepts = memo
 only_memory bytes code fault slot is structure (inr first) other (insns, same, taken) =
     absurd (not_both code other fault slot (subst (λ (c : List Insn). IsAccepted c other) (sym (same_code bytes code insns is same)) taken) (inr (structure, first)))
 
+-- nor code whose structure has one
+pub only_structured : (bytes : List ℕ) (code : List Insn) (fault : VerifyFault) (slot : ℕ) → IsCode bytes code → IsFirst (structure_fault code) fault slot → (other : ℕ) → Accepts bytes other → ⊥
+only_structured bytes code fault slot is first other (insns, same, taken) =
+    not_both code other fault slot (subst (λ (c : List Insn). IsAccepted c other) (sym (same_code bytes code insns is same)) taken) (inl first)
+
+-- nor bytes that are no code
+pub only_code : (bytes : List ℕ) (reason : DecodeFault) (slot : ℕ) → (reason ≡ decode.Memory) ⊎ IsRefused bytes reason slot → (other : ℕ) → Accepts bytes other → reason ≡ decode.Memory
+only_code bytes reason slot (inl memory) other accepts = memory
+only_code bytes reason slot (inr refused) other (insns, same, taken) = absurd (refused_is_no_code bytes insns reason slot refused same)
+
 -- an error that is handed on
 pub match_err : {X E : Type 0} (r : Result X E) (x : E) (P : X → Type 0) (Q : E → Type 0) → IsErr r → IfErr r (λ e. e ≡ x) → Q x → MatchResult r P Q
 match_err (Ok y) x P Q is same h = absurd cc
 match_err (Err e) x P Q is same h = subst Q (sym same) h
+
+-- a refusal of the decoder's that is memory's
+pub memory_err : {X : Type 0} (r : Result X Refusal) (reason : DecodeFault) (P : X → Type 0) → IsErr r → IfErr r (λ e. e.fault ≡ verify_fault_of reason) → reason ≡ decode.Memory → MatchResult r P (λ e. e.fault ≡ Memory)
+memory_err (Ok x) reason P is same memory = absurd cc
+memory_err (Err e) reason P is same memory = same ∙ ap verify_fault_of memory

@@ -8,3 +8,5 @@ pub mod Verified
 pub use Rattle.bpf_model.specs.Faults
 pub use Rattle.bpf_model.specs.Run
 pub use Rattle.bpf_model.specs.Verdict
+pub mod Reading
+pub mod Slots

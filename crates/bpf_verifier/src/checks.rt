@@ -40,6 +40,7 @@ impl AbstractState {
 
     /// What is wrong with an instruction that is reached in the frame of a depth: an operand, then an
     /// access, then bytes that are read, then a local call for which no frame is left.
+    #[inline(always)]
     pub(crate) fn insn_dataflow_fault(&self, depth: u32, insn: &Insn) -> Option<VerifyFault>
         requires { depth < 8 }
         ensures { (init : ℕ → Bool) → AreBitsOf self.now.initialized.words init →
@@ -60,6 +61,7 @@ impl AbstractState {
         }
     }
 
+    #[inline(always)]
     fn has_operands(&self, insn: &Insn) -> bool
         ensures { result ≡ has_all (ranges_of self.now.ranges) (operands insn.now) }
     {
@@ -83,6 +85,7 @@ impl AbstractState {
         }
     }
 
+    #[inline(always)]
     fn has_accesses(&self, depth: u32, insn: &Insn) -> bool
         requires { depth < 8 }
         ensures { (init : ℕ → Bool) → result ≡
@@ -118,6 +121,7 @@ impl AbstractState {
         }
     }
 
+    #[inline(always)]
     fn has_bytes(&self, insn: &Insn) -> bool
         requires { (depth : ℕ) × (depth < 8) × ((init : ℕ → Bool) →
             has_accesses depth (state_of self.now.ranges init) insn.now ≡ true) }

@@ -1,7 +1,7 @@
 //! The data flow over the code: each function in one sweep of ascending slots, and each local call
 //! followed at its slot.
 
-ghost use Rattle.std.specs.Prelude.{◌≡◌, ◌⊎◌, ℕ, ◌+◌, ◌-◌, ◌≤◌, ◌<◌, Bool, List, length, true, false, None, Some, Option, IfOk, IfErr, IfSome, OnOk, ℤ, suc};
+ghost use Rattle.std.specs.Prelude.{◌≡◌, ◌⊎◌, ℕ, slice_index_or, ◌+◌, ◌-◌, ◌≤◌, ◌<◌, Bool, List, length, true, false, None, Some, Option, IfOk, IfErr, IfSome, OnOk, ℤ, suc};
 ghost use Rattle.std.specs.Option.{option_map};
 ghost use Rattle.bpf_decode.specs.declared.insn.Insn.{Insn};
 ghost use Rattle.bpf_decode.specs.declared.insn.Insn.TheVariants.{CallLocal};
@@ -12,11 +12,12 @@ ghost use Rattle.bpf_model.specs.Verdict.{insn_dataflow_fault, visits_in, visit_
 ghost use Rattle.bpf_model.specs.declared.fault.VerifyFault.TheVariants.{Memory};
 ghost use Rattle.bpf_verifier.specs.FrameBytes.{AreBitsOf};
 ghost use Rattle.bpf_verifier.specs.Represents.{Represents, RepresentsOption, state_of};
+ghost use Rattle.bpf_verifier.specs.Slots.{or_exit};
 ghost use Rattle.bpf_verifier.specs.Sweep.{visit_in, RepresentsVisit, Brings, VisitJoined, Flowed, AreFew, SweepAt, IsStart, IsStructured, Fails, Entered, IsEntered, activation_of, nothing_returned, Followed, CalledBack, FailsInCall, IsRunning};
 
 use crate::abstract_state::AbstractState;
 use crate::observer::Observer;
-use crate::slots::target_of;
+use crate::slots::{Slots, target_of};
 use bpf_decode::{Insn, Reg, Source};
 use bpf_model::layout::FRAMES;
 use bpf_model::{Refusal, VerifyFault};
@@ -107,6 +108,7 @@ impl Pass {
     }
 
     /// Counts a visit of a slot, and checks the instruction there. Fails with what is wrong.
+    #[inline(always)]
     fn begin(
         &mut self,
         depth: u32,
@@ -149,7 +151,7 @@ impl Pass {
 /// fault. `Memory` may come at any allocation.
 pub fn check_dataflow<O: Observer>(
     alloc: Global,
-    slots: &[Option<Insn>],
+    slots: &Slots,
     observer: &mut O,
 ) -> Result<u32, Refusal>
     requires some { 0 < length slots.now }
@@ -183,7 +185,7 @@ pub fn check_dataflow<O: Observer>(
 fn follow<O: Observer>(
     pass: &mut Pass,
     observer: &mut O,
-    slots: &[Option<Insn>],
+    slots: &Slots,
     left: u32,
     entry: usize,
     visit: Box<Visit>,
@@ -215,7 +217,7 @@ fn follow<O: Observer>(
 fn sweep<O: Observer>(
     pass: &mut Pass,
     observer: &mut O,
-    slots: &[Option<Insn>],
+    slots: &Slots,
     left: u32,
     entry: usize,
     pending: &mut [Option<Box<Visit>>],
@@ -243,7 +245,7 @@ fn sweep<O: Observer>(
         bound: 0,
     };
     for slot in entry..slots.len() {
-        visit_slot(pass, observer, slots, left, pending, slot, &mut returned)?;
+        visit_by_kind(pass, observer, slots, left, pending, slot, &mut returned)?;
     }
     Ok(returned)
 }
@@ -266,12 +268,14 @@ fn pending_at_entry(
     Ok(pending)
 }
 
-/// Visits a slot, where something has reached it.
+/// Visits a slot, where something has reached it. Each kind of instruction that is frequent has the visit as a
+/// copy of its own, in which all that the visit asks of the kind is known.
 #[cycle(calls)]
-fn visit_slot<O: Observer>(
+#[inline(always)]
+fn visit_by_kind<O: Observer>(
     pass: &mut Pass,
     observer: &mut O,
-    slots: &[Option<Insn>],
+    slots: &Slots,
     left: u32,
     pending: &mut [Option<Box<Visit>>],
     slot: usize,
@@ -297,7 +301,56 @@ fn visit_slot<O: Observer>(
         SweepAt f slot pending.old returned.old pass.old.visits →
         Fails f.base (visits_in f.code (suc f.left) f.entry f.state) refusal.fault refusal.slot)) }
 {
-    let (Some(insn), Some(mut visit)) = (slots[slot], pending[slot].take()) else {
+    let insn = slots.at(slot);
+    match insn {
+        Insn::Alu { .. } => visit_slot(pass, observer, slots, left, pending, slot, insn, returned),
+        Insn::Load { .. } => visit_slot(pass, observer, slots, left, pending, slot, insn, returned),
+        Insn::StoreImm { .. } => {
+            visit_slot(pass, observer, slots, left, pending, slot, insn, returned)
+        }
+        Insn::Store { .. } => {
+            visit_slot(pass, observer, slots, left, pending, slot, insn, returned)
+        }
+        Insn::Test { .. } => visit_slot(pass, observer, slots, left, pending, slot, insn, returned),
+        _ => visit_slot(pass, observer, slots, left, pending, slot, insn, returned),
+    }
+}
+
+/// Visits a slot, where something has reached it.
+#[cycle(calls)]
+#[inline(always)]
+fn visit_slot<O: Observer>(
+    pass: &mut Pass,
+    observer: &mut O,
+    slots: &Slots,
+    left: u32,
+    pending: &mut [Option<Box<Visit>>],
+    slot: usize,
+    insn: Insn,
+    returned: &mut Returned,
+) -> Result<(), Refusal>
+    requires short { length slots.now ≤ 1024 }
+    requires deep { left < 8 }
+    requires inside { slot < length slots.now }
+    requires long { length pending.old ≡ length slots.now }
+    requires insn { insn ≡ or_exit (slice_index_or slots.now slot None) }
+    requires few { AreFew 0 pass.old.visits pending.old returned.old.bound }
+    requires running { (f : Entered) × IsRunning slots.now left f
+        × SweepAt f slot pending.old returned.old pass.old.visits }
+    ensures long { IfOk result (λ _. length pending.new ≡ length pending.old) }
+    ensures few { IfOk result (λ _. (base : ℕ) →
+        AreFew base pass.old.visits pending.old returned.old.bound →
+        AreFew base pass.new.visits pending.new returned.new.bound) }
+    ensures right { IfOk result (λ _. (f : Entered) → slots.now ≡ insns_by_slot f.code →
+        f.left ≡ left → IsEntered f →
+        SweepAt f slot pending.old returned.old pass.old.visits →
+        SweepAt f (slot + 1) pending.new returned.new pass.new.visits) }
+    ensures refused { IfErr result (λ refusal. (refusal.fault ≡ Memory) ⊎
+        ((f : Entered) → slots.now ≡ insns_by_slot f.code → f.left ≡ left → IsEntered f →
+        SweepAt f slot pending.old returned.old pass.old.visits →
+        Fails f.base (visits_in f.code (suc f.left) f.entry f.state) refusal.fault refusal.slot)) }
+{
+    let Some(mut visit) = pending[slot].take() else {
         return Ok(());
     };
     let depth = FRAMES as u32 - 1 - left;
@@ -332,7 +385,7 @@ fn visit_slot<O: Observer>(
 fn call<O: Observer>(
     pass: &mut Pass,
     observer: &mut O,
-    slots: &[Option<Insn>],
+    slots: &Slots,
     left: u32,
     slot: usize,
     offset: i32,
@@ -398,6 +451,7 @@ fn resume(
 }
 
 /// Takes a visit over all edges out of an instruction that calls no function and is no exit.
+#[inline(always)]
 fn flow(
     pending: &mut [Option<Box<Visit>>],
     pass: &mut Pass,
@@ -446,6 +500,7 @@ fn flow(
 }
 
 /// The visits on both edges of a test, first the one that isn't taken; none on an edge that can't be.
+#[inline(always)]
 fn split(
     mut visit: Box<Visit>,
     pass: &mut Pass,

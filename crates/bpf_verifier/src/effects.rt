@@ -11,7 +11,7 @@ use bpf_decode::{Insn, Reg, Size, Source};
 use bpf_model::layout::{FRAME_START, STACK_END};
 use bpf_num::{AluOp, AluWidth, Test};
 use map_helpers::{Access, Helper};
-use reg_ranges::{Range, refine, swap_range, transfer32, transfer64};
+use reg_ranges::{Range, refine_edges, swap_range, transfer32, transfer64};
 
 impl AbstractState {
     ghost use Rattle.std.specs.Prelude.{◌≡◌, ℕ, ◌+◌, ◌<◌, ◌||◌, Bool, true, false};
@@ -24,6 +24,7 @@ impl AbstractState {
     ghost use Rattle.bpf_verifier.specs.Represents.{Represents, state_of};
 
     /// Goes over an instruction, by the edge to the slot behind it.
+    #[inline(always)]
     pub(crate) fn after_insn(&mut self, insn: &Insn)
         ensures { (init : ℕ → Bool) → AreBitsOf self.old.initialized.words init →
             Represents self.new (after_insn (state_of self.old.ranges init) insn.now) }
@@ -77,6 +78,7 @@ impl AbstractState {
     }
 
     /// What an arithmetic instruction makes of its operands.
+    #[inline(always)]
     fn alu_range(&self, width: AluWidth, op: AluOp, dst: Reg, src: Source) -> Option<Range>
         ensures { (init : ℕ → Bool) →
             option_map range_of result ≡
@@ -91,6 +93,7 @@ impl AbstractState {
         Some(transfer(width, op, a, b))
     }
 
+    #[inline(always)]
     fn source_range(&self, src: Source) -> Option<Range>
         ensures { (init : ℕ → Bool) →
             option_map range_of result ≡ source_range (state_of self.now.ranges init) src }
@@ -176,13 +179,11 @@ impl AbstractState {
         let (Some(a), Some(b)) = (self.range_of(dst.number), self.tested_range(narrow, src)) else {
             return (None, None);
         };
-        (
-            refine(test, narrow, a, b, false),
-            refine(test, narrow, a, b, true),
-        )
+        refine_edges(test, narrow, a, b)
     }
 
     /// Gives the operands of a test these ranges. Where both are one register, it keeps its own.
+    #[inline(always)]
     pub(crate) fn set_tested(&mut self, dst: Reg, src: Source, ranges: (Range, Range))
         ensures { (init : ℕ → Bool) → AreBitsOf self.old.initialized.words init →
             Represents self.new

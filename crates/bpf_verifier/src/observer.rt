@@ -3,6 +3,7 @@
 ghost use Rattle.bpf_verifier.specs.Observed.{IsVisit};
 
 use crate::abstract_state::AbstractState;
+use crate::slots::Slots;
 use bpf_decode::Insn;
 
 /// Receives each visit of the verifier as it begins, before anything is checked there.
@@ -10,14 +11,7 @@ pub trait Observer {
     /// A visit of an instruction at a slot of the code, in the frame of a depth from 0 on, with what
     /// holds for certain before it runs. It is what the data flow's definition says of this visit. The
     /// visits come in order: behind that of a local call those of its callee, one deeper, follow.
-    fn visit(
-        &mut self,
-        code: &[Option<Insn>],
-        depth: u32,
-        slot: usize,
-        insn: &Insn,
-        state: &AbstractState,
-    )
+    fn visit(&mut self, code: &Slots, depth: u32, slot: usize, insn: &Insn, state: &AbstractState)
         requires { IsVisit code.now depth slot insn.now state.now };
 }
 
@@ -29,7 +23,7 @@ impl Observer for Unobserved {
     #[inline(always)]
     fn visit(
         &mut self,
-        _code: &[Option<Insn>],
+        _code: &Slots,
         _depth: u32,
         _slot: usize,
         _insn: &Insn,

@@ -1,12 +1,14 @@
 //! Code by slots, and where jumps lead.
 
-ghost use Rattle.std.specs.Prelude.{◌≡◌, ◌≤◌, List, IfOk};
+ghost use Rattle.std.specs.Prelude.{◌≡◌, ◌≤◌, List, map, IfOk};
 ghost use Rattle.std.specs.Option.{is_some};
 ghost use Rattle.bpf_decode.specs.declared.insn.Insn.{Insn};
 ghost use Rattle.bpf_model.specs.Code.{insns_by_slot, insn_at, target_of};
+ghost use Rattle.bpf_verifier.specs.Slots.{or_exit};
 
 use bpf_decode::Insn;
 use std::alloc::{AllocError, Global};
+use std::marker::Model;
 
 /// The instruction that begins at each slot, and none at a slot that an instruction continues in.
 pub fn insns_by_slot(alloc: Global, code: &[Insn]) -> Result<Vec<Option<Insn>>, AllocError>
@@ -20,6 +22,105 @@ pub fn insns_by_slot(alloc: Global, code: &[Insn]) -> Result<Vec<Option<Insn>>, 
         }
     }
     Ok(slots)
+}
+
+/// The instructions of code, found by their slots. Where each takes one slot, as in most code, the list of
+/// them serves as it is.
+#[derive(Drop)]
+pub struct Slots {
+    insns: Vec<Insn>,
+    /// One for each slot: the instruction that begins there, or an exit where one continues. Nothing where each
+    /// instruction takes one slot.
+    by_slot: Vec<Insn>,
+}
+
+impl Model for Slots {
+    ghost use Rattle.std.specs.Prelude.{List, Option};
+    ghost use Rattle.bpf_decode.specs.declared.insn.Insn.{Insn};
+    ghost use Rattle.bpf_model.specs.Code.{insns_by_slot};
+    ghost use Rattle.bpf_verifier.specs.Slots.{AreBySlot};
+
+    ghost Value = { List (Option Insn) };
+
+    ghost view = { λ s. insns_by_slot s.insns.items };
+
+    ghost invariant = { λ s. AreBySlot s.insns.items s.by_slot.items };
+}
+
+impl Slots {
+    ghost use Rattle.std.specs.Prelude.{◌≡◌, ◌<◌, List, None, IfOk, map, length, slice_index_or};
+    ghost use Rattle.bpf_model.specs.Code.{insns_by_slot};
+    ghost use Rattle.bpf_verifier.specs.Slots.{AreSingle, or_exit};
+
+    /// Those of instructions that take one slot each.
+    pub(crate) fn of_single(alloc: Global, insns: Vec<Insn>) -> Slots
+        requires { AreSingle insns.items }
+        ensures { result ≡ insns_by_slot insns.items }
+    {
+        Slots {
+            insns,
+            by_slot: Vec::new(alloc),
+        }
+    }
+
+    /// Those of instructions whose list by slots this is.
+    pub(crate) fn new(
+        alloc: Global,
+        insns: Vec<Insn>,
+        by_slot: &[Option<Insn>],
+    ) -> Result<Slots, AllocError>
+        requires { by_slot.now ≡ insns_by_slot insns.items }
+        ensures { IfOk result (λ slots. slots ≡ insns_by_slot insns.items) }
+    {
+        let by_slot = filled(alloc, by_slot)?;
+        Ok(Slots { insns, by_slot })
+    }
+
+    /// One instruction for each slot.
+    #[inline(always)]
+    fn list(&self) -> &[Insn]
+        ensures { result.now ≡ map or_exit self.now }
+    {
+        if self.by_slot.is_empty() {
+            &self.insns
+        } else {
+            &self.by_slot
+        }
+    }
+
+    /// How many slots the code has.
+    pub fn len(&self) -> usize
+        ensures { result ≡ length self.now }
+    {
+        self.list().len()
+    }
+
+    /// The instruction that begins at a slot, or an exit where none does.
+    #[inline(always)]
+    pub fn at(&self, slot: usize) -> Insn
+        requires { slot < length self.now }
+        ensures { result ≡ or_exit (slice_index_or self.now slot None) }
+    {
+        self.list()[slot]
+    }
+
+    /// The instructions.
+    pub(crate) fn into_insns(self) -> Vec<Insn>
+        ensures { insns_by_slot result.items ≡ self }
+    {
+        self.insns
+    }
+}
+
+/// One instruction for each slot: that which begins there, or an exit where none does.
+fn filled(alloc: Global, slots: &[Option<Insn>]) -> Result<Vec<Insn>, AllocError>
+    ensures { IfOk result (λ list. list.items ≡ map or_exit slots.now) }
+{
+    let mut list = Vec::with_capacity(alloc, slots.len())?;
+    for slot in slots {
+        list.push(slot.unwrap_or(Insn::Exit))?;
+    }
+    Ok(list)
 }
 
 /// Whether an instruction begins at a slot.

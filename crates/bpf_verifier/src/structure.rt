@@ -1,11 +1,12 @@
 //! The structure of the code: what is wrong with an instruction at its slot, reached or not.
 
-ghost use Rattle.std.specs.Prelude.{◌≡◌, ℕ, ◌≤◌, ◌<◌, ◌==◌, nat_le, if◌then◌else◌, List, length, Some, None, OnOk, IfErr};
+ghost use Rattle.std.specs.Prelude.{◌≡◌, ℕ, ◌≤◌, ◌<◌, ◌==◌, true, false, nat_le, pos, if◌then◌else◌, List, length, Some, None, OnOk, IfErr};
 ghost use Rattle.std.specs.Option.{is_none};
 ghost use Rattle.bpf_decode.specs.declared.insn.Insn.{Insn};
 ghost use Rattle.bpf_model.specs.Code.{insns_by_slot};
 ghost use Rattle.bpf_model.specs.Verdict.{insn_structure_fault, structure_fault, is_backward, leads_outside, IsFirst};
 ghost use Rattle.map_helpers.specs.Helpers.{helper_of};
+ghost use Rattle.bpf_verifier.specs.Reading.{IsPlain};
 ghost use Rattle.bpf_verifier.specs.Sweep.{IsStructured};
 
 use crate::slots::{begins_at, target_of};
@@ -13,6 +14,37 @@ use bpf_decode::{Insn, Reg};
 use bpf_model::layout::FRAME_POINTER;
 use bpf_model::{Refusal, VerifyFault};
 use map_helpers::Helper;
+
+/// Whether an instruction is known to have no fault, as it is read: before so many slots more, in code where
+/// one instruction begins at each.
+#[inline(always)]
+pub fn is_plain(insn: &Insn, behind: usize) -> bool
+    requires { behind ≤ 1024 }
+    ensures { result ≡ true → IsPlain behind insn.now }
+{
+    match insn {
+        Insn::Alu { dst, .. } | Insn::Swap { dst, .. } | Insn::Load { dst, .. } => {
+            behind > 0 && dst.number != FRAME_POINTER
+        }
+        Insn::StoreImm { .. } | Insn::Store { .. } => behind > 0,
+        Insn::Jump { offset } => leads_ahead(i32::from(*offset), behind),
+        Insn::JumpLong { offset } => leads_ahead(*offset, behind),
+        Insn::Test { offset, .. } => leads_ahead(i32::from(*offset), behind),
+        Insn::CallHelper { helper } => behind > 0 && Helper::of(*helper).is_some(),
+        Insn::Exit => true,
+        Insn::CallLocal { .. } | Insn::LoadImm { .. } => false,
+    }
+}
+
+/// Whether an offset leads to one of so many slots behind: as a number without a sign, one that leads back is
+/// great.
+#[inline(always)]
+fn leads_ahead(offset: i32, behind: usize) -> bool
+    requires { behind ≤ 1024 }
+    ensures { result ≡ true → (n : ℕ) × (offset ≡ pos n) × (n < behind) }
+{
+    (offset.cast_unsigned() as usize) < behind
+}
 
 /// Checks what each slot holds, whether it is reached or not, and returns the first fault.
 pub fn check_structure(slots: &[Option<Insn>]) -> Result<(), Refusal>

@@ -2,7 +2,9 @@
 
 ghost use Rattle.std.specs.Prelude.{◌≤◌};
 
-use bpf_decode::{DecodeFault, Insn, Refusal, Reg, Size, Source, decode_all, encode_all};
+use bpf_decode::{
+    DecodeFault, Insn, Refusal, Reg, Size, Source, decode_all, encode_all, read_into,
+};
 use bpf_num::{AluOp, AluWidth, SwapKind, Test, Width};
 use std::alloc::Global;
 use std::test::Fail;
@@ -246,6 +248,51 @@ fn faults_of_wide_instructions(rt: HostRuntime) -> Result<(), Fail> {
     let words = [first, half, 0x9500_0000_0000_0000, 0xff00_0000_0000_0000];
     let found = is_refused(rt.alloc(), &words, DecodeFault::BadOpcode, 3)?;
     assert!(rt; found, "the fault behind a wide instruction");
+    Ok(())
+}
+
+/// The instructions that a list takes of slots given as words, and the fault, if there is one.
+fn taken(alloc: Global, words: &[u64]) -> Result<(Vec<Insn>, Option<Refusal>), Fail> {
+    let bytes = bytes_of(alloc, words)?;
+    let mut code = Vec::new(alloc);
+    let fault = read_into(&bytes, &mut code).err();
+    Ok((code, fault))
+}
+
+#[test]
+fn what_a_sink_takes(rt: HostRuntime) -> Result<(), Fail> {
+    let alloc = rt.alloc();
+    let wide = [0x1801_0000_efcd_ab89, 0x0000_0000_6745_2301];
+    let first = Insn::LoadImm {
+        dst: reg(1),
+        value: 0x0123_4567_89ab_cdef,
+    };
+    let exit = 0x9500_0000_0000_0000;
+    // all of what is code, each instruction once and in order
+    let (code, fault) = taken(alloc, &[wide[0], wide[1], exit, exit])?;
+    assert!(rt;
+        code.as_slice() == [first, Insn::Exit, Insn::Exit].as_slice(),
+        "code"
+    );
+    assert!(rt; fault.is_none(), "code");
+    // those before the first fault
+    let (code, fault) = taken(
+        alloc,
+        &[wide[0], wide[1], exit, 0xff00_0000_0000_0000, exit],
+    )?;
+    let slot = 3;
+    let wanted = Some(Refusal {
+        fault: DecodeFault::BadOpcode,
+        slot,
+    });
+    assert!(rt;
+        code.as_slice() == [first, Insn::Exit].as_slice(),
+        "before a fault"
+    );
+    assert!(rt; fault == wanted, "a fault");
+    // nothing of what is no code by its length
+    let (code, fault) = taken(alloc, &[])?;
+    assert!(rt; code.is_empty() && fault.is_some(), "no bytes");
     Ok(())
 }
 

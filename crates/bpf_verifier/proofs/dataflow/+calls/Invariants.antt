@@ -4,16 +4,19 @@ use Rattle.bpf_verifier.specs.Sweep.{Entered, IsEntered, AreFew, SweepAt, nothin
 use Rattle.bpf_verifier.proofs.dataflow.+calls.Given as goal
 
 abbrev pub decreases-follow : goal.decreases-follow
-decreases-follow g l = 4 * l.left + 3
+decreases-follow g l = 5 * l.left + 4
 
 abbrev pub decreases-sweep : goal.decreases-sweep
-decreases-sweep g l = 4 * l.left + 2
+decreases-sweep g l = 5 * l.left + 3
+
+abbrev pub decreases-visit_by_kind : goal.decreases-visit_by_kind
+decreases-visit_by_kind g l = 5 * l.left + 2
 
 abbrev pub decreases-visit_slot : goal.decreases-visit_slot
-decreases-visit_slot g l = 4 * l.left + 1
+decreases-visit_slot g l = 5 * l.left + 1
 
 abbrev pub decreases-call : goal.decreases-call
-decreases-call g l = 4 * l.left
+decreases-call g l = 5 * l.left
 
 abbrev pub invariant-sweep-loop-slot : goal.invariant-sweep-loop-slot
 invariant-sweep-loop-slot g l = record {
