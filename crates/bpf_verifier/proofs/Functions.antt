@@ -1,6 +1,7 @@
 -- The sweep of a function: its start, one slot more, and its end.
 use Rattle.std.proofs.Common.{◌≡◌, ◌⊎◌, ℕ, zero, suc, ◌+◌, ◌<◌, ◌≤◌, Bool, false, cond, eqb, max, List, [], ◌∷◌, ◌++◌, length, get_or, replicate, Option, Some, None, Box, refl, sym, ap, subst, ◌∙◌, arith, inl, inr}
 use Rattle.std.specs.Prelude.{slice_get, option_and_then}
+use Rattle.std.specs.List.{AppendsResults, FoldsTo}
 use Rattle.std.specs.declared.alloc.Global.{Global}
 use Rattle.std.proofs.lemmas.Bool.{cases_lt, eq-eqb}
 use Rattle.std.proofs.lemmas.Bool.Decides.{eqb_tells}
@@ -464,3 +465,12 @@ started f is pending slots visit entry visits at same base inside start none rep
     subst (λ (k : ℕ). SweepAt f k pending (record { exit = None; bound = 0 }) visits) same
     (subst (λ (k : ℕ). SweepAt f f.entry pending (record { exit = None; bound = 0 }) k) base
     (sweep_start f is pending (length slots) visit (ap length at) (omega (arith, same, inside)) (subst (λ (k : ℕ). IsStart pending (length slots) k visit) (sym same) start) none rep))
+
+-- a list that calls of a closure, which all answered none, have filled
+pub all_none : {F X : Type 0} (step : F → Option X → F → Type 0) (n : ℕ) (old new : List (Option X)) (f : F) → old ≡ [] → AppendsResults step old new f → ((p : F) (x : Option X) (q : F) → step p x q → x ≡ None) → length new ≡ n → new ≡ replicate n None
+all_none {F} {X} step n old new f empty (ys, last, is, folds) none long =
+    let all : new ≡ ys = is ∙ ap (λ (l : List (Option X)). l ++ ys) empty in
+    all ∙ each f ys folds ∙ ap (λ (k : ℕ). replicate k None) (ap length (sym all) ∙ long) where
+      each : (p : F) (xs : List (Option X)) → FoldsTo step p xs last → xs ≡ replicate (length xs) None
+      each p [] h = refl
+      each p (x ∷ xs) (q, s, rest) = ap (λ (o : Option X). o ∷ xs) (none p x q s) ∙ ap (λ (l : List (Option X)). None ∷ l) (each q xs rest)

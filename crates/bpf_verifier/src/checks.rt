@@ -2,6 +2,8 @@
 
 ghost use Rattle.std.specs.Prelude.{◌≡◌, ◌≤◌, ◌<◌};
 ghost use Rattle.std.specs.Option.{option_map};
+ghost use Rattle.bpf_num.specs.declared.AluOp.TheVariants.{Add};
+ghost use Rattle.reg_ranges.specs.Ranges.{single, transfer64_of};
 ghost use Rattle.reg_ranges.specs.RangeOf.{range_of};
 ghost use Rattle.bpf_model.specs.Access.{bytes_of};
 ghost use Rattle.bpf_model.specs.AbstractState.{in_bounds};
@@ -177,8 +179,7 @@ impl AbstractState {
             address_range (state_of self.now.ranges init) base.number offset }
     {
         let range = self.range_of(base.number)?;
-        let offset = Range::single(i64::from(offset).cast_unsigned());
-        Some(transfer64(AluOp::Add, range, offset))
+        Some(offset_by(range, i64::from(offset).cast_unsigned()))
     }
 
     /// The greatest number of bytes that an access of a helper may have.
@@ -274,5 +275,17 @@ fn is_in_bounds(depth: u32, range: Option<Range>, size: u64) -> bool
                 || range.lo >= ARGUMENTS_START && end <= ARGUMENTS_END
         }
         None => false,
+    }
+}
+
+/// The range of a sum with a number: what `transfer64` says, which most bases, of one number, need no call for.
+#[inline(always)]
+fn offset_by(range: Range, offset: u64) -> Range
+    ensures { range_of result ≡ transfer64_of Add (range_of range) (single offset) }
+{
+    if range.is_single() {
+        Range::single(range.lo.wrapping_add(offset))
+    } else {
+        transfer64(AluOp::Add, range, Range::single(offset))
     }
 }

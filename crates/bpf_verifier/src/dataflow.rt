@@ -260,10 +260,8 @@ fn pending_at_entry(
     requires { entry < slots }
     ensures { IfOk result (λ pending. IsStart pending.items slots entry visit) }
 {
-    let mut pending = Vec::with_capacity(alloc, slots)?;
-    for _slot in 0..slots {
-        pending.push(None)?;
-    }
+    let mut pending = Vec::new(alloc);
+    pending.resize_with(slots, || None)?;
     pending[entry] = Some(visit);
     Ok(pending)
 }
