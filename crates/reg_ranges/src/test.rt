@@ -81,13 +81,15 @@ fn edges(
         Test::Jeq => (unequal(a, b), equal(a, b)),
         Test::Jne => (equal(a, b), unequal(a, b)),
         Test::Jset => (Some((a, b)), with_common_bits(a, b)),
-        Test::Jsgt | Test::Jsge | Test::Jslt | Test::Jsle if !are_positive(width, a, b) => {
-            (Some((a, b)), Some((a, b)))
-        }
-        Test::Jgt | Test::Jsgt => (less_or_equal(a, b), greater(a, b)),
-        Test::Jge | Test::Jsge => (less(a, b), greater_or_equal(a, b)),
-        Test::Jlt | Test::Jslt => (greater_or_equal(a, b), less(a, b)),
-        Test::Jle | Test::Jsle => (greater(a, b), less_or_equal(a, b)),
+        Test::Jgt => (less_or_equal(a, b), greater(a, b)),
+        Test::Jge => (less(a, b), greater_or_equal(a, b)),
+        Test::Jlt => (greater_or_equal(a, b), less(a, b)),
+        Test::Jle => (greater(a, b), less_or_equal(a, b)),
+        Test::Jsgt if are_positive(width, a, b) => (less_or_equal(a, b), greater(a, b)),
+        Test::Jsge if are_positive(width, a, b) => (less(a, b), greater_or_equal(a, b)),
+        Test::Jslt if are_positive(width, a, b) => (greater_or_equal(a, b), less(a, b)),
+        Test::Jsle if are_positive(width, a, b) => (greater(a, b), less_or_equal(a, b)),
+        _ => (Some((a, b)), Some((a, b))),
     }
 }
 
