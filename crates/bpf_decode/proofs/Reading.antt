@@ -1,6 +1,6 @@
 -- A slot and the instruction or the fault that is read from it.
-use Rattle.std.proofs.Common.{◌≡◌, ℕ, ◌≤◌, Bool, true, false, rules, Option, Some, pos, ℤ, refl, sym, ap, ◌∙◌, ◌⊎◌, inr}
-use Rattle.std.specs.Prelude.{Result, Ok, Err, IfErr, ◌||◌, ◌&&◌, not, ◌==◌}
+use Rattle.std.proofs.Common.{◌≡◌, ℕ, ◌≤◌, Bool, true, false, rules, Option, Some, pos, ℤ, refl, sym, ap, subst, ◌∙◌, ◌⊎◌, inr}
+use Rattle.std.specs.Prelude.{Result, Ok, Err, OnOk, IfErr, ◌||◌, ◌&&◌, not, ◌==◌}
 use Rattle.std.proofs.lemmas.Bool.{le-ltb}
 use Rattle.bpf_num.specs.declared.AluOp.{AluOp}
 use Rattle.bpf_num.specs.declared.AluWidth.{AluWidth}
@@ -29,6 +29,15 @@ fault_is o s b f e d r h =
 pub refused_by : (A S : Type 0) (now : S) (r : Result A DecodeFault) (o : Opcode) (s : Slot) (b : Option Slot) (f : DecodeFault) → opcode_of s.opcode ≡ Some o → s.dst ≤ 10 → s.src ≤ 10 → form_fault o s b ≡ Some f → IfErr r (λ x. x ≡ f) → IfErr r (λ x. (x ≡ Memory) ⊎ ((slot_fault s b ≡ Some x) × (now ≡ now)))
 refused_by A S now (Ok x) o s b f e d r h same = tt
 refused_by A S now (Err x) o s b f e d r h same = inr (fault_is o s b x e d r (h ∙ ap Some (sym same)), refl)
+
+-- what a result is known to hold
+pub found_in : (P : Type 0) (r : Result (Unit {0}) DecodeFault) (u : Unit {0}) → r ≡ Ok u → OnOk r P → P
+found_in P (Ok x) u e h = h
+found_in P (Err x) u e h = absurd cc
+
+pub fault_in : (P : DecodeFault → Type 0) (r : Result (Unit {0}) DecodeFault) (f : DecodeFault) → r ≡ Err f → IfErr r P → P f
+fault_in P (Ok x) f e h = absurd cc
+fault_in P (Err x) f e h = let same : x ≡ f = cc in subst P same h
 
 pub or_false : (p q : Bool) → (p || q) ≡ false → (p ≡ false) × (q ≡ false)
 or_false true q h = absurd cc

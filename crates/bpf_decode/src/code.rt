@@ -85,12 +85,12 @@ fn read_insn<S: Sink>(bytes: &[u8], slot: usize, sink: &mut S) -> Result<usize, 
 {
     let first = slot_at(bytes, slot);
     // Only a wide instruction has a second slot.
-    let (behind, slots) = if first.opcode == WIDE {
-        (slot_behind(bytes, slot), 2)
+    let (read, slots) = if first.opcode == WIDE {
+        (first.read_wide(slot_behind(bytes, slot), sink), 2)
     } else {
-        (None, 1)
+        (first.read(None, sink), 1)
     };
-    match first.read(behind, sink) {
+    match read {
         Ok(()) => Ok(slots),
         Err(fault) => Err(Refusal {
             fault,

@@ -84,7 +84,7 @@ impl Opcode {
         ensures found { result ≡ opcode_of byte }
         ensures encoded { IfSome result (λ opcode. (opcode_byte opcode ≡ byte) × IsOpcode opcode) }
     {
-        OPCODES[(byte % 8) as usize][(byte / 8) as usize]
+        OPCODES[byte as usize]
     }
 
     /// The byte that stands for it.

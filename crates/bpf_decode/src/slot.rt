@@ -92,8 +92,19 @@ impl Slot {
             Opcode::Alu {
                 width,
                 operation,
-                source,
-            } => give(self.alu(behind, width, operation, source, dst, src)?, sink),
+                source: SourceKind::K,
+            } => give(
+                self.alu(behind, width, operation, SourceKind::K, dst, src)?,
+                sink,
+            ),
+            Opcode::Alu {
+                width,
+                operation,
+                source: SourceKind::X,
+            } => give(
+                self.alu(behind, width, operation, SourceKind::X, dst, src)?,
+                sink,
+            ),
             Opcode::Swap { kind } => give(self.swap(behind, kind, dst)?, sink),
             Opcode::LoadImm => give(self.load_imm(behind, dst)?, sink),
             Opcode::Load { size, signed } => {
@@ -106,11 +117,42 @@ impl Slot {
             Opcode::Test {
                 narrow,
                 test,
-                source,
-            } => give(self.test(behind, narrow, test, source, dst, src)?, sink),
+                source: SourceKind::K,
+            } => give(
+                self.test(behind, narrow, test, SourceKind::K, dst, src)?,
+                sink,
+            ),
+            Opcode::Test {
+                narrow,
+                test,
+                source: SourceKind::X,
+            } => give(
+                self.test(behind, narrow, test, SourceKind::X, dst, src)?,
+                sink,
+            ),
             Opcode::Call => give(self.call(behind)?, sink),
             Opcode::Exit => give(self.exit(behind)?, sink),
         }
+    }
+
+    /// Gives the load of a constant of 64 bits whose first slot this is, as `read` does.
+    #[inline(always)]
+    pub(crate) fn read_wide<S: Sink>(
+        self,
+        behind: Option<Slot>,
+        sink: &mut S,
+    ) -> Result<(), DecodeFault>
+        requires fits { IsSlot self }
+        requires wide { self.opcode ≡ opcode_byte (opcode.LoadImm) }
+        requires behind_fits { IfSome behind (λ slot. IsSlot slot) }
+        ensures found { OnOk result ((insn : Insn) × Reads self behind insn × S.takes sink.old insn sink.new) }
+        ensures refused { IfErr result (λ fault. (fault ≡ Memory)
+            ⊎ ((slot_fault self behind ≡ Some fault) × (sink.new ≡ sink.old))) }
+    {
+        let (Some(dst), Some(_)) = (Reg::new(self.dst), Reg::new(self.src)) else {
+            return Err(DecodeFault::BadRegister);
+        };
+        give(self.load_imm(behind, dst)?, sink)
     }
 
     #[inline(always)]

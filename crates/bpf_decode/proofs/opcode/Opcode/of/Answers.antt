@@ -8,11 +8,11 @@ use Rattle.bpf_decode.proofs.Table.{looked_up}
 use Rattle.bpf_decode.proofs.opcode.Opcode.of.Goals as goal
 
 pub returns-clause-found : goal.returns-clause-found
-returns-clause-found c = looked_up c.args.byte (Fits-lt-pow c.ranges.byte) _ _
+returns-clause-found c = looked_up c.args.byte (Fits-lt-pow c.ranges.byte) _
 
 right : (byte : ℕ) (r : Option Opcode) → r ≡ opcode_of byte → IfSome r (λ o. (opcode_byte o ≡ byte) × IsOpcode o)
 right byte None e = tt
 right byte (Some o) e = opcode_right_of byte o (sym e)
 
 pub returns-clause-encoded : goal.returns-clause-encoded
-returns-clause-encoded c = right c.args.byte _ (looked_up c.args.byte (Fits-lt-pow c.ranges.byte) _ _)
+returns-clause-encoded c = right c.args.byte _ (looked_up c.args.byte (Fits-lt-pow c.ranges.byte) _)
