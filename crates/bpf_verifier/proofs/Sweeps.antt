@@ -25,14 +25,12 @@ use Rattle.bpf_verifier.specs.Sweep.{Pending, visit_in, RepresentsVisit, Brings,
 
 -- ---- one edge
 
-pub pushed : (old : Pending) (e : Edge) (steps : ℕ) (z : Option (Box Visit Global)) (b : Box Visit Global) → VisitJoined (pending_at old e.target) e.state steps (Some b.value) → e.target < length old → Pushed e steps old (set (set old e.target z) e.target (Some b))
-pushed old e steps z b is inside =
-    let within : e.target < length (set old e.target z) = subst (λ (n : ℕ). e.target < n) (sym (length-set old e.target z)) inside in
-    record {
-      length_is = length-set (set old e.target z) e.target (Some b) ∙ length-set old e.target z;
-      others = λ t apart. ap visit_in (get_or-set_other (set old e.target z) e.target t (Some b) None apart ∙ get_or-set_other old e.target t z None apart);
-      joined = λ h. subst (VisitJoined (pending_at old e.target) e.state steps) (sym (ap visit_in (get_or-set_same (set old e.target z) e.target (Some b) None within))) is;
-    }
+pub pushed : (old : Pending) (e : Edge) (steps : ℕ) (b : Option (Box Visit Global)) → VisitJoined (pending_at old e.target) e.state steps (visit_in b) → e.target < length old → Pushed e steps old (set old e.target b)
+pushed old e steps b is inside = record {
+  length_is = length-set old e.target b;
+  others = λ t apart. ap visit_in (get_or-set_other old e.target t b None apart);
+  joined = λ h. subst (VisitJoined (pending_at old e.target) e.state steps) (sym (ap visit_in (get_or-set_same old e.target b None inside))) is;
+}
 
 pub not_pushed : (old : Pending) (e : Edge) (steps : ℕ) → length old ≤ e.target → Pushed e steps old old
 not_pushed old e steps past = record {
@@ -211,13 +209,13 @@ own_bytes_are words i h = let same : i ≡ frame_start 0 + i - frame_start 0 = o
 -- ---- the code's steps
 
 -- a visit has come to a slot: what is pending there now is the join of both
-pub push_flows : (old : Pending) (t : ℕ) (v after : Box Visit Global) (b d z : Option (Box Visit Global)) → b ≡ get_or old t d → ((of : model.AbstractState) → Represents v.value.state of → VisitJoined (visit_in b) of v.value.steps (Some after.value)) → t < length old → (target : Option ℕ) → target ≡ Some t → (visit : Option (Box Visit Global)) → visit ≡ Some v → (of : Option model.AbstractState) (steps : ℕ) → Brings visit of steps → Flowed (edge_if target of) steps old (set (set old t z) t (Some after))
-push_flows old t v after b d z is joins inside target te visit ve of steps r =
-    subst (λ (q : Option ℕ). Flowed (edge_if q of) steps old (set (set old t z) t (Some after))) (sym te) (there of (subst (λ (q : Option (Box Visit Global)). Brings q of steps) ve r)) where
-      there : (o : Option model.AbstractState) → Brings (Some v) o steps → Flowed (edge_if (Some t) o) steps old (set (set old t z) t (Some after))
+pub push_flows : (old : Pending) (t : ℕ) (v : Box Visit Global) (d after : Option (Box Visit Global)) → ((of : model.AbstractState) → Represents v.value.state of → VisitJoined (visit_in (get_or old t d)) of v.value.steps (visit_in after)) → t < length old → (target : Option ℕ) → target ≡ Some t → (visit : Option (Box Visit Global)) → visit ≡ Some v → (of : Option model.AbstractState) (steps : ℕ) → Brings visit of steps → Flowed (edge_if target of) steps old (set old t after)
+push_flows old t v d after joins inside target te visit ve of steps r =
+    subst (λ (q : Option ℕ). Flowed (edge_if q of) steps old (set old t after)) (sym te) (there of (subst (λ (q : Option (Box Visit Global)). Brings q of steps) ve r)) where
+      there : (o : Option model.AbstractState) → Brings (Some v) o steps → Flowed (edge_if (Some t) o) steps old (set old t after)
       there None h = absurd h
       there (Some m) h =
-          (set (set old t z) t (Some after), pushed old (edge t m) steps z after (subst (λ (q : Option (Box Visit Global)). VisitJoined (visit_in q) m steps (Some after.value)) (is ∙ get_or_default old t d None inside) (subst (λ (n : ℕ). VisitJoined (visit_in b) m n (Some after.value)) h.1 (joins m h.0))) inside, refl)
+          (set old t after, pushed old (edge t m) steps after (subst (λ (q : Option (Box Visit Global)). VisitJoined (visit_in q) m steps (visit_in after)) (get_or_default old t d None inside) (subst (λ (n : ℕ). VisitJoined (visit_in (get_or old t d)) m n (visit_in after)) h.1 (joins m h.0))) inside, refl)
 
 -- the edge to the slot behind an instruction that is no jump, no test, no local call and no exit
 pub onward_is : (b : ℕ → model.AbstractState → Option model.AbstractState) (slot : ℕ) (m : model.AbstractState) (x : Insn) (n steps : ℕ) (old new : Pending) → ((offset : ℤ) → x ≡ insn.Jump offset → ⊥) → ((offset : ℤ) → x ≡ insn.JumpLong offset → ⊥) → ((narrow : Bool) (test : Test) (dst : Reg) (src : Source) (offset : ℤ) → x ≡ insn.Test narrow test dst src offset → ⊥) → ((offset : ℤ) → x ≡ insn.CallLocal offset → ⊥) → (x ≡ insn.Exit → ⊥) → n ≡ slots_of x → Flowed (edge_if (Some (slot + n)) (Some (after_insn m x))) steps old new → Flowed (edges b slot m x) steps old new

@@ -51,7 +51,7 @@ impl AbstractState {
     pub fn range_of(&self, register: u8) -> Option<Range>
         ensures { option_map range_of result ≡ ranges_of self.now.ranges register }
     {
-        self.ranges.get(register)
+        self.ranges.get(Reg::new(register)?)
     }
 
     /// Whether the byte at an address is one of the stack that is initialized for certain.
@@ -70,7 +70,10 @@ impl AbstractState {
     pub(crate) fn has(&self, register: u8) -> bool
         ensures { result ≡ is_some (ranges_of self.now.ranges register) }
     {
-        self.ranges.has(register)
+        match Reg::new(register) {
+            Some(register) => self.ranges.has(register),
+            None => false,
+        }
     }
 
     /// Whether all of these registers do.
@@ -91,7 +94,7 @@ impl AbstractState {
     {
         match src {
             Source::Imm(_) => true,
-            Source::Reg(reg) => self.has(reg.number),
+            Source::Reg(reg) => self.ranges.has(reg),
         }
     }
 
@@ -100,7 +103,7 @@ impl AbstractState {
         ensures ranges { self.new.ranges ≡ other.now.ranges }
         ensures initialized { self.new.initialized.words ≡ other.now.initialized.words }
     {
-        self.ranges = other.ranges;
+        self.ranges.copy_from(&other.ranges);
         self.initialized.copy_from(&other.initialized);
     }
 
@@ -132,11 +135,11 @@ impl AbstractState {
         AbstractState {
             ranges: RegisterRanges::from_array([
                 None,
-                self.ranges.get(1),
-                self.ranges.get(2),
-                self.ranges.get(3),
-                self.ranges.get(4),
-                self.ranges.get(5),
+                self.range_of(1),
+                self.range_of(2),
+                self.range_of(3),
+                self.range_of(4),
+                self.range_of(5),
                 None,
                 None,
                 None,
@@ -154,17 +157,17 @@ impl AbstractState {
             Represents self.new (after_call depth of exit) }
     {
         self.ranges = RegisterRanges::from_array([
-            returned.ranges.get(0),
+            returned.range_of(0),
             None,
             None,
             None,
             None,
             None,
-            self.ranges.get(6),
-            self.ranges.get(7),
-            self.ranges.get(8),
-            self.ranges.get(9),
-            self.ranges.get(10),
+            self.range_of(6),
+            self.range_of(7),
+            self.range_of(8),
+            self.range_of(9),
+            self.range_of(10),
         ]);
         self.initialized = returned.initialized;
         self.initialized.remove_frame(depth);

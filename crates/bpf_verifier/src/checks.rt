@@ -69,12 +69,12 @@ impl AbstractState {
     {
         match insn {
             Insn::Alu { op, dst, src, .. } => {
-                (!op.reads_destination() || self.has(dst.number)) && self.has_source(*src)
+                (!op.reads_destination() || self.ranges.has(*dst)) && self.has_source(*src)
             }
-            Insn::Swap { dst, .. } => self.has(dst.number),
-            Insn::Load { base, .. } | Insn::StoreImm { base, .. } => self.has(base.number),
-            Insn::Store { base, src, .. } => self.has(base.number) && self.has(src.number),
-            Insn::Test { dst, src, .. } => self.has(dst.number) && self.has_source(*src),
+            Insn::Swap { dst, .. } => self.ranges.has(*dst),
+            Insn::Load { base, .. } | Insn::StoreImm { base, .. } => self.ranges.has(*base),
+            Insn::Store { base, src, .. } => self.ranges.has(*base) && self.ranges.has(*src),
+            Insn::Test { dst, src, .. } => self.ranges.has(*dst) && self.has_source(*src),
             Insn::CallHelper { helper } => match Helper::of(*helper) {
                 Some(helper) => self.has_all(helper.arguments()),
                 None => true,
@@ -178,7 +178,7 @@ impl AbstractState {
             option_map range_of result ≡
             address_range (state_of self.now.ranges init) base.number offset }
     {
-        let range = self.range_of(base.number)?;
+        let range = self.ranges.get(base)?;
         Some(offset_by(range, i64::from(offset).cast_unsigned()))
     }
 

@@ -365,8 +365,7 @@ fn visit_slot<O: Observer>(
         Insn::Exit => {
             visit.steps += 1;
             returned.bound = returned.bound.max(visit.steps);
-            let before = returned.exit.take();
-            returned.exit = Some(join_visits(before, visit, pass));
+            join_into(&mut returned.exit, visit, pass);
         }
         _ => {
             visit.steps += 1;
@@ -557,25 +556,23 @@ fn push(
 {
     if let (Some(target), Some(visit)) = (target, visit) {
         if target < pending.len() {
-            let before = pending[target].take();
-            pending[target] = Some(join_visits(before, visit, pass));
+            join_into(&mut pending[target], visit, pass);
         }
     }
 }
 
-/// What is pending after one more edge.
+/// Joins a visit into what is there, or puts it there.
 #[inline(always)]
-fn join_visits(before: Option<Box<Visit>>, visit: Box<Visit>, pass: &mut Pass) -> Box<Visit>
+fn join_into(place: &mut Option<Box<Visit>>, visit: Box<Visit>, pass: &mut Pass)
     ensures visit { (of : ModelState) → Represents visit.value.state of →
-        VisitJoined (visit_in before) of visit.value.steps (Some result.value) }
+        VisitJoined (visit_in place.old) of visit.value.steps (visit_in place.new) }
     ensures visits { pass.new.visits ≡ pass.old.visits }
 {
-    match before {
-        Some(mut before) => {
+    match place {
+        Some(before) => {
             before.join(&visit);
             pass.spare = Some(visit);
-            before
         }
-        None => visit,
+        None => *place = Some(visit),
     }
 }

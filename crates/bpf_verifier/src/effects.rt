@@ -40,7 +40,7 @@ impl AbstractState {
                 self.set(*dst, range);
             }
             Insn::Swap { kind, width, dst } => {
-                let range = match self.range_of(dst.number) {
+                let range = match self.ranges.get(*dst) {
                     Some(range) => Some(swap_range(*kind, *width, range)),
                     None => None,
                 };
@@ -86,7 +86,7 @@ impl AbstractState {
     {
         let b = self.source_range(src)?;
         let a = if op.reads_destination() {
-            self.range_of(dst.number)?
+            self.ranges.get(dst)?
         } else {
             Range::single(0)
         };
@@ -100,7 +100,7 @@ impl AbstractState {
     {
         match src {
             Source::Imm(value) => Some(Range::single(i64::from(value).cast_unsigned())),
-            Source::Reg(reg) => self.range_of(reg.number),
+            Source::Reg(reg) => self.ranges.get(reg),
         }
     }
 
@@ -121,11 +121,11 @@ impl AbstractState {
             None,
             None,
             None,
-            self.ranges.get(6),
-            self.ranges.get(7),
-            self.ranges.get(8),
-            self.ranges.get(9),
-            self.ranges.get(10),
+            self.range_of(6),
+            self.range_of(7),
+            self.range_of(8),
+            self.range_of(9),
+            self.range_of(10),
         ]);
     }
 
@@ -176,7 +176,7 @@ impl AbstractState {
             option_map (λ r. with_ranges (state_of self.now.ranges init) dst.number src (pair_of r)) result.1 ≡
             after_test (state_of self.now.ranges init) narrow test dst.number src true }
     {
-        let (Some(a), Some(b)) = (self.range_of(dst.number), self.tested_range(narrow, src)) else {
+        let (Some(a), Some(b)) = (self.ranges.get(dst), self.tested_range(narrow, src)) else {
             return (None, None);
         };
         refine_edges(test, narrow, a, b)
@@ -212,7 +212,7 @@ impl AbstractState {
             } else {
                 i64::from(value).cast_unsigned()
             })),
-            Source::Reg(reg) => self.range_of(reg.number),
+            Source::Reg(reg) => self.ranges.get(reg),
         }
     }
 }

@@ -2,6 +2,7 @@
 
 ghost use Rattle.bpf_verifier.specs.Registers.{AreOrdered};
 
+use bpf_decode::Reg;
 use bpf_model::layout::REGISTERS;
 use reg_ranges::{Range, join};
 
@@ -44,19 +45,21 @@ impl RegisterRanges {
         registers
     }
 
-    /// Whether a register holds a number for certain. Registers above r10 don't.
-    pub fn has(&self, register: u8) -> bool
-        ensures { result ≡ is_some (ranges_of self.now register) }
+    /// Whether a register holds a number for certain.
+    #[inline(always)]
+    pub fn has(&self, register: Reg) -> bool
+        ensures { result ≡ is_some (ranges_of self.now register.number) }
     {
-        (register as usize) < REGISTERS && self.known >> register & 1 == 1
+        self.known >> register.number & 1 == 1
     }
 
     /// The range of a register that holds a number for certain.
-    pub fn get(&self, register: u8) -> Option<Range>
-        ensures { option_map range_of result ≡ ranges_of self.now register }
+    #[inline(always)]
+    pub fn get(&self, register: Reg) -> Option<Range>
+        ensures { option_map range_of result ≡ ranges_of self.now register.number }
     {
         if self.has(register) {
-            let register = register as usize;
+            let register = register.number as usize;
             Some(Range::new(self.lo[register], self.hi[register]))
         } else {
             None
@@ -79,19 +82,34 @@ impl RegisterRanges {
         }
     }
 
+    /// Becomes the other ranges. Part by part, since a copy of the whole is a call.
+    #[inline(always)]
+    pub fn copy_from(&mut self, other: &RegisterRanges)
+        ensures { self.new ≡ other.now }
+    {
+        self.lo = other.lo;
+        self.hi = other.hi;
+        self.known = other.known;
+    }
+
     /// Keeps the registers that hold a number in both, each with the least range that holds both of its own.
     pub fn join(&mut self, other: &RegisterRanges)
         ensures { (r : ℕ) → ranges_of self.new r ≡
             join_option (ranges_of self.old r) (ranges_of other.now r) }
     {
+        // Over copies: nothing is stored before all is read, so that registers are joined two at a time.
+        let mut lo = self.lo;
+        let mut hi = self.hi;
         for register in 0..REGISTERS {
             let joined = join(
-                Range::new(self.lo[register], self.hi[register]),
+                Range::new(lo[register], hi[register]),
                 Range::new(other.lo[register], other.hi[register]),
             );
-            self.lo[register] = joined.lo;
-            self.hi[register] = joined.hi;
+            lo[register] = joined.lo;
+            hi[register] = joined.hi;
         }
+        self.lo = lo;
+        self.hi = hi;
         self.known &= other.known;
     }
 }

@@ -28,23 +28,23 @@ pub fn insns_by_slot(alloc: Global, code: &[Insn]) -> Result<Vec<Option<Insn>>, 
 /// them serves as it is.
 #[derive(Drop)]
 pub struct Slots {
-    insns: Vec<Insn>,
-    /// One for each slot: the instruction that begins there, or an exit where one continues. Nothing where each
-    /// instruction takes one slot.
+    /// One for each slot: the instruction that begins there, or an exit where one continues.
     by_slot: Vec<Insn>,
+    /// The instructions, where that list is another one.
+    insns: Option<Vec<Insn>>,
 }
 
 impl Model for Slots {
-    ghost use Rattle.std.specs.Prelude.{List, Option};
+    ghost use Rattle.std.specs.Prelude.{◌≡◌, List, Option, map};
     ghost use Rattle.bpf_decode.specs.declared.insn.Insn.{Insn};
     ghost use Rattle.bpf_model.specs.Code.{insns_by_slot};
-    ghost use Rattle.bpf_verifier.specs.Slots.{AreBySlot};
+    ghost use Rattle.bpf_verifier.specs.Slots.{or_exit, insns_of};
 
     ghost Value = { List (Option Insn) };
 
-    ghost view = { λ s. insns_by_slot s.insns.items };
+    ghost view = { λ s. insns_by_slot (insns_of s.by_slot.items s.insns) };
 
-    ghost invariant = { λ s. AreBySlot s.insns.items s.by_slot.items };
+    ghost invariant = { λ s. s.by_slot.items ≡ map or_exit (insns_by_slot (insns_of s.by_slot.items s.insns)) };
 }
 
 impl Slots {
@@ -53,13 +53,13 @@ impl Slots {
     ghost use Rattle.bpf_verifier.specs.Slots.{AreSingle, or_exit};
 
     /// Those of instructions that take one slot each.
-    pub(crate) fn of_single(alloc: Global, insns: Vec<Insn>) -> Slots
+    pub(crate) fn of_single(insns: Vec<Insn>) -> Slots
         requires { AreSingle insns.items }
         ensures { result ≡ insns_by_slot insns.items }
     {
         Slots {
-            insns,
-            by_slot: Vec::new(alloc),
+            by_slot: insns,
+            insns: None,
         }
     }
 
@@ -72,27 +72,17 @@ impl Slots {
         requires { by_slot.now ≡ insns_by_slot insns.items }
         ensures { IfOk result (λ slots. slots ≡ insns_by_slot insns.items) }
     {
-        let by_slot = filled(alloc, by_slot)?;
-        Ok(Slots { insns, by_slot })
-    }
-
-    /// One instruction for each slot.
-    #[inline(always)]
-    fn list(&self) -> &[Insn]
-        ensures { result.now ≡ map or_exit self.now }
-    {
-        if self.by_slot.is_empty() {
-            &self.insns
-        } else {
-            &self.by_slot
-        }
+        Ok(Slots {
+            by_slot: filled(alloc, by_slot)?,
+            insns: Some(insns),
+        })
     }
 
     /// How many slots the code has.
     pub fn len(&self) -> usize
         ensures { result ≡ length self.now }
     {
-        self.list().len()
+        self.by_slot.len()
     }
 
     /// The instruction that begins at a slot, or an exit where none does.
@@ -101,14 +91,18 @@ impl Slots {
         requires { slot < length self.now }
         ensures { result ≡ or_exit (slice_index_or self.now slot None) }
     {
-        self.list()[slot]
+        self.by_slot[slot]
     }
 
     /// The instructions.
     pub(crate) fn into_insns(self) -> Vec<Insn>
         ensures { insns_by_slot result.items ≡ self }
     {
-        self.insns
+        let Slots { by_slot, insns } = self;
+        match insns {
+            Some(insns) => insns,
+            None => by_slot,
+        }
     }
 }
 

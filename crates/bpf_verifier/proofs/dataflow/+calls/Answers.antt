@@ -218,14 +218,13 @@ visit_slot-returns-in-Exit-clause-right g c w = λ f at left is p.
     let x-is = insn_there f.code w.args.slots.now w.args.slot w.args.insn at w.requires.insn (begins_here f is w.args.slot w.args.pending.now w.args.returned.now w.args.pass.now.visits p inside x.visit.value e) in
     let m : Visit = w.deref_mut-in-Exit.result.now in
     let same : m ≡ v = w.deref_mut-in-Exit.ensures.value in
-    let after : Returned = record { exit = Some w.join_visits.result; bound = w.max-returned-in-Exit.result } in
-    exit_visited f is w.args.slot w.args.pending.now w.args.returned.now w.args.pass.now.visits p inside v e w.args.insn x-is (7 - w.args.left) (ap (λ (k : ℕ). 7 - k) (sym left)) (set w.args.pending.now w.args.slot w.take.new.self) after w.join_visits.new.pass.visits (finds_same w.deref-2.result.now v w.args.insn (7 - w.args.left) None w.deref-2.ensures w.in_ok-begin.ensures.right) w.in-Exit.is
+    let after : Returned = record { exit = w.join_into.new.place; bound = w.max-returned-in-Exit.result } in
+    exit_visited f is w.args.slot w.args.pending.now w.args.returned.now w.args.pass.now.visits p inside v e w.args.insn x-is (7 - w.args.left) (ap (λ (k : ℕ). 7 - k) (sym left)) (set w.args.pending.now w.args.slot w.take.new.self) after w.join_into.new.pass.visits (finds_same w.deref-2.result.now v w.args.insn (7 - w.args.left) None w.deref-2.ensures w.in_ok-begin.ensures.right) w.in-Exit.is
     (ap (λ (z : Option (Box Visit Global)). set w.args.pending.now w.args.slot z) w.take.ensures.after)
     (λ of rep.
-    subst (λ (o : Option (Box Visit Global)). VisitJoined (visit_in o) of (v.steps + 1) (Some w.join_visits.result.value)) w.take-before.ensures.value
-    (subst (λ (u : Visit). VisitJoined (visit_in w.take-before.result) of (u.steps + 1) (Some w.join_visits.result.value)) same
-    (w.join_visits.ensures.visit of (subst (λ (u : Visit). Represents u.state of) (sym same) rep))))
-    (w.join_visits.ensures.visits ∙ w.in_ok-begin.ensures.count.0)
+    subst (λ (u : Visit). VisitJoined (visit_in w.args.returned.now.exit) of (u.steps + 1) (visit_in w.join_into.new.place)) same
+    (w.join_into.ensures.visit of (subst (λ (u : Visit). Represents u.state of) (sym same) rep)))
+    (w.join_into.ensures.visits ∙ w.in_ok-begin.ensures.count.0)
     (w.max-returned-in-Exit.ensures ∙ ap (λ (u : Visit). max w.args.returned.now.bound u.steps) w.deref-in-Exit.ensures ∙ ap (λ (u : Visit). max w.args.returned.now.bound (u.steps + 1)) same)
 
 pub visit_slot-returns-in_ok-flow-in_default-insn-clause-few : goal.visit_slot-returns-in_ok-flow-in_default-insn-clause-few

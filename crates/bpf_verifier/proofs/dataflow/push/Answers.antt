@@ -4,4 +4,4 @@ use Rattle.bpf_verifier.proofs.dataflow.push.Goals as goal
 pub returns-then-target-pending-clause-flowed : goal.returns-then-target-pending-clause-flowed
 returns-then-target-pending-clause-flowed c =
     let x = c.in-Some-Some in
-    push_flows c.args.pending.now x.target x.visit c.join_visits.result c.take-before.result c.index-pending-target.result c.take-before.new.self c.take-before.ensures.value c.join_visits.ensures.visit c.if-target-pending.true c.args.target x.is-0 c.args.visit x.is-1
+    push_flows c.args.pending.now x.target x.visit _ c.join_into.new.place c.join_into.ensures.visit c.if-target-pending.true c.args.target x.is-0 c.args.visit x.is-1

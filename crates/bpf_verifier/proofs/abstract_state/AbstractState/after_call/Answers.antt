@@ -7,6 +7,6 @@ pub returns : goal.returns
 returns c = λ of exit is out. record {
   ranges_are = λ r.
       c.from_array-self.ensures r
-      ∙ resumed_ranges c.args.self.now of is c.args.returned.now exit out c.args.depth _ _ _ _ _ _ c.get.ensures c.get-2.ensures c.get-3.ensures c.get-4.ensures c.get-5.ensures c.get-6.ensures r;
+      ∙ resumed_ranges c.args.self.now of is c.args.returned.now exit out c.args.depth _ _ _ _ _ _ c.range_of.ensures c.range_of-2.ensures c.range_of-3.ensures c.range_of-4.ensures c.range_of-5.ensures c.range_of-6.ensures r;
   initialized_are = λ i h. c.remove_frame.ensures i h ∙ ap (λ (b : Bool). b && not (is_in_frame c.args.depth (frame_start 0 + i))) (out.initialized_are i h);
 }

@@ -38,6 +38,6 @@ returns c = λ init bits.
     let ranges = c.args.self.now.ranges in
     let kept : (r : ℕ) → ranges_of c.loop-access.self.ranges r ≡ ranges_of ranges r = λ r. ap (λ (rs : RegisterRanges). ranges_of rs r) i.ranges in
     represents_helper ranges c.args.self.now.initialized.words c.loop-access.self.initialized.words c.args.max_answer c.args.writes.now init _
-    (λ r. c.from_array-self.ensures r ∙ called_ranges ranges init c.args.max_answer c.new.result c.new.ensures c.args.writes.now _ _ _ _ _ (c.get.ensures ∙ kept 6) (c.get-2.ensures ∙ kept 7) (c.get-3.ensures ∙ kept 8) (c.get-4.ensures ∙ kept 9) (c.get-5.ensures ∙ kept 10) r)
+    (λ r. c.from_array-self.ensures r ∙ called_ranges ranges init c.args.max_answer c.new.result c.new.ensures c.args.writes.now _ _ _ _ _ (c.range_of.ensures ∙ kept 6) (c.range_of-2.ensures ∙ kept 7) (c.range_of-3.ensures ∙ kept 8) (c.range_of-4.ensures ∙ kept 9) (c.range_of-5.ensures ∙ kept 10) r)
     refl bits
     (λ k h. i.initialized k h ∙ ap (λ (xs : List Access). list_any (λ (a : Access). is_written (ranges_of ranges a.register) (fixed_size a.size) (frame_start 0 + k)) xs || has_byte c.args.self.now.initialized.words k) (take_all c.loop-access.access-index c.args.writes.now c.loop-access-test.false))

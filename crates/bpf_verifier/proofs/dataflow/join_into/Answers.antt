@@ -2,7 +2,7 @@ use Rattle.std.proofs.Common.{sym, subst, Option, Some, Box, Global}
 use Rattle.bpf_verifier.specs.declared.dataflow.Visit.{Visit}
 use Rattle.bpf_verifier.specs.Sweep.{visit_in, VisitJoined}
 use Rattle.bpf_verifier.proofs.Sweeps.{joined_same}
-use Rattle.bpf_verifier.proofs.dataflow.join_visits.Goals as goal
+use Rattle.bpf_verifier.proofs.dataflow.join_into.Goals as goal
 
 pub returns-in-Some-clause-visit : goal.returns-in-Some-clause-visit
 returns-in-Some-clause-visit c = λ of is.
