@@ -11,6 +11,10 @@ use tenant_maps::TenantMap;
 /// The rounds of which the least counts.
 const ROUNDS: u32 = 20;
 
+/// How often what the verifier takes is measured, each time for all kinds of code in turn: the speed of a
+/// machine may fall for seconds.
+const PASSES: u32 = 5;
+
 /// What the verifier may take for a slot, in picoseconds.
 const SLOT: u128 = 40_000;
 
@@ -125,27 +129,48 @@ fn picoseconds_of_slot(rt: &HostRuntime, programs: &[Program]) -> Result<u128> {
     Ok(least.saturating_mul(10) / u128::from(slots.max(1)))
 }
 
-/// Prints what the verifier takes for a slot of four programs and of one that is as long as all four, so
-/// that the processor's predictor of branches has as much to learn on both sides. Whether both limits are
-/// kept.
-fn keeps_limits(rt: &HostRuntime, kind: Kind) -> Result<bool> {
-    let alloc = rt.alloc();
-    let long = [kind.program(alloc, 3, 1_023)?];
-    let short = [
-        kind.program(alloc, 4, 255)?,
-        kind.program(alloc, 5, 255)?,
-        kind.program(alloc, 6, 255)?,
-        kind.program(alloc, 7, 255)?,
-    ];
-    let (short, long) = (
-        picoseconds_of_slot(rt, &short)?,
-        picoseconds_of_slot(rt, &long)?,
-    );
-    println!(rt;
-        "verify, {}: {short} ps a slot of four times 255, {long} ps a slot of 1,023, limit {SLOT} ps",
-        kind.name()
-    )?;
-    Ok(long <= SLOT && long.saturating_mul(1000) <= short.saturating_mul(LINEAR))
+/// What the verifier takes for a slot of a kind of code, the least so far: of four programs, and of one that is
+/// as long as all four, so that the processor's predictor of branches has as much to learn on both sides.
+#[derive(Clone, Copy)]
+struct SlotTimes {
+    kind: Kind,
+    short: u128,
+    long: u128,
+}
+
+impl SlotTimes {
+    fn new(kind: Kind) -> SlotTimes {
+        SlotTimes {
+            kind,
+            short: u128::MAX,
+            long: u128::MAX,
+        }
+    }
+
+    /// Measures both once more.
+    fn measure(&mut self, rt: &HostRuntime) -> Result<()> {
+        let alloc = rt.alloc();
+        let long = [self.kind.program(alloc, 3, 1_023)?];
+        let short = [
+            self.kind.program(alloc, 4, 255)?,
+            self.kind.program(alloc, 5, 255)?,
+            self.kind.program(alloc, 6, 255)?,
+            self.kind.program(alloc, 7, 255)?,
+        ];
+        self.short = self.short.min(picoseconds_of_slot(rt, &short)?);
+        self.long = self.long.min(picoseconds_of_slot(rt, &long)?);
+        Ok(())
+    }
+
+    /// Prints both. Whether they keep the limits.
+    fn keeps_limits(self, rt: &HostRuntime) -> Result<bool> {
+        let SlotTimes { kind, short, long } = self;
+        println!(rt;
+            "verify, {}: {short} ps a slot of four times 255, {long} ps a slot of 1,023, limit {SLOT} ps",
+            kind.name()
+        )?;
+        Ok(long <= SLOT && long.saturating_mul(1000) <= short.saturating_mul(LINEAR))
+    }
 }
 
 /// The least time of refusing code after the last visit, for each visit, in picoseconds.
@@ -177,11 +202,21 @@ fn keeps_visits(rt: &HostRuntime) -> Result<bool> {
 /// Prints what the verifier takes for a slot of tests that it decides, of tests whose edges join, and of
 /// loads and stores, and for a visit of code with calls; an error where it is too much.
 pub fn print_verification(rt: &HostRuntime) -> Result<()> {
-    let decided = keeps_limits(rt, Kind::DecidedTests)?;
-    let joined = keeps_limits(rt, Kind::JoiningTests)?;
-    let accessed = keeps_limits(rt, Kind::Accesses)?;
-    let visits = keeps_visits(rt)?;
-    if decided && joined && accessed && visits {
+    let mut times = [
+        SlotTimes::new(Kind::DecidedTests),
+        SlotTimes::new(Kind::JoiningTests),
+        SlotTimes::new(Kind::Accesses),
+    ];
+    for _ in 0..PASSES {
+        for time in &mut times {
+            time.measure(rt)?;
+        }
+    }
+    let mut keeps = true;
+    for time in times {
+        keeps &= time.keeps_limits(rt)?;
+    }
+    if keeps_visits(rt)? && keeps {
         Ok(())
     } else {
         Err(anyhow!("a limit is passed"))
