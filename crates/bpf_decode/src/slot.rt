@@ -13,6 +13,7 @@ ghost use Rattle.bpf_decode.specs.Faults.{slot_fault, form_fault, has_stray_fiel
 ghost use Rattle.bpf_decode.specs.Parts.{Reads, IsOpcode};
 
 use crate::insn::{Insn, Reg, Size, Source};
+use crate::opcode::SourceKind::{K, X};
 use crate::opcode::{
     Opcode, Operation, SourceKind, offset_of, swap_immediate, swap_width, variant,
 };
@@ -92,19 +93,13 @@ impl Slot {
             Opcode::Alu {
                 width,
                 operation,
-                source: SourceKind::K,
-            } => give(
-                self.alu(behind, width, operation, SourceKind::K, dst, src)?,
-                sink,
-            ),
+                source: K,
+            } => give(self.alu(behind, width, operation, K, dst, src)?, sink),
             Opcode::Alu {
                 width,
                 operation,
-                source: SourceKind::X,
-            } => give(
-                self.alu(behind, width, operation, SourceKind::X, dst, src)?,
-                sink,
-            ),
+                source: X,
+            } => give(self.alu(behind, width, operation, X, dst, src)?, sink),
             Opcode::Swap { kind } => give(self.swap(behind, kind, dst)?, sink),
             Opcode::LoadImm => give(self.load_imm(behind, dst)?, sink),
             Opcode::Load { size, signed } => {
@@ -117,19 +112,13 @@ impl Slot {
             Opcode::Test {
                 narrow,
                 test,
-                source: SourceKind::K,
-            } => give(
-                self.test(behind, narrow, test, SourceKind::K, dst, src)?,
-                sink,
-            ),
+                source: K,
+            } => give(self.test(behind, narrow, test, K, dst, src)?, sink),
             Opcode::Test {
                 narrow,
                 test,
-                source: SourceKind::X,
-            } => give(
-                self.test(behind, narrow, test, SourceKind::X, dst, src)?,
-                sink,
-            ),
+                source: X,
+            } => give(self.test(behind, narrow, test, X, dst, src)?, sink),
             Opcode::Call => give(self.call(behind)?, sink),
             Opcode::Exit => give(self.exit(behind)?, sink),
         }
@@ -181,8 +170,8 @@ impl Slot {
             return Err(DecodeFault::FieldNotZero);
         }
         let src = match source {
-            SourceKind::K => Source::Imm(self.imm),
-            SourceKind::X => Source::Reg(src),
+            K => Source::Imm(self.imm),
+            X => Source::Reg(src),
         };
         Ok(Insn::Alu {
             width,
@@ -199,10 +188,10 @@ impl Slot {
     {
         let stray_offset = self.offset != 0 && !operation.uses_offset();
         match source {
-            SourceKind::K => {
+            K => {
                 self.src != 0 || stray_offset || self.imm != 0 && !operation.has_operand()
             }
-            SourceKind::X => stray_offset || self.imm != 0,
+            X => stray_offset || self.imm != 0,
         }
     }
 
@@ -370,8 +359,8 @@ impl Slot {
             form_fault (opcode.Test narrow test source) self behind ≡ Some fault) }
     {
         let (operand, stray) = match source {
-            SourceKind::K => (Source::Imm(self.imm), self.src != 0),
-            SourceKind::X => (Source::Reg(src), self.imm != 0),
+            K => (Source::Imm(self.imm), self.src != 0),
+            X => (Source::Reg(src), self.imm != 0),
         };
         if stray {
             return Err(DecodeFault::FieldNotZero);
@@ -572,7 +561,7 @@ fn alu_slot(width: AluWidth, op: AluOp, dst: Reg, src: Source) -> Slot
     let offset = offset_of(op);
     match src {
         Source::Imm(value) => {
-            let source = SourceKind::K;
+            let source = K;
             let opcode = Opcode::Alu {
                 width,
                 operation,
@@ -581,7 +570,7 @@ fn alu_slot(width: AluWidth, op: AluOp, dst: Reg, src: Source) -> Slot
             Slot::of(opcode, dst.number, 0, offset, value)
         }
         Source::Reg(src) => {
-            let source = SourceKind::X;
+            let source = X;
             let opcode = Opcode::Alu {
                 width,
                 operation,
@@ -598,7 +587,7 @@ fn test_slot(narrow: bool, test: Test, dst: Reg, src: Source, offset: i16) -> Sl
 {
     match src {
         Source::Imm(value) => {
-            let source = SourceKind::K;
+            let source = K;
             let opcode = Opcode::Test {
                 narrow,
                 test,
@@ -607,7 +596,7 @@ fn test_slot(narrow: bool, test: Test, dst: Reg, src: Source, offset: i16) -> Sl
             Slot::of(opcode, dst.number, 0, offset, value)
         }
         Source::Reg(src) => {
-            let source = SourceKind::X;
+            let source = X;
             let opcode = Opcode::Test {
                 narrow,
                 test,
