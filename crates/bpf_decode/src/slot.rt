@@ -188,9 +188,7 @@ impl Slot {
     {
         let stray_offset = self.offset != 0 && !operation.uses_offset();
         match source {
-            K => {
-                self.src != 0 || stray_offset || self.imm != 0 && !operation.has_operand()
-            }
+            K => { self.src != 0 || stray_offset || self.imm != 0 && !operation.has_operand() }
             X => stray_offset || self.imm != 0,
         }
     }
