@@ -1,5 +1,5 @@
 -- A slot and the instruction or the fault that is read from it.
-use Rattle.std.proofs.Common.{◌≡◌, ℕ, ◌≤◌, Bool, true, false, rules, Option, Some, pos, ℤ, refl, sym, ap, subst, ◌∙◌, ◌⊎◌, inr}
+use Rattle.std.proofs.Common.{◌≡◌, ℕ, ◌≤◌, Bool, true, false, rules, Option, Some, pos, ℤ, refl, sym, ap, subst, ◌∙◌, ◌⊎◌, inl, inr}
 use Rattle.std.specs.Prelude.{Result, Ok, Err, OnOk, IfErr, ◌||◌, ◌&&◌, not, ◌==◌}
 use Rattle.std.proofs.lemmas.Bool.{le-ltb}
 use Rattle.bpf_num.specs.declared.AluOp.{AluOp}
@@ -35,9 +35,13 @@ pub found_in : (P : Type 0) (r : Result (Unit {0}) DecodeFault) (u : Unit {0}) �
 found_in P (Ok x) u e h = h
 found_in P (Err x) u e h = absurd cc
 
-pub fault_in : (P : DecodeFault → Type 0) (r : Result (Unit {0}) DecodeFault) (f : DecodeFault) → r ≡ Err f → IfErr r P → P f
+fault_in : (P : DecodeFault → Type 0) (r : Result (Unit {0}) DecodeFault) (f : DecodeFault) → r ≡ Err f → IfErr r P → P f
 fault_in P (Ok x) f e h = absurd cc
 fault_in P (Err x) f e h = let same : x ≡ f = cc in subst P same h
+
+-- a fault that a slot was refused for, handed on with what the sink is
+pub handed_on : (S P : Type 0) (s : Slot) (b : Option Slot) (old new sink : S) (r : Result (Unit {0}) DecodeFault) (f : DecodeFault) (k : ℕ) → r ≡ Err f → sink ≡ new → IfErr r (λ x. (x ≡ Memory) ⊎ ((slot_fault s b ≡ Some x) × (new ≡ old))) → (slot_fault s b ≡ Some f → P) → (f ≡ Memory) ⊎ ((k ≡ k) × P × (sink ≡ old))
+handed_on S P s b old new sink r f k e same refused faulty = elim (fault_in _ r f e refused) [ inl memory ↦ inl memory | inr is ↦ inr (refl, faulty is.0, same ∙ is.1) ]
 
 pub or_false : (p q : Bool) → (p || q) ≡ false → (p ≡ false) × (q ≡ false)
 or_false true q h = absurd cc

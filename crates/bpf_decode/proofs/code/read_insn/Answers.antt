@@ -1,10 +1,10 @@
-use Rattle.std.proofs.Common.{refl, sym, subst, ap, ℕ, ◌∙◌, inl, inr}
+use Rattle.std.proofs.Common.{refl, sym, subst, ap, ℕ, ◌∙◌}
 use Rattle.std.specs.Prelude.{Result}
 use Rattle.std.proofs.Math.Facts.{Fits-lt-pow}
 use Rattle.bpf_decode.specs.declared.refusal.DecodeFault.{DecodeFault}
 use Rattle.bpf_decode.proofs.Encodings.{read_encodes}
 use Rattle.bpf_decode.proofs.Narrow.{narrow_encodes, narrow_faulty, wide_slots, narrow_slots}
-use Rattle.bpf_decode.proofs.Reading.{found_in, fault_in}
+use Rattle.bpf_decode.proofs.Reading.{found_in, handed_on}
 use Rattle.bpf_decode.proofs.code.read_insn.Goals as goal
 use Rattle.bpf_decode.proofs.code.read_insn.Goals.{then-first-eq-WIDE, else-first-eq-WIDE}
 
@@ -37,28 +37,15 @@ returns-in-Err-clause-refused g c =
     elim c.if-first-eq-WIDE.branch [
       | then-first-eq-WIDE w ↦
           let read = ap (λ (p : Result (Unit {0}) DecodeFault × ℕ). p.0) w.read-is in
-          elim (fault_in _ w.read_wide.result f (sym read ∙ c.in-Err.is) w.read_wide.ensures.refused) [
-            | inl memory ↦ inl memory
-            | inr is ↦ inr (
-              refl,
-              record {
-                slot = s;
-                behind = w.slot_behind.result;
-                is_at = c.slot_at-first.ensures;
-                is_behind = w.slot_behind.ensures.behind;
-                fault_is = is.0;
-              },
-              w.sink-is ∙ is.1,
-            )
-          ]
+          handed_on _ _ s w.slot_behind.result _ _ _ w.read_wide.result f c.args.slot (sym read ∙ c.in-Err.is) w.sink-is w.read_wide.ensures.refused (λ is. record {
+            slot = s;
+            behind = w.slot_behind.result;
+            is_at = c.slot_at-first.ensures;
+            is_behind = w.slot_behind.ensures.behind;
+            fault_is = is;
+          })
       | else-first-eq-WIDE w ↦
           let read = ap (λ (p : Result (Unit {0}) DecodeFault × ℕ). p.0) w.read-is in
-          elim (fault_in _ w.read.result f (sym read ∙ c.in-Err.is) w.read.ensures.refused) [
-            | inl memory ↦ inl memory
-            | inr is ↦ inr (
-              refl,
-              narrow_faulty c.args.bytes.now (λ i. Fits-lt-pow (c.type_inv.bytes i)) c.args.slot c.requires.within c.requires.whole s c.slot_at-first.ensures w.if-first-eq-WIDE.false _ refl f is.0,
-              w.sink-is ∙ is.1,
-            )
-          ]
+          handed_on _ _ s _ _ _ _ w.read.result f c.args.slot (sym read ∙ c.in-Err.is) w.sink-is w.read.ensures.refused
+          (narrow_faulty c.args.bytes.now (λ i. Fits-lt-pow (c.type_inv.bytes i)) c.args.slot c.requires.within c.requires.whole s c.slot_at-first.ensures w.if-first-eq-WIDE.false _ refl f)
     ]
