@@ -14,14 +14,14 @@ use crate::sink::Sink;
 use crate::slot::Slot;
 use std::alloc::{AllocError, Global};
 
-/// The bytes of a slot.
-const SLOT: usize = 8;
+/// The bytes of a slot (RFC 9669, section 3).
+pub const SLOT_SIZE: usize = 8;
 
 /// The opcode of the one wide instruction, a load of an immediate of 64 bits (RFC 9669, section 5.4).
 const WIDE: u8 = 0x18;
 
 /// The most slots that code has (a limit of this host).
-const MAX_SLOTS: usize = 1024;
+pub const MAX_SLOTS: usize = 1024;
 
 /// Reads code: 1 to 1,024 slots that encode instructions (RFC 9669, section 3). A refusal is the
 /// first fault: of the length, or of the first slot that has one.
@@ -43,7 +43,7 @@ fn read_code(alloc: Global, bytes: &[u8]) -> Result<Vec<Insn>, Refusal>
     ensures refused { IfErr result (λ refusal.
         (refusal.fault ≡ Memory) ⊎ IsRefused bytes.now refusal.fault refusal.slot) }
 {
-    let mut code = Vec::with_capacity(alloc, MAX_SLOTS.min(bytes.len() / SLOT))?;
+    let mut code = Vec::with_capacity(alloc, MAX_SLOTS.min(bytes.len() / SLOT_SIZE))?;
     read_into(bytes, &mut code)?;
     Ok(code)
 }
@@ -62,7 +62,7 @@ pub fn read_into<S: Sink>(bytes: &[u8], sink: &mut S) -> Result<(), Refusal>
     if let Some(fault) = length_fault(bytes.len()) {
         return Err(Refusal { fault, slot: 0 });
     }
-    let slots = bytes.len() / SLOT;
+    let slots = bytes.len() / SLOT_SIZE;
     let mut slot = 0;
     while slot < slots {
         slot += read_insn(bytes, slot, sink)?;
@@ -103,8 +103,8 @@ fn slot_at(bytes: &[u8], slot: usize) -> Slot
     requires within { 8 * slot + 8 ≤ length bytes.now }
     ensures { IsAt bytes.now slot result }
 {
-    let at = slot * SLOT;
-    Slot::from_bytes(&bytes[at..at + SLOT])
+    let at = slot * SLOT_SIZE;
+    Slot::from_bytes(&bytes[at..at + SLOT_SIZE])
 }
 
 fn slot_behind(bytes: &[u8], slot: usize) -> Option<Slot>
@@ -114,7 +114,7 @@ fn slot_behind(bytes: &[u8], slot: usize) -> Option<Slot>
     ensures fits { IfSome result (λ behind. IsSlot behind) }
     ensures within { IfSome result (λ behind. 8 * slot + 16 ≤ length bytes.now) }
 {
-    if bytes.len() - slot * SLOT > SLOT {
+    if bytes.len() - slot * SLOT_SIZE > SLOT_SIZE {
         Some(slot_at(bytes, slot + 1))
     } else {
         None
@@ -126,9 +126,9 @@ fn length_fault(bytes: usize) -> Option<DecodeFault>
 {
     if bytes == 0 {
         Some(DecodeFault::Empty)
-    } else if bytes % SLOT != 0 {
+    } else if bytes % SLOT_SIZE != 0 {
         Some(DecodeFault::NotSlots)
-    } else if bytes > SLOT * MAX_SLOTS {
+    } else if bytes > SLOT_SIZE * MAX_SLOTS {
         Some(DecodeFault::TooLong)
     } else {
         None

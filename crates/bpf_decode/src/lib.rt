@@ -11,7 +11,7 @@ mod refusal;
 mod sink;
 mod slot;
 
-pub use code::{decode_all, encode_all, read_into};
+pub use code::{MAX_SLOTS, SLOT_SIZE, decode_all, encode_all, read_into};
 pub use insn::{Insn, Reg, Size, Source};
 pub use law::{bytes_are_decided, code_is_one};
 pub use opcode::{Opcode, Operation, SourceKind};

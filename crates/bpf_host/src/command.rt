@@ -1,32 +1,26 @@
-//! The commands: what the words ask for, and the lines that are written.
+//! The commands: what the words ask for, and who does it.
 
 ghost use Rattle.std.specs.Prelude.{◌≤◌};
 
-use crate::explain::explain;
+use crate::check::check;
 use crate::failure::Failure;
-use crate::input::{read_hex, read_input};
-use bpf_asm::{assemble, print};
-use bpf_decode::{decode_all, encode_all};
-use bpf_machine::{Finished, run};
-use bpf_verifier::{Procedure, verify};
 use clap::{Arg, ArgAction, ArgMatches, Command, value_parser};
+use code_commands::{asm, disasm, exec, verify};
 use host_script::run_script;
 use host_types::ClientId;
 use std::alloc::{AllocError, Global};
 use std::io::{Read, Write};
-use tenant_maps::TenantMap;
+use std::rt::Files;
 
 /// The client that calls where none is named.
 const DEFAULT_CLIENT: u32 = 16;
-
-/// The most bytes of arguments that a call has.
-const MAX_ARGUMENTS: usize = 256;
 
 /// What `--help` says below the options.
 const EXAMPLES: &str = "\
 Code and --args are hex, of either case; spaces, tabs and line ends are skipped. asm reads a text,
 one instruction or one label (`name:`) a line, and prints its code; disasm prints such a text.
-No command means exec. world reads a script (docs/SCRIPTS.md); its faults name their step.
+No command means exec. world reads a script (docs/SCRIPTS.md); its faults name their step. check runs
+each NAME.toml of a folder and each row of its NAME.rows, and says where one prints something else.
 
 Examples:
   echo 'b700000007000000 9500000000000000' | bpf_host exec
@@ -36,13 +30,14 @@ Examples:
   printf 'mov64 r0, 7\\nexit\\n' | bpf_host asm
   echo 'b700000007000000 9500000000000000' | bpf_host disasm
   bpf_host world < script.toml
+  bpf_host check examples/worlds
 
 Status: 0 done, 1 refused, 2 a fault of the command line, 3 out of memory, 4 a read or write failed";
 
 /// Does what the words ask for, the program's name the first of them, and returns the status: 0 done,
 /// 1 a refusal, 2 a fault of the command line, 3 out of memory, 4 a read or a write that failed. All
 /// lines, faults too, go to the writer.
-pub fn run_command<'a, R: AllocGlobal, I: Read, O: Write>(
+pub fn run_command<'a, R: Files + AllocGlobal + Clone + Drop, I: Read, O: Write>(
     rt: &R,
     words: &'a [&'a str],
     reader: &mut I,
@@ -50,7 +45,22 @@ pub fn run_command<'a, R: AllocGlobal, I: Read, O: Write>(
 ) -> u8
     ensures { result ≤ 4 }
 {
-    match dispatch(rt.alloc(), words, reader, writer) {
+    match dispatch(rt, words, reader, writer) {
+        Ok(()) => 0,
+        Err(failure) => report(&failure, writer),
+    }
+}
+
+/// Does the same without files, for a run of a folder: `check` is a fault of the command line there.
+pub(crate) fn run_alone<'a, I: Read, O: Write>(
+    alloc: Global,
+    words: &'a [&'a str],
+    reader: &mut I,
+    writer: &mut O,
+) -> u8
+    ensures { result ≤ 4 }
+{
+    match dispatch_alone(alloc, words, reader, writer) {
         Ok(()) => 0,
         Err(failure) => report(&failure, writer),
     }
@@ -80,6 +90,7 @@ fn command_line<'a>(alloc: Global) -> Result<Command<'a>, AllocError> {
         .subcommand(Command::new(alloc, "disasm").about("Prints the assembler text of code"))?
         .subcommand(verify_command(alloc)?)?
         .subcommand(exec_command(alloc)?)?
+        .subcommand(check_command(alloc)?)?
         .subcommand(Command::new(alloc, "world").about(
             "Runs a script of replicas, some of them faulty",
         ))
@@ -113,102 +124,68 @@ fn exec_command<'a>(alloc: Global) -> Result<Command<'a>, AllocError> {
         .arg(client)
 }
 
-fn dispatch<'a, I: Read, O: Write>(
+/// `check` and its folder.
+fn check_command<'a>(alloc: Global) -> Result<Command<'a>, AllocError> {
+    let folder = Arg::new(alloc, "folder")
+        .value_name("FOLDER")
+        .required(true)
+        .help("the folder with the runs");
+    Command::new(alloc, "check")
+        .about("Runs the scripts and rows of a folder and compares what they print")
+        .arg(folder)
+}
+
+fn dispatch<'a, R: Files + AllocGlobal + Clone + Drop, I: Read, O: Write>(
+    rt: &R,
+    words: &'a [&'a str],
+    reader: &mut I,
+    writer: &mut O,
+) -> Result<(), Failure> {
+    let matches = command_line(rt.alloc())?.try_get_matches_from(words)?;
+    match matches.subcommand() {
+        Some(("check", options)) => check(rt, options.get_str("folder").unwrap_or("."), writer),
+        _ => run_parsed(rt.alloc(), &matches, reader, writer),
+    }
+}
+
+fn dispatch_alone<'a, I: Read, O: Write>(
     alloc: Global,
     words: &'a [&'a str],
     reader: &mut I,
     writer: &mut O,
 ) -> Result<(), Failure> {
     let matches = command_line(alloc)?.try_get_matches_from(words)?;
+    run_parsed(alloc, &matches, reader, writer)
+}
+
+/// Does what the words that were read ask for, but for `check`.
+fn run_parsed<I: Read, O: Write>(
+    alloc: Global,
+    matches: &ArgMatches<'_>,
+    reader: &mut I,
+    writer: &mut O,
+) -> Result<(), Failure> {
     match matches.subcommand() {
-        Some(("asm", _)) => asm(alloc, reader, writer),
-        Some(("disasm", _)) => disasm(alloc, reader, writer),
+        Some(("asm", _)) => Ok(asm(alloc, reader, writer)?),
+        Some(("disasm", _)) => Ok(disasm(alloc, reader, writer)?),
         Some(("verify", options)) => {
-            let code = read_code(alloc, reader)?;
-            if options.get_flag("explain") {
-                return explain(alloc, &code, writer);
-            }
-            write_verdict(alloc, &code, writer)?;
-            Ok(())
+            Ok(verify(alloc, options.get_flag("explain"), reader, writer)?)
         }
-        Some(("world", _)) => {
-            run_script(alloc, reader, writer)?;
-            Ok(())
-        }
-        Some((_, options)) => exec(alloc, options, reader, writer),
-        None => exec(alloc, &matches, reader, writer),
+        Some(("world", _)) => Ok(run_script(alloc, reader, writer)?),
+        Some(("exec", options)) => call(alloc, options, reader, writer),
+        Some(_) => Err(Failure::Nested),
+        None => call(alloc, matches, reader, writer),
     }
 }
 
-/// Reads an assembler text and writes its code in hex.
-fn asm<I: Read, O: Write>(alloc: Global, reader: &mut I, writer: &mut O) -> Result<(), Failure> {
-    let text = read_input(alloc, reader)?;
-    let code = assemble(alloc, &text)?;
-    let bytes = encode_all(alloc, &code)?;
-    let digits = hex::encode(alloc, bytes.as_slice())?;
-    write_line(writer, format!(in alloc; "{digits}\n")?)
-}
-
-/// Reads code and writes its assembler text.
-fn disasm<I: Read, O: Write>(alloc: Global, reader: &mut I, writer: &mut O) -> Result<(), Failure> {
-    let bytes = read_code(alloc, reader)?;
-    let code = decode_all(alloc, &bytes)?;
-    write_line(writer, print(alloc, &code)?)
-}
-
-/// The code that the input has in hex.
-fn read_code<I: Read>(alloc: Global, reader: &mut I) -> Result<Vec<u8>, Failure> {
-    let input = read_input(alloc, reader)?;
-    read_hex(alloc, &input)
-}
-
-/// Verifies the code and writes the verdict.
-pub(crate) fn write_verdict<O: Write>(
-    alloc: Global,
-    code: &[u8],
-    writer: &mut O,
-) -> Result<Procedure, Failure> {
-    let procedure = verify(alloc, code)?;
-    let bound = procedure.bound();
-    write_line(writer, format!(in alloc; "accepted bound {bound}\n")?)?;
-    Ok(procedure)
-}
-
-/// Verifies the code, runs it over an empty map, and writes how it ended.
-fn exec<I: Read, O: Write>(
+/// Runs code with the arguments and for the client that the options name.
+fn call<I: Read, O: Write>(
     alloc: Global,
     options: &ArgMatches<'_>,
     reader: &mut I,
     writer: &mut O,
 ) -> Result<(), Failure> {
-    let code = read_code(alloc, reader)?;
-    let arguments = read_hex(alloc, options.get_str("args").unwrap_or("").as_bytes())?;
-    if arguments.len() > MAX_ARGUMENTS {
-        return Err(Failure::ArgsTooLong);
-    }
+    let arguments = options.get_str("args").unwrap_or("");
     let client = ClientId(options.get_one::<u32>("client").unwrap_or(DEFAULT_CLIENT));
-    let procedure = write_verdict(alloc, &code, writer)?;
-    let mut map = TenantMap::new(alloc);
-    let finished = run(&procedure, &arguments, client, &mut map)?;
-    write_ending(alloc, &finished, writer)
-}
-
-/// Writes how a call ended.
-fn write_ending<O: Write>(
-    alloc: Global,
-    finished: &Finished,
-    writer: &mut O,
-) -> Result<(), Failure> {
-    let result = finished.result;
-    write_line(writer, format!(in alloc; "result {result}\n")?)?;
-    let steps = finished.steps;
-    write_line(writer, format!(in alloc; "steps {steps}\n")?)?;
-    let out = hex::encode(alloc, finished.out.as_slice())?;
-    let out = if out.is_empty() { "-" } else { out.as_str() };
-    write_line(writer, format!(in alloc; "out {out}\n")?)
-}
-
-pub(crate) fn write_line<O: Write>(writer: &mut O, line: String) -> Result<(), Failure> {
-    writer.write_all(line.as_bytes())?;
-    Ok(())
+    Ok(exec(alloc, arguments, client, reader, writer)?)
 }

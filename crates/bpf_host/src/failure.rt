@@ -1,8 +1,7 @@
 //! Why a command ends early, and with which status.
 
-use bpf_asm::{AsmFault, AsmKind};
-use bpf_decode::DecodeFault;
-use bpf_verifier::{Refusal, VerifyFault};
+use crate::check::CheckFault;
+use code_commands::CodeFailure;
 use host_script::{ScriptFault, ScriptKind};
 use std::alloc::{AllocError, AllocFailed};
 use std::io;
@@ -11,30 +10,21 @@ use thiserror::Error;
 /// Why a command ended early. Its text is the line that is written, if one is.
 #[derive(Debug, Drop, Error)]
 pub enum Failure {
-    /// The input is longer than the program reads.
-    #[error("input too long")]
-    InputTooLong,
-    /// The input, or an option's value, is no hex.
-    #[error("input not hex")]
-    NotHex,
-    /// There are more argument bytes than a call has.
-    #[error("args too long")]
-    ArgsTooLong,
-    /// The code was refused.
-    #[error("refused {} {} at {}", .0.fault.number(), .0.fault, .0.slot)]
-    Refused(Refusal),
-    /// The code was refused; the line that says so is written already.
+    /// A command over code ended early.
     #[error("{0}")]
-    Explained(Refusal),
-    /// The bytes are no code.
-    #[error("refused {} {} at {}", .0.fault.number(), .0.fault, .0.slot)]
-    NoCode(bpf_decode::Refusal),
-    /// The assembler text has a fault.
-    #[error("{0}")]
-    Assembler(AsmFault),
+    Code(CodeFailure),
     /// A script has a fault, or ended early; its line is written already.
     #[error("{0}")]
     Script(ScriptFault),
+    /// A folder's runs can't be read.
+    #[error("{0}")]
+    Check(CheckFault),
+    /// A run of a folder came to something else; the lines that say so are written already.
+    #[error("a run differs")]
+    Differs,
+    /// A folder is to be checked as a run of a folder.
+    #[error("a folder's runs are alone")]
+    Nested,
     /// The words of the command line are wrong, or ask for help.
     #[error("{0}")]
     CommandLine(clap::Error),
@@ -57,19 +47,14 @@ impl Failure {
         ensures { (1 ≤ result) × (result ≤ 4) }
     {
         match self {
-            Failure::InputTooLong
-            | Failure::NotHex
-            | Failure::ArgsTooLong
-            | Failure::Refused(_)
-            | Failure::Explained(_)
-            | Failure::NoCode(_)
-            | Failure::Assembler(_) => 1,
+            Failure::Code(failure) => failure.status(),
             Failure::Script(fault) => match fault.kind {
                 ScriptKind::Memory => 3,
                 ScriptKind::Read | ScriptKind::Write => 4,
                 _ => 1,
             },
-            Failure::CommandLine(_) | Failure::WordNotUtf8 => 2,
+            Failure::Check(_) | Failure::Differs => 1,
+            Failure::Nested | Failure::CommandLine(_) | Failure::WordNotUtf8 => 2,
             Failure::Memory => 3,
             Failure::Stream(_) => 4,
         }
@@ -85,10 +70,11 @@ impl Failure {
     }
 
     /// Whether its text is still to be written: nothing is said where memory ran out or a stream failed,
-    /// and an explanation and a script say it themselves.
+    /// and some commands have said it themselves.
     pub(crate) fn is_reported(&self) -> bool {
         match self {
-            Failure::Script(_) | Failure::Explained(_) => false,
+            Failure::Code(failure) => failure.is_reported(),
+            Failure::Script(_) | Failure::Differs => false,
             _ => self.status() < 3,
         }
     }
@@ -112,30 +98,9 @@ impl From<io::Error> for Failure {
     }
 }
 
-impl From<Refusal> for Failure {
-    fn from(refusal: Refusal) -> Failure {
-        match refusal.fault {
-            VerifyFault::Memory => Failure::Memory,
-            _ => Failure::Refused(refusal),
-        }
-    }
-}
-
-impl From<bpf_decode::Refusal> for Failure {
-    fn from(refusal: bpf_decode::Refusal) -> Failure {
-        match refusal.fault {
-            DecodeFault::Memory => Failure::Memory,
-            _ => Failure::NoCode(refusal),
-        }
-    }
-}
-
-impl From<AsmFault> for Failure {
-    fn from(fault: AsmFault) -> Failure {
-        match fault.kind {
-            AsmKind::Memory => Failure::Memory,
-            _ => Failure::Assembler(fault),
-        }
+impl From<CodeFailure> for Failure {
+    fn from(failure: CodeFailure) -> Failure {
+        Failure::Code(failure)
     }
 }
 
@@ -145,20 +110,17 @@ impl From<ScriptFault> for Failure {
     }
 }
 
+impl From<CheckFault> for Failure {
+    fn from(fault: CheckFault) -> Failure {
+        Failure::Check(fault)
+    }
+}
+
 impl From<clap::Error> for Failure {
     fn from(error: clap::Error) -> Failure {
         match error.kind() {
             clap::error::ErrorKind::OutOfMemory => Failure::Memory,
             _ => Failure::CommandLine(error),
-        }
-    }
-}
-
-impl From<hex::FromHexError> for Failure {
-    fn from(error: hex::FromHexError) -> Failure {
-        match error {
-            hex::FromHexError::OutOfMemory => Failure::Memory,
-            _ => Failure::NotHex,
         }
     }
 }

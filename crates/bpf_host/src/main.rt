@@ -5,17 +5,15 @@
 //! ```
 #![tactic(auto)]
 
+mod check;
 mod command;
-mod explain;
 mod failure;
-mod input;
-mod numbers;
-mod reason;
+mod row;
 
 use command::{report, run_command};
 use failure::Failure;
 use std::process::ExitCode;
-use std::rt::Env;
+use std::rt::{Env, Files};
 use std::{env, io};
 
 fn main(rt: HostRuntime) -> ExitCode {
@@ -28,12 +26,9 @@ fn main(rt: HostRuntime) -> ExitCode {
 
 /// Hands the words of the command line and the standard streams to the command. Words that can't be
 /// read are an error.
-fn run<R: Env + Input + Print + AllocGlobal>(rt: &R) -> io::Result<u8> {
+fn run<R: Files + Env + Input + Print + AllocGlobal + Clone + Drop>(rt: &R) -> io::Result<u8> {
     let alloc = rt.alloc();
     let arguments: Vec<String> = env::args(rt)?.collect(alloc)?;
     let words: Vec<&str> = arguments.iter().map(|word| word.as_str()).collect(alloc)?;
     Ok(run_command(rt, &words, &mut rt.reader(), &mut io::writer(rt)))
 }
-
-#[cfg(test)]
-mod tests;

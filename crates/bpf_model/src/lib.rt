@@ -3,12 +3,8 @@
 //! memory, and the verifier's faults.
 #![tactic(auto)]
 
-#[cfg(test)]
-mod call_tests;
 mod fault;
 pub mod layout;
-#[cfg(test)]
-mod tests;
 
 ghost use Rattle.std.specs.Prelude.{◌≡◌, ◌⊎◌, ℕ, ◌≤◌, ◌<◌, List};
 ghost use Rattle.bpf_decode.specs.declared.insn.Insn.{Insn};

@@ -5,8 +5,6 @@
 mod jump;
 mod narrow;
 mod swap;
-#[cfg(test)]
-mod tests;
 mod wide;
 
 ghost use Rattle.std.specs.Prelude.{◌≡◌};

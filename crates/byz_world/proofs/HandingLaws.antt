@@ -4,7 +4,7 @@ use Rattle.std.specs.Prelude.{slice_get, option_and_then, MatchOption}
 use Rattle.std.proofs.lemmas.Bool.{eqb-true, eq-eqb}
 use Rattle.std.proofs.lemmas.Option.{slice_get-get_or}
 use Rattle.std.proofs.lemmas.List.Quantifiers.{position-Some}
-use Rattle.service_core.proofs.Found.{find_by_position}
+use Rattle.service_model.proofs.Found.{find_by_position}
 use Rattle.host_types.specs.Configuration.{Configuration}
 use Rattle.replica_core.specs.Facts.{RowFacts}
 use Rattle.replica_core.specs.declared.row.Input.{Input}

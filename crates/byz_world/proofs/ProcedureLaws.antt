@@ -1,9 +1,9 @@
 -- No procedure that is installed at a correct replica can go wrong.
 use Rattle.std.proofs.Common.{◌≡◌, ◌⊎◌, ℕ, inl, inr, List, ◌∷◌, sym, subst}
 use Rattle.host_types.specs.Configuration.{IsConfiguration}
-use Rattle.service_core.specs.Sound.{IsSound, NoneGoesWrong}
-use Rattle.service_core.specs.TenantStates.{Service}
-use Rattle.service_core.proofs.Soundness.{accepted_safe}
+use Rattle.service_model.specs.Sound.{IsSound, NoneGoesWrong}
+use Rattle.service_model.specs.TenantStates.{Service}
+use Rattle.service_model.proofs.Soundness.{accepted_safe}
 use Rattle.pbft_model.specs.Acts.{after}
 use Rattle.pbft_model.specs.Core.{Core, start_of}
 use Rattle.pbft_model.specs.Histories.{core_after}

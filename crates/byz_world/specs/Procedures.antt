@@ -1,6 +1,6 @@
 -- Statement: the states that the services of correct replicas come to, and the procedures that are installed in them.
 use Rattle.std.specs.Prelude.{◌≡◌, ◌⊎◌, ℕ, List, ◌++◌}
-use Rattle.service_core.specs.Sound.{NoneGoesWrong}
+use Rattle.service_model.specs.Sound.{NoneGoesWrong}
 use Rattle.pbft_model.specs.Acts.{Act, after}
 use Rattle.pbft_model.specs.Core.{Core}
 use Rattle.pbft_model.specs.Histories.{IsCorrect}

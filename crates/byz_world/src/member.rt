@@ -33,7 +33,7 @@ pub(crate) struct Member {
 impl Model for Member {
     ghost use Rattle.std.specs.Prelude.{◌≡◌};
     ghost use Rattle.std.specs.Coded.{codes};
-    ghost use Rattle.service_core.specs.Equality.{service_code};
+    ghost use Rattle.service_model.specs.Equality.{service_code};
     ghost use Rattle.byz_world.specs.Worlds.{MemberFacts};
 
     ghost Value = { MemberFacts };
@@ -47,7 +47,7 @@ impl Model for Member {
 
 impl Member {
     /// A replica before its first message.
-    pub fn new(
+    pub(crate) fn new(
         alloc: Global,
         config: &Arc<Config>,
         id: ReplicaId,
@@ -62,20 +62,20 @@ impl Member {
         Ok(Member { id, replica, rows })
     }
 
-    pub fn id(&self) -> ReplicaId
+    pub(crate) fn id(&self) -> ReplicaId
         ensures { result.0 ≡ self.now.replica.me }
     {
         self.id
     }
 
-    pub fn replica(&self) -> &Replica
+    pub(crate) fn replica(&self) -> &Replica
         ensures { result.now ≡ self.now.replica }
     {
         &self.replica
     }
 
     /// Takes a message: the row that it gives, if it gives one.
-    pub fn take(&mut self, message: &Checked) -> Result<Option<Row>, WorldFault>
+    pub(crate) fn take(&mut self, message: &Checked) -> Result<Option<Row>, WorldFault>
         requires config { message.now.config ≡ self.old.replica.config }
         ensures steps { MemberSteps self.old (inputs.Message message.now) result self.new }
         ensures config { self.new.replica.config ≡ self.old.replica.config }
@@ -88,7 +88,7 @@ impl Member {
     }
 
     /// Takes a timeout: the row that it gives, if it gives one.
-    pub fn timeout(&mut self) -> Result<Option<Row>, WorldFault>
+    pub(crate) fn timeout(&mut self) -> Result<Option<Row>, WorldFault>
         ensures steps { MemberSteps self.old inputs.Timeout result self.new }
         ensures config { self.new.replica.config ≡ self.old.replica.config }
         ensures id { self.new.replica.me ≡ self.old.replica.me }
@@ -112,7 +112,7 @@ impl Member {
     }
 
     /// The output of this number, over all rows.
-    pub fn output(&self, number: u64) -> Option<&Output>
+    pub(crate) fn output(&self, number: u64) -> Option<&Output>
         ensures { option_copied result ≡ output_at self.now.rows number }
     {
         let mut left = number;
@@ -127,7 +127,7 @@ impl Member {
     }
 
     /// What it did.
-    pub fn outcome(self) -> Outcome
+    pub(crate) fn outcome(self) -> Outcome
         ensures { facts_of result ≡ outcome_of self }
     {
         Outcome {

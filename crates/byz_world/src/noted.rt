@@ -23,7 +23,7 @@ pub(crate) struct Noted {
 
 impl Noted {
     /// Nothing is noted.
-    pub fn new(alloc: Global) -> Noted
+    pub(crate) fn new(alloc: Global) -> Noted
         ensures { IsNoted [] result }
     {
         Noted {
@@ -34,7 +34,7 @@ impl Noted {
     }
 
     /// Notes what a replica did; `Differ` where the first of its number says other.
-    pub fn note(&mut self, alloc: Global, done: &Done) -> Result<(), AuditFault>
+    pub(crate) fn note(&mut self, alloc: Global, done: &Done) -> Result<(), AuditFault>
         ensures noted { OnOk result ((before : List Done) → IsNoted before self.old → IsNoted (before ++ done.now ∷ []) self.new) }
         ensures fault { IfErr result (λ fault. (before : List Done) → IsNoted before self.old → IsRefusal (SaysOther before done.now) fault) }
     {

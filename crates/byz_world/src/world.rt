@@ -38,7 +38,7 @@ pub struct World {
 
 impl Model for World {
     ghost use Rattle.std.specs.Coded.{codes};
-    ghost use Rattle.service_core.specs.Equality.{service_code};
+    ghost use Rattle.service_model.specs.Equality.{service_code};
     ghost use Rattle.byz_world.specs.Handing.{AreMembers};
     ghost use Rattle.byz_world.specs.Worlds.{WorldFacts};
 

@@ -236,7 +236,10 @@ impl Checkpoints {
 fn is_of(digest: Option<Digest>, bytes: &[u8]) -> bool
     ensures { result ≡ is_digest (sha256 bytes.now) digest }
 {
-    digest == Some(digest_of(bytes))
+    match digest {
+        Some(digest) => digest == digest_of(bytes),
+        None => false,
+    }
 }
 
 fn digest_of(bytes: &[u8]) -> Digest

@@ -1,15 +1,11 @@
-//! Tests of one replica by its public calls alone: what it answers to each message, row by row; and of
-//! four replicas beside one another.
+//! Tests of one replica by its public calls alone: what it answers to each message, row by row. What four
+//! replicas do beside one another, the scripts of `crates/bpf_host/data/` show.
 #![tactic(auto)]
 
 #[cfg(test)]
 mod halts;
 #[cfg(test)]
-mod life;
-#[cfg(test)]
 mod messages;
-#[cfg(test)]
-mod net;
 #[cfg(test)]
 mod node;
 #[cfg(test)]

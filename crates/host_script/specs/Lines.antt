@@ -3,13 +3,13 @@ use Rattle.std.specs.Prelude.{ℕ, Bool, true, false, List, ◌++◌, codes, dec
 use Rattle.host_types.specs.declared.ReplicaId.{ReplicaId}
 use Rattle.host_types.specs.declared.request.Reply.{Reply}
 use Rattle.hex.specs.Hex.{encode_lower}
-use Rattle.service_core.specs.TenantStates.{Service}
+use Rattle.service_model.specs.TenantStates.{Service}
 use Rattle.replica_core.specs.Halts as halts
 use Rattle.replica_core.specs.declared.halt.Halt.{Halt}
 use Rattle.replica_core.specs.declared.replica.Status.{Status}
 use Rattle.seal.specs.Faults as faults
 use Rattle.seal.specs.declared.fault.SealFault.{SealFault}
-use Rattle.service_core.specs.Encoding.{encoded}
+use Rattle.service_model.specs.Encoding.{encoded}
 use Rattle.sha2.specs.Sha256.{sha256}
 
 -- what a client has accepted

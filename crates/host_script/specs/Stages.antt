@@ -19,7 +19,7 @@ use Rattle.seal.specs.declared.fault.SealFault.{SealFault}
 use Rattle.seal.specs.declared.vote.VoteKind.{VoteKind}
 use Rattle.seal.specs.declared.vote.VoteKind.TheVariants as votes
 use Rattle.sha2.specs.Sha256.{sha256}
-use Rattle.service_core.specs.TenantStates.{Service}
+use Rattle.service_model.specs.TenantStates.{Service}
 use Rattle.pbft_model.specs.Core.{Core}
 use Rattle.replica_core.specs.Facts.{RowFacts}
 use Rattle.replica_core.specs.declared.halt.Halt.{Halt}

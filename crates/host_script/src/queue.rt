@@ -34,7 +34,7 @@ impl Model for Letter {
 
 impl Letter {
     /// A letter that is addressed to nobody but this node yet.
-    pub fn new(
+    pub(crate) fn new(
         alloc: Global,
         to: Node,
         from: Option<Node>,
@@ -53,14 +53,14 @@ impl Letter {
     }
 
     /// Whom it is for.
-    pub fn to(&self) -> Node
+    pub(crate) fn to(&self) -> Node
         ensures { result ≡ self.now.to }
     {
         self.to
     }
 
     /// Its bytes.
-    pub fn bytes(&self) -> &[u8]
+    pub(crate) fn bytes(&self) -> &[u8]
         ensures { result.now ≡ self.now.bytes }
     {
         let bytes: &Bytes = &self.bytes;
@@ -157,7 +157,7 @@ impl Model for Queue {
 
 impl Queue {
     /// A queue of no messages.
-    pub fn new(alloc: Global) -> Queue
+    pub(crate) fn new(alloc: Global) -> Queue
         ensures { result ≡ [] }
     {
         Queue {
@@ -167,7 +167,7 @@ impl Queue {
     }
 
     /// Queues a letter last.
-    pub fn push(&mut self, letter: Letter) -> Result<(), AllocError>
+    pub(crate) fn push(&mut self, letter: Letter) -> Result<(), AllocError>
         ensures { OnOk result (self.new ≡ self.old ++ letter ∷ []) }
     {
         self.letters.push_back(letter)?;
@@ -182,7 +182,7 @@ impl Queue {
     }
 
     /// Queues a letter for each node of a list.
-    pub fn send(&mut self, letter: &Letter, to: &[Node]) -> Result<(), AllocError>
+    pub(crate) fn send(&mut self, letter: &Letter, to: &[Node]) -> Result<(), AllocError>
         ensures { OnOk result (self.new ≡ self.old ++ copies letter.now to.now) }
     {
         for node in to {
@@ -192,7 +192,12 @@ impl Queue {
     }
 
     /// Queues a letter for each node of a list but one.
-    pub fn send_but(&mut self, letter: &Letter, to: &[Node], one: Node) -> Result<(), AllocError>
+    pub(crate) fn send_but(
+        &mut self,
+        letter: &Letter,
+        to: &[Node],
+        one: Node,
+    ) -> Result<(), AllocError>
         ensures { OnOk result (self.new ≡ self.old ++ copies letter.now (all_but one to.now)) }
     {
         for node in to {
@@ -204,14 +209,14 @@ impl Queue {
     }
 
     /// Removes the letters that are meant.
-    pub fn discard(&mut self, filter: &Filter)
+    pub(crate) fn discard(&mut self, filter: &Filter)
         ensures { self.new ≡ kept (λ l. not (is_meant filter.now l)) self.old }
     {
         self.letters.retain(|letter| !letter.is_meant_by(filter));
     }
 
     /// Queues each letter that is meant once more.
-    pub fn repeat(&mut self, filter: &Filter) -> Result<(), AllocError>
+    pub(crate) fn repeat(&mut self, filter: &Filter) -> Result<(), AllocError>
         ensures { OnOk result (self.new ≡ self.old ++ kept (is_meant filter.now) self.old) }
     {
         for index in 0..self.letters.len() {
@@ -226,7 +231,7 @@ impl Queue {
     }
 
     /// Takes the first letter out that is meant; those before it go to `others`, of which none is.
-    pub fn next_meant(
+    pub(crate) fn next_meant(
         &mut self,
         filter: &Filter,
         others: &mut Queue,

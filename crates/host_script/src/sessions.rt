@@ -29,7 +29,7 @@ pub(crate) struct Sessions {
 
 impl Sessions {
     /// A session for each client, which signs by the signer beside it.
-    pub fn new(
+    pub(crate) fn new(
         alloc: Global,
         config: &Arc<Config>,
         signers: Vec<Signer>,
@@ -54,7 +54,11 @@ impl Sessions {
     }
 
     /// The signed request of a client's operation; none where the client has no leaf left, or is none.
-    pub fn request(&mut self, client: ClientId, op: Bytes) -> Result<Option<Checked>, AllocError>
+    pub(crate) fn request(
+        &mut self,
+        client: ClientId,
+        op: Bytes,
+    ) -> Result<Option<Checked>, AllocError>
         requires { length op ≤ 1048576 }
         ensures requested { IfOk result (Requests self.old.sessions.items client op self.new.sessions.items) }
         ensures config { self.new.config ≡ self.old.config }
@@ -71,7 +75,7 @@ impl Sessions {
 
     /// Hands bytes to a client, and returns the line of the reply that it accepts by them. Bytes that are
     /// no message are passed over.
-    pub fn deliver(&mut self, client: ClientId, bytes: &[u8]) -> Result<String, AllocError>
+    pub(crate) fn deliver(&mut self, client: ClientId, bytes: &[u8]) -> Result<String, AllocError>
         ensures offered { IfOk result (λ text. Offers self.old.sessions.items client (opening self.old.config.value bytes.now) (string_bytes text) self.new.sessions.items) }
         ensures config { self.new.config ≡ self.old.config }
     {

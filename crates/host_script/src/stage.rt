@@ -58,7 +58,7 @@ pub(crate) struct Stage {
 impl Model for Stage {
     ghost use Rattle.std.specs.Prelude.{◌≡◌};
     ghost use Rattle.std.specs.Coded.{codes};
-    ghost use Rattle.service_core.specs.Equality.{service_code};
+    ghost use Rattle.service_model.specs.Equality.{service_code};
     ghost use Rattle.host_script.specs.Stages.{StageFacts, all_replicas};
 
     ghost Value = { StageFacts };
@@ -72,7 +72,7 @@ impl Model for Stage {
 
 impl Stage {
     /// The stage of a head, with an empty queue.
-    pub fn new(alloc: Global, head: &Head) -> Result<Stage, AllocError>
+    pub(crate) fn new(alloc: Global, head: &Head) -> Result<Stage, AllocError>
         ensures { IfOk result (λ s. s ≡ start_of head.now) }
     {
         let keys = make_keys(alloc, head)?;
@@ -93,7 +93,7 @@ impl Stage {
     }
 
     /// Runs a step, and writes what it prints.
-    pub fn run<O: Write>(&mut self, step: &Step, writer: &mut O) -> Result<(), RunFault>
+    pub(crate) fn run<O: Write>(&mut self, step: &Step, writer: &mut O) -> Result<(), RunFault>
         ensures { Ends self.old step.now (O.contents writer.old) (O.contents writer.new) result self.new }
     {
         if let Step::Deliver(filter) = step {

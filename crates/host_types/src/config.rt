@@ -7,19 +7,14 @@ ghost use Rattle.arrayvec.specs.ArrayVec.{array_vec_len};
 ghost use Rattle.host_types.specs.Configuration.{Configuration, IsConfiguration, IsAscending, replicas_for, client_ids_of, tenants_of, too_many, some_client_twice, fault_of, entry_of, number_of};
 
 use crate::ascending::insert_sorted;
+use crate::limits::{MAX_CLIENTS, MAX_FAULTY};
 use crate::{ClientId, ReplicaId, TenantId, View};
 use arrayvec::ArrayVec;
 use std::marker::Model;
 use thiserror::Error;
 
-/// The most replicas that may be faulty: 10 replicas in all.
-const MAX_FAULTY: u8 = 3;
-
 /// The greatest interval between checkpoints.
 const MAX_CHECKPOINT_INTERVAL: u8 = 8;
-
-/// The most clients of a configuration.
-const MAX_CLIENTS: usize = 64;
 
 /// Client ids below this one are none.
 const MIN_CLIENT: u32 = 16;

@@ -8,6 +8,8 @@
 mod ascending;
 mod bytes;
 mod config;
+pub mod limits;
+pub mod operation;
 mod replica_set;
 mod request;
 

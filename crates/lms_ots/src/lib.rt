@@ -17,8 +17,6 @@ use hash::{block_hash, hasher, put, u16str, u32str};
 use sha2::{Digest, Sha256};
 
 mod hash;
-#[cfg(test)]
-mod tests;
 
 /// The length of a hash in bytes, which is n of RFC 8554, section 4.1.
 const HASH_LEN: usize = 32;
@@ -30,7 +28,7 @@ const CHAIN_COUNT: usize = 67;
 const CHAIN_END: u8 = 15;
 
 /// The typecode LMOTS_SHA256_N32_W4 of RFC 8554, section 4.1.
-const TYPECODE: u32 = 3;
+pub const TYPECODE: u32 = 3;
 
 /// D_PBLC of RFC 8554, section 4.3.
 const PUBLIC_TAG: u16 = 0x8080;

@@ -10,9 +10,6 @@ use crate::signature::signature;
 use std::alloc::{AllocError, Global};
 use std::marker::Model;
 
-/// The typecode LMOTS_SHA256_N32_W4 of RFC 8554, section 4.1.
-const OTS_TYPECODE: u32 = 3;
-
 /// A key pair that signs once for each leaf of its tree, in the leaves' order (RFC 8554, section 5).
 /// It can't be cloned, and never gives out its secret.
 #[derive(Drop)]
@@ -71,7 +68,7 @@ impl Signer {
     {
         let mut key = [0u8; 56];
         put(&mut key, 0, &u32str(self.height.typecode()));
-        put(&mut key, 4, &u32str(OTS_TYPECODE));
+        put(&mut key, 4, &u32str(lms_ots::TYPECODE));
         put(&mut key, 8, &self.id);
         put(&mut key, 24, &self.nodes[1]);
         key

@@ -11,9 +11,6 @@ use crate::nodes::{leaf_node, parent};
 use lms_ots::{message_hasher, ots_candidate_of_hash};
 use sha2::{Digest, Sha256};
 
-/// The typecode LMOTS_SHA256_N32_W4 of RFC 8554, section 4.1.
-const OTS_TYPECODE: u32 = 3;
-
 /// The offset of the tree's typecode in a signature.
 const TYPECODE_OFFSET: usize = 2184;
 
@@ -43,7 +40,7 @@ fn bytes_at<const N: usize>(bytes: &[u8], at: usize) -> [u8; N]
 fn key_height(key: &[u8; 56]) -> Option<Height>
     ensures { result ≡ key_height key.now }
 {
-    if word_at(key, 4) == OTS_TYPECODE {
+    if word_at(key, 4) == lms_ots::TYPECODE {
         Height::from_typecode(word_at(key, 0))
     } else {
         None
@@ -109,7 +106,9 @@ impl<'a> Verifier<'a> {
         if sig.len() != height.signature_len() {
             return Err(SigFault::Length);
         }
-        if word_at(sig, 4) != OTS_TYPECODE || word_at(sig, TYPECODE_OFFSET) != height.typecode() {
+        if word_at(sig, 4) != lms_ots::TYPECODE
+            || word_at(sig, TYPECODE_OFFSET) != height.typecode()
+        {
             return Err(SigFault::WrongType);
         }
         let leaf = word_at(sig, 0);

@@ -1,12 +1,12 @@
-//! Tests of assembling, decoding, verifying and running code, over the public calls of their crates. They stand
-//! apart, so that those crates are proved once and not again beside their tests.
+//! Tests of maps and of code that no run of the program shows: `crates/bpf_host/data/` has the rows that it
+//! runs. They stand apart, so that the crates below are proved once and not again beside their tests.
 #![tactic(auto)]
 
 #[cfg(test)]
-mod assembling;
+mod code;
 #[cfg(test)]
-mod decoding;
+mod commands;
 #[cfg(test)]
-mod running;
+mod maps;
 #[cfg(test)]
-mod verifying;
+mod texts;

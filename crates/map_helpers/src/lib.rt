@@ -5,8 +5,6 @@
 
 mod effects;
 mod helper;
-#[cfg(test)]
-mod tests;
 
 pub use effects::{Answer, MAX_OUTPUT, Written, effect};
 pub use helper::{Access, Extent, Helper};

@@ -6,11 +6,9 @@ ghost use Rattle.pbft_codec.specs.Reading.{Gives, IsFault, number_at, view_at, c
 
 use crate::fault::{CodecFault, ReadError};
 use crate::signed::Role;
+use host_types::limits::SEQUENCE_NUMBER_LIMIT;
 use host_types::{Bytes, ClientId, Digest, SeqNo, View};
 use std::alloc::Global;
-
-/// Sequence numbers are below this.
-const SEQUENCE_NUMBER_LIMIT: u64 = 1 << 48;
 
 pub fn read_u32(bytes: &[u8]) -> Result<(u32, &[u8]), ReadError>
     ensures read { Gives (λ x. (x.0, x.1.now)) result (number_at w32 bytes.now) }

@@ -12,10 +12,11 @@ use crate::fields::{read_bytes, read_count, read_id, read_length_prefixed, read_
 use crate::sequence::Sequence;
 use crate::signed::Signed;
 use crate::writing::{put_length, put_length_prefixed, put_role, put_u32};
+use host_types::limits::MAX_REPLICAS;
 use std::alloc::{AllocError, Global};
 
-/// The most messages of one kind in a list of signers: one of each replica, 3f + 1 with f at most 3.
-pub const MAX_SIGNERS: u32 = 10;
+/// The most messages of one kind in a list of signers: one of each replica.
+pub const MAX_SIGNERS: u32 = MAX_REPLICAS as u32;
 
 /// The most sequence numbers in a list: those between the water marks, two checkpoint intervals of at
 /// most 8.

@@ -5,10 +5,10 @@ use Rattle.std.specs.List.{AllByRecursion}
 use Rattle.std.specs.Option.{option_map}
 use Rattle.std.proofs.lemmas.Bool.{true≢false, false≢true, and_parts, cases_lt, eqb-true, leb-true}
 use Rattle.std.proofs.lemmas.Slice.Eq.{bytes_eq-Decides}
-use Rattle.service_core.specs.Bounded.{IsBounded, IsBoundedReply}
-use Rattle.service_core.proofs.Injective.{same_state, last_bounded}
-use Rattle.service_core.proofs.Bounds.{own_reply, reply_is_last}
-use Rattle.service_core.proofs.Determined.{follows_more}
+use Rattle.service_model.specs.Bounded.{IsBounded, IsBoundedReply}
+use Rattle.service_model.proofs.Injective.{same_state, last_bounded}
+use Rattle.service_model.proofs.Bounds.{own_reply, reply_is_last}
+use Rattle.service_model.proofs.Determined.{follows_more}
 use Rattle.pbft_model.specs.Words.{Signed, Body, RequestBody, ReplyBody, Checkpoint, Request, Reply, IsAuthentic, as_message, signed_text}
 use Rattle.pbft_codec.specs.declared.body.Body.TheVariants as bodies
 use Rattle.pbft_model.specs.Sequential.{Service, Outcome, IsStep, Serves, genesis_of, encoded, last_reply_of}

@@ -5,8 +5,8 @@ use Rattle.std.specs.Option.{option_map}
 use Rattle.std.proofs.lemmas.Bool.{false≢true, and_parts, leb-true, eqb-true, eq-eqb, ne_eqb}
 use Rattle.pbft_model.specs.Words.{SigningState, Signed, RequestBody, Request, IsConfiguration, IsChecked, as_message}
 use Rattle.pbft_codec.specs.declared.body.Body.TheVariants as bodies
-use Rattle.service_core.proofs.Bounds.{genesis_bounded, step_bounded}
-use Rattle.service_core.proofs.Soundness.{genesis_sound, step_sound}
+use Rattle.service_model.proofs.Bounds.{genesis_bounded, step_bounded}
+use Rattle.service_model.proofs.Soundness.{genesis_sound, step_sound}
 use Rattle.pbft_model.specs.Sequential.{Service, Outcome, IsStep, IsSound}
 use Rattle.pbft_model.specs.Setup.{Setup, replicas, quorum, count, null_digest, request_in, number_limit}
 use Rattle.pbft_model.specs.Tables.{vote_key}

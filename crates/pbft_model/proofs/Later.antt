@@ -8,8 +8,8 @@ use Rattle.std.proofs.lemmas.Bool.{true≢false, cases_eq, cases_lt, eqb-true, e
 use Rattle.std.proofs.lemmas.Option.{same_Some}
 use Rattle.host_types.specs.declared.config.ClientEntry.{ClientEntry}
 use Rattle.host_types.specs.Configuration.{entry_of}
-use Rattle.service_core.specs.TenantStates.{TenantState, tenant_at, with_tenant}
-use Rattle.service_core.specs.Steps.{Executes, IsTenantStep, reply_to}
+use Rattle.service_model.specs.TenantStates.{TenantState, tenant_at, with_tenant}
+use Rattle.service_model.specs.Steps.{Executes, IsTenantStep, reply_to}
 use Rattle.pbft_model.specs.Words.{Signed, RequestBody, Request, Reply}
 use Rattle.pbft_model.specs.Sequential.{Service, Outcome, IsStep}
 use Rattle.pbft_model.specs.Core.{is_later, is_new}

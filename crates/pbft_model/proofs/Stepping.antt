@@ -10,9 +10,9 @@ use Rattle.host_types.specs.Configuration.{entry_of}
 use Rattle.pbft_codec.specs.declared.body.Body.TheVariants as bodies
 use Rattle.pbft_codec.specs.Layouts.{role_byte, number, length_prefixed, signed, request, snapshot}
 use Rattle.pbft_codec.specs.Encoding.{body, encoding}
-use Rattle.service_core.specs.Asked.{CanAsk, HasTenantMaps}
-use Rattle.service_core.proofs.Existing.{genesis_maps, step_maps, step_exists}
-use Rattle.service_core.proofs.Reading.{left_bytes, right_bytes, read_maps}
+use Rattle.service_model.specs.Asked.{CanAsk, HasTenantMaps}
+use Rattle.service_model.proofs.Existing.{genesis_maps, step_maps, step_exists}
+use Rattle.service_model.proofs.Reading.{left_bytes, right_bytes, read_maps}
 use Rattle.seal.specs.Signers.{key_of, may_sign}
 use Rattle.pbft_model.specs.Words.{SigningState, leaf_count, Signed, Body, Role, Replica, Client, RequestBody, Snapshot, Request, Configuration, IsConfiguration, IsChecked, as_message}
 use Rattle.pbft_model.specs.Sequential.{Service, Outcome, IsStep}

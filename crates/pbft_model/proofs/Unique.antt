@@ -2,8 +2,8 @@
 use Rattle.std.proofs.Common.{◌≡◌, ℕ, List, [], ◌∷◌, Option, Some, None, refl, sym, ap, subst, ◌∙◌}
 use Rattle.pbft_model.specs.Words.{Body, Snapshot}
 use Rattle.pbft_codec.specs.declared.body.Body.TheVariants as bodies
-use Rattle.service_core.proofs.Determined.{same_step}
-use Rattle.service_core.proofs.Injective.{same_state}
+use Rattle.service_model.proofs.Determined.{same_step}
+use Rattle.service_model.proofs.Injective.{same_state}
 use Rattle.pbft_model.specs.Sequential.{Service}
 use Rattle.pbft_model.specs.Setup.{Setup}
 use Rattle.pbft_model.specs.Core.{Core, request_of}

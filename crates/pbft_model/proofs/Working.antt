@@ -6,8 +6,8 @@ use Rattle.std.specs.Cmp.{nat_cmp_total}
 use Rattle.std.specs.FinMap as finite
 use Rattle.std.specs.FinMap.{get-empty, get-insert}
 use Rattle.host_types.specs.declared.request.Reply.{Reply}
-use Rattle.service_core.specs.TenantStates.{TenantState, empty_tenant}
-use Rattle.service_core.specs.Steps.{Executes, IsTenantStep}
+use Rattle.service_model.specs.TenantStates.{TenantState, empty_tenant}
+use Rattle.service_model.specs.Steps.{Executes, IsTenantStep}
 use Rattle.pbft_model.specs.Sequential.{Service, IsStep, genesis_of}
 use Rattle.pbft_model.specs.Setup.{request_in}
 use Rattle.pbft_model.specs.Core.{start_of}

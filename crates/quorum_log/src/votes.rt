@@ -10,6 +10,7 @@ ghost use Rattle.pbft_model.specs.Certificates.{certified, has_quorum};
 ghost use Rattle.pbft_model.specs.Setup.{count};
 ghost use Rattle.quorum_log.specs.Ballots.{AreListed, AreUnder, digest_in, least_votes, mask_at, recorded, vote_at, voted_for};
 
+use host_types::limits::MAX_REPLICAS;
 use host_types::{Config, Digest, ReplicaId, View};
 use pbft_codec::Body;
 use seal::{Checked, CheckedList};
@@ -17,9 +18,6 @@ use std::alloc::{AllocError, Global};
 use std::collections::BTreeMap;
 use std::marker::Model;
 use std::sync::Arc;
-
-/// The most replicas that there can be.
-const MAX_REPLICAS: usize = 10;
 
 /// The votes of replicas on one question: which digest a number has, for instance. Of each replica it
 /// keeps the first message, as a handle, and of each digest who voted for it. Contracts see the list of

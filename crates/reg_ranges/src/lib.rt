@@ -6,8 +6,6 @@ mod hull;
 mod range;
 mod swap;
 mod test;
-#[cfg(test)]
-mod tests;
 mod transfer;
 
 pub use hull::join;

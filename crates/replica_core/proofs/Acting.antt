@@ -6,8 +6,8 @@ use Rattle.host_types.specs.Configuration.{Configuration}
 use Rattle.host_types.specs.declared.SeqNo.{SeqNo}
 use Rattle.pbft_codec.specs.declared.body.Body.{Body}
 use Rattle.pbft_codec.specs.declared.body.Body.TheVariants as bodies
-use Rattle.service_core.proofs.Injective.{last_bounded}
-use Rattle.service_core.specs.Bounded.{IsBoundedReply}
+use Rattle.service_model.proofs.Injective.{last_bounded}
+use Rattle.service_model.specs.Bounded.{IsBoundedReply}
 use Rattle.lms_tree.specs.Keys.{leaf_count}
 use Rattle.pbft_model.specs.Acts.{Destination, Send, ToClient}
 use Rattle.pbft_model.specs.Duties.{due_reply, reply_body}

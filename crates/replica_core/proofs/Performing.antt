@@ -3,9 +3,9 @@ use Rattle.std.proofs.Common.{◌≡◌, ℕ, ◌+◌, ◌%◌, ◌<◌, ◌≤�
 use Rattle.std.specs.Prelude.{IfSome, ◌==◌}
 use Rattle.std.proofs.lemmas.List.{append-nil}
 use Rattle.host_types.specs.declared.request.Request.{Request}
-use Rattle.service_core.proofs.Bounds.{reply_is_last, step_bounded}
-use Rattle.service_core.proofs.Injective.{last_bounded}
-use Rattle.service_core.specs.Bounded.{IsBoundedReply}
+use Rattle.service_model.proofs.Bounds.{reply_is_last, step_bounded}
+use Rattle.service_model.proofs.Injective.{last_bounded}
+use Rattle.service_model.specs.Bounded.{IsBoundedReply}
 use Rattle.pbft_model.specs.Acts.{acted}
 use Rattle.pbft_model.specs.Core.{request_of}
 use Rattle.pbft_model.specs.Rows as rows

@@ -6,7 +6,7 @@ use Rattle.host_types.specs.Configuration.{IsConfiguration}
 use Rattle.pbft_codec.specs.declared.body.Body.TheVariants as bodies
 use Rattle.pbft_codec.specs.declared.body.fetch.Fetch.TheVariants as fetches
 use Rattle.pbft_codec.specs.WellFormed.{BodyWellFormed, EachBody, IsSequenceNumber, ViewChangeWellFormed}
-use Rattle.service_core.proofs.Lengths.{state_length}
+use Rattle.service_model.proofs.Lengths.{state_length}
 use Rattle.pbft_model.specs.Words.{SigningState, Signed, Body, Checkpoint, ViewChange}
 use Rattle.pbft_model.specs.Acts.{Act, Take, Timeout, Send, Relay, Enter, Rise, Execute, Install, add_checkpoint, add_checkpoints, after, left_for, left_if_above, recorded, said, with_body}
 use Rattle.pbft_model.specs.Core.{Core}

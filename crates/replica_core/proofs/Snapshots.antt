@@ -3,8 +3,8 @@ use Rattle.std.proofs.Common.{◌≡◌, ℕ, Bool, true, false, List, Option, S
 use Rattle.std.specs.Prelude.{◌==◌, if◌then◌else◌}
 use Rattle.std.proofs.lemmas.Bool.{eqb-true, eqb-false}
 use Rattle.host_types.specs.Configuration.{Configuration}
-use Rattle.service_core.proofs.Injective.{same_state}
-use Rattle.service_core.specs.Decoding.{Encodes}
+use Rattle.service_model.proofs.Injective.{same_state}
+use Rattle.service_model.specs.Decoding.{Encodes}
 use Rattle.pbft_model.specs.Words.{Snapshot}
 use Rattle.pbft_model.specs.Sequential.{Service}
 use Rattle.pbft_model.specs.Setup.{Setup}

@@ -33,7 +33,7 @@ use std::alloc::Global;
 impl Core {
     // ---- the normal case (section 4.2)
 
-    pub fn send_pre_prepare(&mut self, number: SeqNo, digest: Digest) -> Result<(), Halt>
+    pub(crate) fn send_pre_prepare(&mut self, number: SeqNo, digest: Digest) -> Result<(), Halt>
         requires number { number.0 < 2 ^ 48 }
         requires leads { leads (setup_of self.old.config) self.old.me self.old.core ≡ true }
         ensures sent { OnOk result (Says self.old All (bodies.PrePrepare (pre_prepare_of (record { view = self.old.core.view; number = number.0; digest = digest.0 }))) self.new) }
@@ -56,7 +56,7 @@ impl Core {
         })
     }
 
-    pub fn send_prepare(&mut self, number: SeqNo, digest: Digest) -> Result<(), Halt>
+    pub(crate) fn send_prepare(&mut self, number: SeqNo, digest: Digest) -> Result<(), Halt>
         requires number { number.0 < 2 ^ 48 }
         requires follows { leads (setup_of self.old.config) self.old.me self.old.core ≡ false }
         ensures sent { OnOk result (Says self.old All (bodies.Prepare (record { view = record { 0 = self.old.core.view }; number = number; digest = digest })) self.new) }
@@ -75,7 +75,7 @@ impl Core {
         self.note_prepare(number)
     }
 
-    pub fn send_commit(&mut self, number: SeqNo, digest: Digest) -> Result<(), Halt>
+    pub(crate) fn send_commit(&mut self, number: SeqNo, digest: Digest) -> Result<(), Halt>
         requires number { number.0 < 2 ^ 48 }
         ensures sent { OnOk result (Says self.old All (bodies.Commit (record { view = record { 0 = self.old.core.view }; number = number; digest = digest })) self.new) }
         ensures short { IfErr result (IsShortOf self.old 1) }
@@ -95,7 +95,7 @@ impl Core {
 
     /// Executes the request of this digest at the next number. At a multiple of the interval the state
     /// after it is kept.
-    pub fn execute(&mut self, number: SeqNo, digest: Digest) -> Result<(), Halt>
+    pub(crate) fn execute(&mut self, number: SeqNo, digest: Digest) -> Result<(), Halt>
         requires sound { IsSound self.old.core.service }
         requires next { number.0 ≡ self.old.core.executed + 1 }
         requires number { number.0 < 2 ^ 48 }
@@ -143,7 +143,7 @@ impl Core {
     // ---- replies
 
     /// Sends the reply of the number just executed.
-    pub fn send_reply(&mut self) -> Result<(), Halt>
+    pub(crate) fn send_reply(&mut self) -> Result<(), Halt>
         requires due { IsSome self.old.core.reply_due }
         ensures sent { OnOk result (Fulfilled self.old (due_reply self.old.me self.old.core self.old.core.reply_due) self.new) }
         ensures short { IfErr result (IsShortOf self.old 1) }
@@ -160,7 +160,7 @@ impl Core {
     }
 
     /// Sends a client its last reply again.
-    pub fn answer_again(&mut self, client: ClientId) -> Result<(), Halt>
+    pub(crate) fn answer_again(&mut self, client: ClientId) -> Result<(), Halt>
         requires sound { IsSound self.old.core.service }
         requires kept { IsSome (last_reply_of self.old.core.service client.0) }
         ensures sent { (last : Reply) → last_reply_of self.old.core.service client.0 ≡ Some last → OnOk result (Says self.old (ToClient client.0) (reply_body self.old.core.view last) self.new) }
@@ -178,7 +178,7 @@ impl Core {
     // ---- what others lack
 
     /// Passes on a held request.
-    pub fn relay(&mut self, digest: &Digest, asker: ReplicaId) -> Result<(), Halt>
+    pub(crate) fn relay(&mut self, digest: &Digest, asker: ReplicaId) -> Result<(), Halt>
         requires held { IsSome (held_with (setup_of self.old.config) self.old.core.held digest.now.0) }
         ensures given { (m : Signed RequestBody) → held_with (setup_of self.old.config) self.old.core.held digest.now.0 ≡ Some m
             → OnOk result (Does self.old (Relay (ToReplica asker.0) (as_message bodies.Request m)) self.new) }
@@ -192,7 +192,7 @@ impl Core {
     }
 
     /// Sends the snapshot that is kept at a number.
-    pub fn send_snapshot(&mut self, number: SeqNo, asker: ReplicaId) -> Result<(), Halt>
+    pub(crate) fn send_snapshot(&mut self, number: SeqNo, asker: ReplicaId) -> Result<(), Halt>
         requires kept { IfSome (at self.old.core.snapshots (number_key number.0)) (λ bytes. length bytes ≤ 5_787_825) }
         requires some { IsSome (at self.old.core.snapshots (number_key number.0)) }
         requires number { number.0 < 2 ^ 48 }
@@ -211,7 +211,7 @@ impl Core {
         Ok(())
     }
 
-    pub fn fetch_state(&mut self, number: SeqNo) -> Result<(), Halt>
+    pub(crate) fn fetch_state(&mut self, number: SeqNo) -> Result<(), Halt>
         requires number { number.0 < 2 ^ 48 }
         ensures sent { OnOk result (Says self.old All (bodies.Fetch (fetches.State number)) self.new) }
         ensures short { IfErr result (IsShortOf self.old 1) }
@@ -220,7 +220,7 @@ impl Core {
         self.note_asked_state(number)
     }
 
-    pub fn fetch_request(&mut self, digest: Digest) -> Result<(), Halt>
+    pub(crate) fn fetch_request(&mut self, digest: Digest) -> Result<(), Halt>
         ensures sent { OnOk result (Says self.old All (bodies.Fetch (fetches.Request digest)) self.new) }
         ensures short { IfErr result (IsShortOf self.old 1) }
     {
@@ -231,7 +231,7 @@ impl Core {
     // ---- checkpoints (section 4.3)
 
     /// Sends the Checkpoint of the number just executed.
-    pub fn send_checkpoint(&mut self) -> Result<(), Halt>
+    pub(crate) fn send_checkpoint(&mut self) -> Result<(), Halt>
         requires number { self.old.core.executed < 2 ^ 48 }
         ensures sent { OnOk result (Says self.old All (bodies.Checkpoint (record { number = record { 0 = self.old.core.executed }; digest = record { 0 = sha256 (encoded self.old.core.service) } })) self.new) }
         ensures short { IfErr result (IsShortOf self.old 1) }
@@ -247,7 +247,7 @@ impl Core {
     }
 
     /// Installs the state that the Snapshot just taken reads as. No Checkpoint is sent for it.
-    pub fn install(&mut self) -> Result<(), Halt>
+    pub(crate) fn install(&mut self) -> Result<(), Halt>
         requires due { IsSome (due_install (setup_of self.old.config) self.old.core) }
         requires reads { (m : Signed Body) (b : Snapshot) (state : Service) → self.old.core.taken ≡ Some m → m.body ≡ bodies.Snapshot b → self.old.core.reading ≡ Some state
             → IsStateAt (setup_of self.old.config) b.number.0 b.state state }
@@ -274,7 +274,7 @@ impl Core {
     /// Raises the low mark to a stable number: all at or below it is discarded but the snapshot there. A
     /// request is forgotten whose time is not above its client's last, unless a PrePrepare that stays
     /// names it.
-    pub fn rise(&mut self, number: SeqNo, digest: Digest)
+    pub(crate) fn rise(&mut self, number: SeqNo, digest: Digest)
         requires above { self.old.core.low < number.0 }
         requires reached { number.0 ≤ self.old.core.executed }
         requires stable { is_stable (setup_of self.old.config) self.old.core.checkpoints number.0 digest.0 ≡ true }

@@ -36,7 +36,7 @@ impl Model for Certificates {
 
 impl Certificates {
     /// No certificate. It is refused only where the count of the configuration's handles is full.
-    pub fn new(alloc: Global, config: &Arc<Config>) -> Result<Certificates, AllocError>
+    pub(crate) fn new(alloc: Global, config: &Arc<Config>) -> Result<Certificates, AllocError>
         ensures { IfOk result (λ t. t ≡ record { config = config.now.value; kept = [] }) }
     {
         Ok(Certificates {
@@ -48,7 +48,11 @@ impl Certificates {
 
     /// Keeps a number's certificate in place of the one that it has. The caller owes a certificate under
     /// the same configuration. Where memory runs out, nothing changes.
-    pub fn keep(&mut self, number: SeqNo, certificate: CheckedCertificate) -> Result<(), AllocError>
+    pub(crate) fn keep(
+        &mut self,
+        number: SeqNo,
+        certificate: CheckedCertificate,
+    ) -> Result<(), AllocError>
         requires { (x : Certificate) × (certificate ≡ as_checked self.old.config x) }
         ensures kept { (x : Certificate) → certificate ≡ as_checked self.old.config x → OnOk result (self.new ≡ record self.old { kept = with_entry self.old.kept (number_key number.0) x }) }
         ensures unchanged { OnErr result (self.new ≡ self.old) }
@@ -57,14 +61,14 @@ impl Certificates {
     }
 
     /// Discards the certificates of the numbers up to this one. It takes no memory.
-    pub fn discard_to(&mut self, number: SeqNo)
+    pub(crate) fn discard_to(&mut self, number: SeqNo)
         ensures { self.new ≡ record self.old { kept = keep (is_above number.0) self.old.kept } }
     {
         drop_to(&mut self.kept, number);
     }
 
     /// The certificates, numbers ascending. Handles alone are copied.
-    pub fn list(&self) -> Result<Vec<CheckedCertificate>, AllocError>
+    pub(crate) fn list(&self) -> Result<Vec<CheckedCertificate>, AllocError>
         ensures { IfOk result (λ l. l.items ≡ map (as_checked self.now.config) (entries_in self.now.kept)) }
     {
         let mut list = Vec::new(self.alloc);

@@ -49,7 +49,7 @@ impl Model for Changes {
 
 impl Changes {
     /// No message. It is refused only where the count of the configuration's handles is full.
-    pub fn new(alloc: Global, config: &Arc<Config>) -> Result<Changes, AllocError>
+    pub(crate) fn new(alloc: Global, config: &Arc<Config>) -> Result<Changes, AllocError>
         ensures { IfOk result (λ t. t ≡ record { config = config.now.value; changes = [] }) }
     {
         Ok(Changes {
@@ -61,7 +61,7 @@ impl Changes {
 
     /// Keeps a ViewChange, unless one of its view and signer is kept. The caller owes a ViewChange under the
     /// same configuration. Where memory runs out, nothing changes.
-    pub fn keep(&mut self, message: &Checked) -> Result<(), AllocError>
+    pub(crate) fn keep(&mut self, message: &Checked) -> Result<(), AllocError>
         requires config { message.now.config ≡ self.old.config }
         requires kind { IsViewChange message.now.message.body }
         ensures kept { (b : ViewChange) → message.now.message.body ≡ bodies.ViewChange b → OnOk result (self.new ≡ record self.old { changes = add_if true (change_key b.view.0 message.now.message.id) (with_body message.now.message b) self.old.changes }) }
@@ -76,7 +76,7 @@ impl Changes {
     }
 
     /// A replica's ViewChange for a view, if it is kept.
-    pub fn of(&self, view: View, id: u8) -> Option<&Checked>
+    pub(crate) fn of(&self, view: View, id: u8) -> Option<&Checked>
         ensures found { option_copied result ≡ option_map (λ m. record { config = self.now.config; message = as_message bodies.ViewChange m }) (at self.now.changes (change_key view.0 id)) }
         ensures wanted { is_some result ≡ is_wanted self.now.changes view.0 id }
     {
@@ -84,14 +84,14 @@ impl Changes {
     }
 
     /// Drops the ViewChanges for lower views. It takes no memory.
-    pub fn drop_below(&mut self, view: View)
+    pub(crate) fn drop_below(&mut self, view: View)
         ensures { self.new ≡ record self.old { changes = keep (λ key. nat_le view.0 (first_in key)) self.old.changes } }
     {
         drop_lower(&mut self.changes, view);
     }
 
     /// Whether a replica's ViewChange for a view is kept. It takes no memory.
-    pub fn wants(&self, view: View, id: u8) -> bool
+    pub(crate) fn wants(&self, view: View, id: u8) -> bool
         ensures value { result ≡ is_wanted self.now.changes view.0 id }
         ensures core { (s : Core) → s.changes ≡ self.now.changes → s.view ≡ view.0 → result ≡ wants_view s id }
     {
@@ -99,7 +99,7 @@ impl Changes {
     }
 
     /// Whether ViewChanges of a quorum for a view are kept. It takes no memory.
-    pub fn has_quorum(&self, view: View) -> bool
+    pub(crate) fn has_quorum(&self, view: View) -> bool
         ensures { (s : Core) → s.changes ≡ self.now.changes → s.view ≡ view.0 → result ≡ has_quorum (setup_of self.now.config) (wants_view s) }
     {
         let mut count = 0;
@@ -113,7 +113,7 @@ impl Changes {
 
     /// The ViewChanges of an own NewView for a view: the own one, and the 2f of least signers among the
     /// others, signers ascending. Handles alone are copied.
-    pub fn chosen(&self, view: View, me: ReplicaId) -> Result<CheckedList, AllocError>
+    pub(crate) fn chosen(&self, view: View, me: ReplicaId) -> Result<CheckedList, AllocError>
         ensures { IfOk result (λ l. (s : Core) → s.changes ≡ self.now.changes → s.view ≡ view.0
             → l ≡ record { config = self.now.config; messages = map (as_message bodies.ViewChange) (chosen_changes (setup_of self.now.config) me.0 s) }) }
     {
@@ -134,7 +134,7 @@ impl Changes {
 
     /// The view to change to: the smallest of the views above this one, if more than f others have sent
     /// ViewChanges for such views. It takes no memory.
-    pub fn to_join(&self, view: View, me: ReplicaId) -> Option<View>
+    pub(crate) fn to_join(&self, view: View, me: ReplicaId) -> Option<View>
         ensures { (s : Core) → s.changes ≡ self.now.changes → s.view ≡ view.0
             → due_join (setup_of self.now.config) me.0 s ≡ option_map (λ w. change_to (setup_of self.now.config) me.0 s w.0) result }
     {

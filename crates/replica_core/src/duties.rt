@@ -9,6 +9,7 @@ ghost use Rattle.view_change.specs.Setups.{setup_of};
 ghost use Rattle.replica_core.specs.Meanings.{Finds, IsDue, at_once, by_taken, fetch_for, in_view};
 
 use crate::kept::{Core, digest_of};
+use host_types::limits::SEQUENCE_NUMBER_LIMIT;
 use host_types::{ClientId, Digest, ReplicaId, SeqNo, View};
 use pbft_codec::{Body, Fetch};
 use seal::Checked;
@@ -16,9 +17,6 @@ use view_change::valid_new_view;
 
 /// There is no view of this number or above.
 const VIEW_LIMIT: u64 = 4_294_967_296;
-
-/// There is no sequence number of this value or above.
-const NUMBER_LIMIT: u64 = 281_474_976_710_656;
 
 /// A duty: what is to be done.
 #[derive(Clone, Copy, Debug, PartialEq, Eq)]
@@ -55,7 +53,7 @@ pub(crate) enum Duty {
 
 impl Core {
     /// The first duty that is due. It takes no memory.
-    pub fn due(&self) -> Option<Duty>
+    pub(crate) fn due(&self) -> Option<Duty>
         ensures { IsDue (setup_of self.now.config) self.now.me self.now.core result }
     {
         if let Some(duty) = self.due_at_once() {
@@ -267,7 +265,7 @@ impl Core {
         if number > self.low().0 + self.span() {
             return None;
         }
-        if number == NUMBER_LIMIT {
+        if number == SEQUENCE_NUMBER_LIMIT {
             Some(Duty::WornOut)
         } else {
             Some(Duty::Propose(SeqNo(number), digest))

@@ -16,7 +16,7 @@ use service_core::Outcome;
 
 impl Core {
     /// Takes a request, or the null request, as the next number.
-    pub fn take_next(&mut self, request: Option<&Request>) -> Result<Outcome, Halt>
+    pub(crate) fn take_next(&mut self, request: Option<&Request>) -> Result<Outcome, Halt>
         requires number { self.old.core.executed + 1 < 2 ^ 48 }
         requires listed { IfSome (option_copied request) (λ taken. IsSome (entry_of self.old.config.clients taken.client.0)) }
         ensures step { IfOk result (λ outcome. IsStep self.old.core.service (option_copied request.entry) self.new.core.service outcome) }
@@ -26,7 +26,7 @@ impl Core {
         Ok(self.service.apply(request)?)
     }
 
-    pub fn note_done(&mut self, done: Done) -> Result<(), Halt>
+    pub(crate) fn note_done(&mut self, done: Done) -> Result<(), Halt>
         ensures noted { OnOk result (self.new ≡ record self.old { done = self.old.done ++ done_of done ∷ [] }) }
         ensures memory { IfErr result (λ halt. halt ≡ Memory) }
     {
@@ -35,7 +35,7 @@ impl Core {
     }
 
     /// Keeps the bytes of a state.
-    pub fn keep_snapshot(&mut self, number: SeqNo, bytes: Bytes) -> Result<(), Halt>
+    pub(crate) fn keep_snapshot(&mut self, number: SeqNo, bytes: Bytes) -> Result<(), Halt>
         ensures kept { OnOk result (self.new ≡ record self.old { core = record self.old.core { snapshots = with_entry self.old.core.snapshots (number_key number.0) bytes } }) }
         ensures memory { IfErr result (λ halt. halt ≡ Memory) }
     {
@@ -44,7 +44,7 @@ impl Core {
     }
 
     /// Keeps the state, if the number is a multiple of the interval.
-    pub fn keep_if_multiple(&mut self, number: SeqNo) -> Result<bool, Halt>
+    pub(crate) fn keep_if_multiple(&mut self, number: SeqNo) -> Result<bool, Halt>
         ensures multiple { IfOk result (λ multiple. multiple ≡ (number.0 % self.old.config.k == 0)) }
         ensures kept { OnOk result (self.new ≡ record self.old {
           core = record self.old.core {
@@ -62,7 +62,7 @@ impl Core {
     }
 
     /// What the execution leaves to send.
-    pub fn owe(&mut self, reply: Option<Reply>, checkpoint: bool)
+    pub(crate) fn owe(&mut self, reply: Option<Reply>, checkpoint: bool)
         requires short { IfSome reply (λ r. (length r.result ≤ 265) × (r.number.0 < 2 ^ 48)) }
         ensures { self.new ≡ record self.old { core = record self.old.core { reply_due = reply; checkpoint_due = checkpoint } } }
     {
@@ -71,7 +71,7 @@ impl Core {
     }
 
     /// Goes on from the state that the message just taken reads as.
-    pub fn go_on_from_reading(&mut self)
+    pub(crate) fn go_on_from_reading(&mut self)
         requires there { IsSome self.old.core.reading }
         requires fits { IfSome self.old.core.reading (λ state. (state.config ≡ self.old.config) × (self.old.core.low ≤ state.number) × (state.number < 2 ^ 48)) }
         ensures { (state : Service) → self.old.core.reading ≡ Some state → self.new ≡ record self.old {

@@ -17,7 +17,7 @@ use std::alloc::AllocError;
 impl Core {
     /// Takes a message, and does what it asks for, until nothing is due. After a halt the replica is of no
     /// use.
-    pub fn answer(&mut self, message: &Checked) -> Result<Row, Halt>
+    pub(crate) fn answer(&mut self, message: &Checked) -> Result<Row, Halt>
         requires config { message.now.config ≡ self.old.config }
         requires reached { IsSound self.old }
         requires rest { IsAtRest self.old }
@@ -30,7 +30,7 @@ impl Core {
     }
 
     /// Takes a timeout, and does what it asks for, until nothing is due. A halt is as at `answer`.
-    pub fn answer_timeout(&mut self) -> Result<Row, Halt>
+    pub(crate) fn answer_timeout(&mut self) -> Result<Row, Halt>
         requires reached { IsSound self.old }
         requires rest { IsAtRest self.old }
         ensures { Answers self.old inputs.Timeout result self.new }
@@ -84,14 +84,14 @@ impl Core {
     }
 
     /// The state of the service.
-    pub fn state(&self) -> &State
+    pub(crate) fn state(&self) -> &State
         ensures { result.now ≡ self.now.core.service }
     {
         &self.service
     }
 
     /// How many leaves have not signed.
-    pub fn leaves_left(&self) -> u32
+    pub(crate) fn leaves_left(&self) -> u32
         ensures { result ≡ leaf_count self.now.core.signer - self.now.core.signer.next_leaf }
     {
         self.signer.leaves_left()

@@ -55,7 +55,7 @@ pub(crate) struct Core {
 
 impl Model for Core {
     ghost use Rattle.std.specs.Coded.{codes};
-    ghost use Rattle.service_core.specs.Equality.{service_code};
+    ghost use Rattle.service_model.specs.Equality.{service_code};
     ghost use Rattle.replica_core.specs.Replicas.{AreOne, KeptReplica, kept_in};
 
     ghost Value = { KeptReplica };
@@ -69,7 +69,7 @@ impl Model for Core {
 
 impl Core {
     /// A replica before its first message: active in view 0, with the state that a service begins with.
-    pub fn new(
+    pub(crate) fn new(
         alloc: Global,
         config: &Arc<Config>,
         id: ReplicaId,
@@ -97,56 +97,56 @@ impl Core {
         })
     }
 
-    pub fn view(&self) -> View
+    pub(crate) fn view(&self) -> View
         ensures { result.0 ≡ self.now.core.view }
     {
         self.log.view()
     }
 
     /// Active in the view, or changing to it.
-    pub fn is_active(&self) -> bool
+    pub(crate) fn is_active(&self) -> bool
         ensures { result ≡ self.now.core.active }
     {
         self.log.floor().is_some()
     }
 
     /// The low water mark.
-    pub fn low(&self) -> SeqNo
+    pub(crate) fn low(&self) -> SeqNo
         ensures { result.0 ≡ self.now.core.low }
     {
         self.log.low()
     }
 
     /// How many numbers lie between the marks.
-    pub fn span(&self) -> u64
+    pub(crate) fn span(&self) -> u64
         ensures { result ≡ span (setup_of self.now.config) }
     {
         2 * u64::from(self.config.k())
     }
 
     /// The last executed number.
-    pub fn executed(&self) -> SeqNo
+    pub(crate) fn executed(&self) -> SeqNo
         ensures { result.0 ≡ self.now.core.executed }
     {
         self.service.number()
     }
 
     /// Whether this replica is the primary of its view.
-    pub fn leads(&self) -> bool
+    pub(crate) fn leads(&self) -> bool
         ensures { result ≡ leads (setup_of self.now.config) self.now.me self.now.core }
     {
         self.config.primary(self.view()) == self.id
     }
 
     /// The floor of the active view: the greatest low mark of the ViewChanges that it was entered by.
-    pub fn floor(&self) -> SeqNo
+    pub(crate) fn floor(&self) -> SeqNo
         ensures { result.0 ≡ floor_in self.now.core }
     {
         self.log.floor().unwrap_or(SeqNo(0))
     }
 
     /// Whether the digest is that of a held request, or of the null request.
-    pub fn is_known(&self, digest: &Digest) -> bool
+    pub(crate) fn is_known(&self, digest: &Digest) -> bool
         ensures { result ≡ is_known (setup_of self.now.config) self.now.core digest.now.0 }
     {
         *digest == null_digest() || self.requests.find(digest).is_some()
@@ -154,7 +154,7 @@ impl Core {
 
     /// The digest with which a number is prepared in this view: it is certified, and the request is held
     /// or null (section 4.2).
-    pub fn prepared_at(&self, number: SeqNo) -> Option<Digest>
+    pub(crate) fn prepared_at(&self, number: SeqNo) -> Option<Digest>
         ensures { result ≡ option_map (λ m. m.body.digest) (prepared_at (setup_of self.now.config) self.now.core number.0) }
     {
         let digest = self.log.pre_prepare(self.view(), number)?;
@@ -169,7 +169,7 @@ impl Core {
 
     /// The digest with which a number is committed in this view: it is prepared, and a quorum has
     /// committed (section 4.2).
-    pub fn committed_at(&self, number: SeqNo) -> Option<Digest>
+    pub(crate) fn committed_at(&self, number: SeqNo) -> Option<Digest>
         ensures { result ≡ option_map (λ m. m.body.digest) (if_passes (λ m. is_committed (setup_of self.now.config) self.now.core (of_pre_prepare m.body)) (pre_prepare_at (setup_of self.now.config) self.now.core self.now.core.view number.0)) }
     {
         let digest = self.prepared_at(number)?;
@@ -182,7 +182,7 @@ impl Core {
 
     /// The next number: one above the greatest of the low mark, the floor, and the numbers of PrePrepares
     /// of this view; the list of an own NewView counts whole.
-    pub fn next_number(&self) -> u64
+    pub(crate) fn next_number(&self) -> u64
         requires active { self.now.core.active ≡ true }
         ensures value { result ≡ next_number self.now.core }
         ensures limit { result ≤ 2 ^ 48 }
@@ -198,7 +198,7 @@ impl Core {
 
     /// Whether a ViewChange or a NewView for this view is awaited: the view is above the replica's, or the
     /// one that it changes to.
-    pub fn is_awaited(&self, view: View) -> bool
+    pub(crate) fn is_awaited(&self, view: View) -> bool
         ensures { result ≡ is_awaited self.now.core view.0 }
     {
         view > self.view() || (view == self.view() && !self.is_active())

@@ -15,14 +15,14 @@ use pbft_codec::PrePrepare;
 
 impl Core {
     /// An act was done: what is asked as a message comes is asked no more.
-    pub fn note_act(&mut self)
+    pub(crate) fn note_act(&mut self)
         ensures { self.new ≡ record self.old { core = acted self.old.core } }
     {
         self.step.is_fresh = false;
         self.step.timed_out = false;
     }
 
-    pub fn note_proposal(&mut self, proposal: Proposal) -> Result<(), Halt>
+    pub(crate) fn note_proposal(&mut self, proposal: Proposal) -> Result<(), Halt>
         requires { proposal.number.0 < 2 ^ 48 }
         ensures noted { OnOk result (self.new ≡ record self.old { core = record self.old.core { proposed = fields_of proposal ∷ self.old.core.proposed } }) }
         ensures memory { IfErr result (λ halt. halt ≡ Memory) }
@@ -31,7 +31,7 @@ impl Core {
     }
 
     /// The proposals of an own NewView count whole.
-    pub fn note_proposals(&mut self, list: &[PrePrepare]) -> Result<(), Halt>
+    pub(crate) fn note_proposals(&mut self, list: &[PrePrepare]) -> Result<(), Halt>
         requires { AllByRecursion (λ p. p.number.0 < 2 ^ 48) list.now }
         ensures noted { OnOk result (self.new ≡ record self.old { core = record self.old.core { proposed = map of_pre_prepare list.now } }) }
         ensures memory { IfErr result (λ halt. halt ≡ Memory) }
@@ -39,28 +39,28 @@ impl Core {
         Ok(self.sent.propose_all(list)?)
     }
 
-    pub fn note_prepare(&mut self, number: SeqNo) -> Result<(), Halt>
+    pub(crate) fn note_prepare(&mut self, number: SeqNo) -> Result<(), Halt>
         ensures noted { OnOk result (self.new ≡ record self.old { core = record self.old.core { prepared_numbers = number.0 ∷ self.old.core.prepared_numbers } }) }
         ensures memory { IfErr result (λ halt. halt ≡ Memory) }
     {
         Ok(self.sent.prepare(number)?)
     }
 
-    pub fn note_commit(&mut self, number: SeqNo) -> Result<(), Halt>
+    pub(crate) fn note_commit(&mut self, number: SeqNo) -> Result<(), Halt>
         ensures noted { OnOk result (self.new ≡ record self.old { core = record self.old.core { committed_numbers = number.0 ∷ self.old.core.committed_numbers } }) }
         ensures memory { IfErr result (λ halt. halt ≡ Memory) }
     {
         Ok(self.sent.commit(number)?)
     }
 
-    pub fn note_asked_state(&mut self, number: SeqNo) -> Result<(), Halt>
+    pub(crate) fn note_asked_state(&mut self, number: SeqNo) -> Result<(), Halt>
         ensures noted { OnOk result (self.new ≡ record self.old { core = record self.old.core { asked_states = number.0 ∷ self.old.core.asked_states } }) }
         ensures memory { IfErr result (λ halt. halt ≡ Memory) }
     {
         Ok(self.sent.ask_state(number)?)
     }
 
-    pub fn note_asked_request(&mut self, digest: Digest) -> Result<(), Halt>
+    pub(crate) fn note_asked_request(&mut self, digest: Digest) -> Result<(), Halt>
         ensures noted { OnOk result (self.new ≡ record self.old { core = record self.old.core { asked_requests = digest.0 ∷ self.old.core.asked_requests } }) }
         ensures memory { IfErr result (λ halt. halt ≡ Memory) }
     {
@@ -68,14 +68,14 @@ impl Core {
     }
 
     /// The reply of the number just executed is sent.
-    pub fn note_reply(&mut self)
+    pub(crate) fn note_reply(&mut self)
         ensures { self.new ≡ record self.old { core = record self.old.core { reply_due = None } } }
     {
         self.step.reply_due = None;
     }
 
     /// The Checkpoint of the number just executed is sent.
-    pub fn note_checkpoint(&mut self)
+    pub(crate) fn note_checkpoint(&mut self)
         ensures { self.new ≡ record self.old { core = record self.old.core { checkpoint_due = false } } }
     {
         self.step.checkpoint_due = false;

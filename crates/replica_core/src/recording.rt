@@ -24,7 +24,7 @@ use view_change::{valid, valid_new_view};
 
 impl Core {
     /// Records a message. Own messages are recorded as they are sent.
-    pub fn record(&mut self, message: &Checked) -> Result<(), Halt>
+    pub(crate) fn record(&mut self, message: &Checked) -> Result<(), Halt>
         requires config { message.now.config ≡ self.old.config }
         ensures recorded { OnOk result (self.new ≡ record self.old { core = recorded (setup_of self.old.config) self.old.core message.now.message message.now.message.body }) }
         ensures memory { IfErr result (λ halt. halt ≡ Memory) }
@@ -53,7 +53,7 @@ impl Core {
 
     /// A vote is recorded if its view is not below the replica's and its number lies between the marks,
     /// and in the active view above the floor: the first of each kind, view, number and signer counts.
-    pub fn record_vote(&mut self, message: &Checked) -> Result<(), Halt>
+    pub(crate) fn record_vote(&mut self, message: &Checked) -> Result<(), Halt>
         requires config { message.now.config ≡ self.old.config }
         requires vote { IsSome (vote_of message.now.message) }
         ensures recorded { OnOk result (self.new ≡ record self.old { core = recorded (setup_of self.old.config) self.old.core message.now.message message.now.message.body }) }
@@ -63,7 +63,7 @@ impl Core {
     }
 
     /// A Checkpoint above the low mark is recorded: the first of each number and signer counts.
-    pub fn record_checkpoint(&mut self, message: &Checked) -> Result<(), Halt>
+    pub(crate) fn record_checkpoint(&mut self, message: &Checked) -> Result<(), Halt>
         requires config { message.now.config ≡ self.old.config }
         requires kind { IsSome (checkpoint_of message.now.message) }
         ensures recorded { OnOk result (self.new ≡ record self.old { core = recorded (setup_of self.old.config) self.old.core message.now.message message.now.message.body }) }
@@ -110,7 +110,7 @@ impl Core {
 
     /// The reading of a message as a state: that of a Snapshot is the state that its bytes encode at its
     /// number, if there is one.
-    pub fn reading_of(&self, message: &Checked) -> Result<Option<State>, Halt>
+    pub(crate) fn reading_of(&self, message: &Checked) -> Result<Option<State>, Halt>
         ensures reading { IfOk result (IsReading (setup_of self.now.config) message.now.message.body) }
         ensures memory { IfErr result (λ halt. halt ≡ Memory) }
     {

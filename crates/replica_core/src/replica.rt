@@ -53,7 +53,7 @@ pub struct Replica {
 impl Model for Replica {
     ghost use Rattle.std.specs.Coded.{codes};
     ghost use Rattle.std.specs.Option.{option_map};
-    ghost use Rattle.service_core.specs.Equality.{service_code};
+    ghost use Rattle.service_model.specs.Equality.{service_code};
     ghost use Rattle.replica_core.specs.Answering.{IsWhole};
     ghost use Rattle.replica_core.specs.Steps.{ReplicaFacts};
 

@@ -50,7 +50,7 @@ impl Model for Requests {
 
 impl Requests {
     /// No request. It is refused only where the count of the configuration's handles is full.
-    pub fn new(alloc: Global, config: &Arc<Config>) -> Result<Requests, AllocError>
+    pub(crate) fn new(alloc: Global, config: &Arc<Config>) -> Result<Requests, AllocError>
         ensures { IfOk result (λ t. t ≡ record { config = config.now.value; held = [] }) }
     {
         Ok(Requests {
@@ -61,7 +61,7 @@ impl Requests {
 
     /// Holds a request, unless one of its digest is held. The caller owes a Request under the same
     /// configuration. Where memory runs out, nothing changes.
-    pub fn add(&mut self, message: &Checked) -> Result<(), AllocError>
+    pub(crate) fn add(&mut self, message: &Checked) -> Result<(), AllocError>
         requires config { message.now.config ≡ self.old.config }
         requires kind { IsRequest message.now.message.body }
         ensures added { (b : RequestBody) → message.now.message.body ≡ bodies.Request b → OnOk result (self.new ≡ record self.old { held = add_request (setup_of self.old.config) (with_body message.now.message b) self.old.held }) }
@@ -76,7 +76,7 @@ impl Requests {
     }
 
     /// The request of a digest, if it is held. It takes no memory.
-    pub fn find(&self, digest: &Digest) -> Option<&Checked>
+    pub(crate) fn find(&self, digest: &Digest) -> Option<&Checked>
         ensures { option_copied result ≡ option_map (λ m. record { config = self.now.config; message = as_message bodies.Request m }) (held_with (setup_of self.now.config) self.now.held digest.now.0) }
     {
         match find_held(&self.held, digest) {
@@ -88,7 +88,7 @@ impl Requests {
     /// The digest of the first request that is new and not proposed in the view: its time is above that of
     /// its client's last reply, and neither a recorded PrePrepare of the view nor an own proposal names it.
     /// It takes no memory.
-    pub fn first_new(
+    pub(crate) fn first_new(
         &self,
         service: &State,
         log: &QuorumLog,
@@ -105,7 +105,7 @@ impl Requests {
     }
 
     /// Forgets the requests that are not new, but those that a recorded PrePrepare names. It takes no memory.
-    pub fn forget(&mut self, service: &State, log: &QuorumLog)
+    pub(crate) fn forget(&mut self, service: &State, log: &QuorumLog)
         ensures { self.new ≡ record self.old { held = still_held (setup_of self.old.config) service.now (entries_in log.now.log.pre_prepares) self.old.held } }
     {
         retain(&mut self.held, service, log);

@@ -18,7 +18,7 @@ use seal::{Checked, seal};
 
 impl Core {
     /// Whether the signer has so many leaves, or `Exhausted`.
-    pub fn need_leaves(&self, many: u32) -> Result<(), Halt>
+    pub(crate) fn need_leaves(&self, many: u32) -> Result<(), Halt>
         ensures enough { IfOk result (λ _. self.now.core.signer.next_leaf + many ≤ leaf_count self.now.core.signer) }
         ensures short { IfErr result (IsShortOf self.now many) }
     {
@@ -30,7 +30,7 @@ impl Core {
     }
 
     /// An own message of this body, signed with the next leaf.
-    pub fn sign(&mut self, body: Body) -> Result<Checked, Halt>
+    pub(crate) fn sign(&mut self, body: Body) -> Result<Checked, Halt>
         requires role { IsTrue (may_sign self.old.config roles.Replica self.old.me body) }
         requires sealable { IsSealable self.old.config body }
         ensures signed { IfOk result (λ m. m ≡ record { config = self.old.config; message = sealed_message self.old.core.signer roles.Replica self.old.me body }) }
@@ -52,7 +52,7 @@ impl Core {
     }
 
     /// Gives a message: an own one, or another's that is passed on.
-    pub fn give(&mut self, to: Dest, message: &Checked, own: bool) -> Result<(), Halt>
+    pub(crate) fn give(&mut self, to: Dest, message: &Checked, own: bool) -> Result<(), Halt>
         ensures given { OnOk result (self.new ≡ record self.old { outputs = self.old.outputs ++ record { to = destination_of to; message = message.now.message; own = own } ∷ [] }) }
         ensures memory { IfErr result (λ halt. halt ≡ Memory) }
     {
@@ -62,7 +62,7 @@ impl Core {
     }
 
     /// Signs a body and gives the message.
-    pub fn send(&mut self, to: Dest, body: Body) -> Result<Checked, Halt>
+    pub(crate) fn send(&mut self, to: Dest, body: Body) -> Result<Checked, Halt>
         requires role { IsTrue (may_sign self.old.config roles.Replica self.old.me body) }
         requires sealable { IsSealable self.old.config body }
         ensures signed { IfOk result (λ m. m ≡ record { config = self.old.config; message = sealed_message self.old.core.signer roles.Replica self.old.me body }) }

@@ -51,7 +51,7 @@ impl Sent {
     ghost use Rattle.replica_core.specs.Stores.{KeptSent, nothing_sent, only_states_asked, sent_above};
 
     /// Nothing sent and nothing asked for.
-    pub fn new(alloc: Global) -> Sent
+    pub(crate) fn new(alloc: Global) -> Sent
         ensures { result ≡ nothing_sent }
     {
         Sent {
@@ -65,7 +65,7 @@ impl Sent {
     }
 
     /// Notes an own proposal.
-    pub fn propose(&mut self, proposal: Proposal) -> Result<(), AllocError>
+    pub(crate) fn propose(&mut self, proposal: Proposal) -> Result<(), AllocError>
         ensures proposed { OnOk result (self.new ≡ record self.old { proposed = fields_of proposal ∷ self.old.proposed }) }
         ensures unchanged { OnErr result (self.new ≡ self.old) }
     {
@@ -74,7 +74,7 @@ impl Sent {
     }
 
     /// Notes the PrePrepares of an own NewView in place of the proposals.
-    pub fn propose_all(&mut self, list: &[PrePrepare]) -> Result<(), AllocError>
+    pub(crate) fn propose_all(&mut self, list: &[PrePrepare]) -> Result<(), AllocError>
         ensures proposed { OnOk result (self.new ≡ record self.old { proposed = map of_pre_prepare list.now }) }
         ensures unchanged { OnErr result (self.new ≡ self.old) }
     {
@@ -83,7 +83,7 @@ impl Sent {
     }
 
     /// Notes that a Prepare for this number was sent.
-    pub fn prepare(&mut self, number: SeqNo) -> Result<(), AllocError>
+    pub(crate) fn prepare(&mut self, number: SeqNo) -> Result<(), AllocError>
         ensures prepared { OnOk result (self.new ≡ record self.old { prepared = number.0 ∷ self.old.prepared }) }
         ensures unchanged { OnErr result (self.new ≡ self.old) }
     {
@@ -92,7 +92,7 @@ impl Sent {
     }
 
     /// Notes that a Commit for this number was sent.
-    pub fn commit(&mut self, number: SeqNo) -> Result<(), AllocError>
+    pub(crate) fn commit(&mut self, number: SeqNo) -> Result<(), AllocError>
         ensures committed { OnOk result (self.new ≡ record self.old { committed = number.0 ∷ self.old.committed }) }
         ensures unchanged { OnErr result (self.new ≡ self.old) }
     {
@@ -101,7 +101,7 @@ impl Sent {
     }
 
     /// Notes that the snapshot at this number was asked for.
-    pub fn ask_state(&mut self, number: SeqNo) -> Result<(), AllocError>
+    pub(crate) fn ask_state(&mut self, number: SeqNo) -> Result<(), AllocError>
         ensures asked { OnOk result (self.new ≡ record self.old { asked_states = number.0 ∷ self.old.asked_states }) }
         ensures unchanged { OnErr result (self.new ≡ self.old) }
     {
@@ -110,7 +110,7 @@ impl Sent {
     }
 
     /// Notes that the request of this digest was asked for.
-    pub fn ask_request(&mut self, digest: Digest) -> Result<(), AllocError>
+    pub(crate) fn ask_request(&mut self, digest: Digest) -> Result<(), AllocError>
         ensures asked { OnOk result (self.new ≡ record self.old { asked_requests = digest.0 ∷ self.old.asked_requests }) }
         ensures unchanged { OnErr result (self.new ≡ self.old) }
     {
@@ -119,7 +119,7 @@ impl Sent {
     }
 
     /// Forgets what counts only in the view that is left. It takes no memory.
-    pub fn clear_view(&mut self)
+    pub(crate) fn clear_view(&mut self)
         ensures { self.new ≡ only_states_asked self.old }
     {
         self.proposed.clear();
@@ -129,7 +129,7 @@ impl Sent {
     }
 
     /// Forgets what is at or below a number. It takes no memory.
-    pub fn discard_to(&mut self, number: SeqNo)
+    pub(crate) fn discard_to(&mut self, number: SeqNo)
         ensures { self.new ≡ sent_above number.0 self.old }
     {
         discard_proposals(&mut self.proposed, number);
@@ -139,42 +139,42 @@ impl Sent {
     }
 
     /// Whether a Prepare for this number was sent.
-    pub fn has_prepared(&self, number: SeqNo) -> bool
+    pub(crate) fn has_prepared(&self, number: SeqNo) -> bool
         ensures { result ≡ list_any (λ n. n == number.0) self.now.prepared }
     {
         is_among(&self.prepared, number)
     }
 
     /// Whether a Commit for this number was sent.
-    pub fn has_committed(&self, number: SeqNo) -> bool
+    pub(crate) fn has_committed(&self, number: SeqNo) -> bool
         ensures { result ≡ list_any (λ n. n == number.0) self.now.committed }
     {
         is_among(&self.committed, number)
     }
 
     /// Whether the snapshot at this number was asked for.
-    pub fn has_asked_state(&self, number: SeqNo) -> bool
+    pub(crate) fn has_asked_state(&self, number: SeqNo) -> bool
         ensures { result ≡ list_any (λ n. n == number.0) self.now.asked_states }
     {
         is_among(&self.asked_states, number)
     }
 
     /// Whether the request of this digest was asked for.
-    pub fn has_asked_request(&self, digest: &Digest) -> bool
+    pub(crate) fn has_asked_request(&self, digest: &Digest) -> bool
         ensures { result ≡ list_any (λ d. bytes_eq d digest.now.0) self.now.asked_requests }
     {
         is_asked(&self.asked_requests, digest)
     }
 
     /// Whether an own proposal names this digest.
-    pub fn has_proposed(&self, digest: &Digest) -> bool
+    pub(crate) fn has_proposed(&self, digest: &Digest) -> bool
         ensures { result ≡ list_any (λ x. bytes_eq x.digest digest.now.0) self.now.proposed }
     {
         is_named(&self.proposed, digest)
     }
 
     /// The greatest number of an own proposal, or 0.
-    pub fn greatest(&self) -> SeqNo
+    pub(crate) fn greatest(&self) -> SeqNo
         ensures { result.0 ≡ greatest_of (map (λ x. x.number) self.now.proposed) }
     {
         SeqNo(greatest_number(&self.proposed))

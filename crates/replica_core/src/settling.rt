@@ -15,7 +15,7 @@ use crate::kept::Core;
 
 impl Core {
     /// Does what is due, one duty after another, until nothing is.
-    pub fn settle(&mut self) -> Result<(), Halt>
+    pub(crate) fn settle(&mut self) -> Result<(), Halt>
         requires reached { IsReached (setup_of self.old.config) self.old.me self.old.core }
         ensures settled { OnOk result (Settles self.old self.new) }
         ensures halted { IfErr result (HaltsAfter self.old) }

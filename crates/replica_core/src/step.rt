@@ -30,7 +30,7 @@ pub(crate) struct Step {
 
 impl Step {
     /// Nothing was taken, and nothing was done. It takes no memory.
-    pub fn none(alloc: Global) -> Step
+    pub(crate) fn none(alloc: Global) -> Step
         ensures taken { result.taken ≡ None }
         ensures reading { result.reading ≡ None }
         ensures fresh { result.is_fresh ≡ false }

@@ -31,7 +31,7 @@ impl Core {
     // ---- leaving
 
     /// Changes to a higher view: a ViewChange to all.
-    pub fn change_to(&mut self, view: View) -> Result<(), Halt>
+    pub(crate) fn change_to(&mut self, view: View) -> Result<(), Halt>
         requires higher { self.old.core.view < view.0 }
         requires reached { IsReached (setup_of self.old.config) self.old.me self.old.core }
         ensures says { OnOk result (Says self.old All (bodies.ViewChange (view_change_of (setup_of self.old.config) self.old.core view.0)) self.new) }
@@ -102,7 +102,7 @@ impl Core {
     // ---- entering
 
     /// Enters the view of the NewView just taken.
-    pub fn enter_taken(&mut self) -> Result<(), Halt>
+    pub(crate) fn enter_taken(&mut self) -> Result<(), Halt>
         requires due { IsSome (due_enter (setup_of self.old.config) self.old.core) }
         ensures entered { OnOk result (Fulfilled self.old (due_enter (setup_of self.old.config) self.old.core) self.new) }
         ensures memory { IfErr result (λ halt. halt ≡ Memory) }
@@ -143,7 +143,7 @@ impl Core {
     // ---- opening
 
     /// Opens the view as its primary: NewView to all.
-    pub fn open_view(&mut self) -> Result<(), Halt>
+    pub(crate) fn open_view(&mut self) -> Result<(), Halt>
         requires due { IsSome (due_open (setup_of self.old.config) self.old.me self.old.core) }
         requires reached { IsReached (setup_of self.old.config) self.old.me self.old.core }
         ensures opened { OnOk result (Says self.old All (bodies.NewView (new_view_of (setup_of self.old.config) self.old.me self.old.core)) self.new) }

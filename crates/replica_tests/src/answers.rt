@@ -4,7 +4,7 @@ ghost use Rattle.std.specs.Prelude.{◌≡◌, ◌<◌, IfOk};
 
 use crate::messages::{cast, checkpoint, config, signers};
 use crate::view_messages::{
-    ChangeCase, NewViewCase, answer, change, checked, digest_of, new_view_of, proposal, replicas,
+    change, checked, digest_of, fault_name, new_view_of, proposal, replicas,
 };
 use checkpoints::Checkpoints;
 use host_types::{Bytes, Config, Digest, SeqNo, View};
@@ -18,33 +18,41 @@ use std::sync::Arc;
 use std::test::Fail;
 use view_change::{floor_of, make_new_view, null_digest};
 
-// A vote: its signer, kind, view, number and digest.
-type VoteCase = (u8, u8, u32, u64, u8);
+/// Proposals for three numbers of two views, and the Prepares of two backups for the first: signer, kind, view, number
+/// and digest each.
+const VOTES: &str = "\
+0 0 0 1 7\n\
+0 0 0 3 8\n\
+1 0 1 2 9\n\
+1 1 0 1 7\n\
+2 1 0 1 7\n\
+";
 
-// Proposals for three numbers of two views, and the Prepares of two backups for the first.
-static VOTES: [VoteCase; 5] = [
-    (0, 0, 0, 1, 7),
-    (0, 0, 0, 3, 8),
-    (1, 0, 1, 2, 9),
-    (1, 1, 0, 1, 7),
-    (2, 1, 0, 1, 7),
-];
+/// The numbers of a line.
+fn vote_of(line: &str) -> Result<[u8; 5], Fail> {
+    let mut numbers = [0; 5];
+    for (number, word) in numbers.iter_mut().zip(line.split(' ')) {
+        *number = word.parse()?;
+    }
+    Ok(numbers)
+}
 
-// Records these votes.
+/// Records these votes.
 fn record(
     alloc: Global,
     config: &Arc<Config>,
     signers: &mut [Signer],
     log: &mut QuorumLog,
-    votes: &[VoteCase],
+    votes: &str,
 ) -> Result<bool, Fail>
     requires { log.old.config ≡ config.now.value }
 {
     let mut all = true;
-    for (id, kind, view, number, digest) in votes {
-        if *number < 16 {
-            let (view, number) = (View(*view), SeqNo(*number));
-            let message = cast(alloc, config, signers, *id, *kind, view, number, *digest)?;
+    for line in votes.lines() {
+        let [id, kind, view, number, digest] = vote_of(line)?;
+        if number < 16 {
+            let (view, number) = (View(u32::from(view)), SeqNo(u64::from(number)));
+            let message = cast(alloc, config, signers, id, kind, view, number, digest)?;
             all = all && accept(log, &message);
         }
     }
@@ -68,7 +76,7 @@ fn a_log_reports_names_and_numbers(rt: HostRuntime) -> Result<(), Fail> {
     let config = config(alloc, &signers)?;
     let mut log = QuorumLog::new(alloc, &config)?;
     assert_eq!(rt; log.greatest_in(View(0)), None);
-    let recorded = record(alloc, &config, &mut signers, &mut log, &VOTES)?;
+    let recorded = record(alloc, &config, &mut signers, &mut log, VOTES)?;
     assert_eq!(rt; recorded, true);
     assert_eq!(rt; (log.low(), log.floor()), (SeqNo(0), Some(SeqNo(0))));
     let (seven, nine) = (Digest([7; 32]), Digest([9; 32]));
@@ -93,7 +101,7 @@ fn a_certificate_is_copied(rt: HostRuntime) -> Result<(), Fail> {
     let mut signers = signers(alloc, 10)?;
     let config = config(alloc, &signers)?;
     let mut log = QuorumLog::new(alloc, &config)?;
-    let recorded = record(alloc, &config, &mut signers, &mut log, &VOTES)?;
+    let recorded = record(alloc, &config, &mut signers, &mut log, VOTES)?;
     assert_eq!(rt; recorded, true);
     let certificate = log.certificate(View(0), SeqNo(1))?.ok_or("not certified")?;
     let copy = certificate.copy()?;
@@ -102,13 +110,13 @@ fn a_certificate_is_copied(rt: HostRuntime) -> Result<(), Fail> {
     Ok(())
 }
 
-// SHA-256 of "abc" (FIPS 180-4's example).
+/// SHA-256 of "abc" (FIPS 180-4's example).
 static OF_ABC: [u8; 32] = [
     0xba, 0x78, 0x16, 0xbf, 0x8f, 0x01, 0xcf, 0xea, 0x41, 0x41, 0x40, 0xde, 0x5d, 0xae, 0x22, 0x23,
     0xb0, 0x03, 0x61, 0xa3, 0x96, 0x17, 0x7a, 0x9c, 0xb4, 0x10, 0xff, 0x61, 0xf2, 0x00, 0x15, 0xad,
 ];
 
-// Notes the Checkpoints of replicas 0 to 2 at this number.
+/// Notes the Checkpoints of replicas 0 to 2 at this number.
 fn note_three(
     alloc: Global,
     config: &Arc<Config>,
@@ -157,11 +165,11 @@ fn the_greatest_kept_snapshot_that_is_stable(rt: HostRuntime) -> Result<(), Fail
     Ok(())
 }
 
-// A ViewChange for view 1 at low mark 8.
-const AT_8: ChangeCase = (1, 8, &[(0, 8, 5), (1, 8, 5), (3, 8, 5)], &[]);
+/// A ViewChange for view 1 at low mark 8.
+const AT_8: &str = "1 low 8, proof 0:8:5 1:8:5 3:8:5";
 
-// A NewView with such a ViewChange, and two proposals.
-static ENTRY: NewViewCase = (1, &[(0, AT_8)], &[(1, 9, 0), (1, 10, 7)]);
+/// A NewView with such a ViewChange, and two proposals.
+const ENTRY: &str = "1; 0 1 low 8, proof 0:8:5 1:8:5 3:8:5; with 1/9/0 1/10/7";
 
 fn put(list: &mut CheckedList, message: Checked) -> Result<(), AllocError>
     requires { message.config ≡ list.old.config }
@@ -170,7 +178,7 @@ fn put(list: &mut CheckedList, message: Checked) -> Result<(), AllocError>
     list.push(message)
 }
 
-// Three ViewChanges.
+/// Three ViewChanges.
 fn three_changes(
     alloc: Global,
     config: &Arc<Config>,
@@ -180,7 +188,7 @@ fn three_changes(
 {
     let mut list = CheckedList::new(alloc, config)?;
     for id in 0..3 {
-        let body = change(alloc, signers, &AT_8)?;
+        let body = change(alloc, signers, AT_8)?;
         put(
             &mut list,
             checked(alloc, config, signers, id, Body::ViewChange(body))?,
@@ -199,7 +207,7 @@ fn a_new_view_is_made_and_reported(rt: HostRuntime) -> Result<(), Fail> {
         assert_eq!(rt; floor_of(entry.changes.as_slice()), SeqNo(8));
     }
     let message = checked(alloc, &config, &mut signers, 1, body)?;
-    assert_eq!(rt; answer(&config, &message), 0);
+    assert!(rt; fault_name(alloc, &config, &message)?.as_str() == "-");
     assert_eq!(rt; nested_checkpoints(alloc, &message)?.len(), 9);
     assert_eq!(rt; nested_pre_prepares(alloc, &message)?.len(), 0);
     assert_eq!(rt; changes.copy()?.len(), 3);
@@ -210,7 +218,7 @@ fn a_new_view_is_made_and_reported(rt: HostRuntime) -> Result<(), Fail> {
 fn the_nested_messages_are_reported(rt: HostRuntime) -> Result<(), Fail> {
     let alloc = rt.alloc();
     let (mut signers, config) = replicas(alloc, 13)?;
-    let entry = new_view_of(alloc, &mut signers, &ENTRY)?;
+    let entry = new_view_of(alloc, &mut signers, ENTRY)?;
     let message = checked(alloc, &config, &mut signers, 1, Body::NewView(entry))?;
     let proposals = nested_pre_prepares(alloc, &message)?;
     let last = proposals.as_slice().last().and_then(|inside| inside.vote());

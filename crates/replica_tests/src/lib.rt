@@ -11,15 +11,13 @@ mod log;
 #[cfg(test)]
 mod messages;
 #[cfg(test)]
-mod new_views;
-#[cfg(test)]
 mod openings;
 #[cfg(test)]
 mod sealing;
 #[cfg(test)]
 mod stable;
 #[cfg(test)]
-mod view_changes;
+mod validity;
 #[cfg(test)]
 mod view_messages;
 #[cfg(test)]

@@ -13,7 +13,7 @@ use std::process::Abort;
 use std::sync::Arc;
 use std::test::Fail;
 
-// Notes a Checkpoint of the same configuration.
+/// Notes a Checkpoint of the same configuration.
 fn note(kept: &mut Checkpoints, message: &Checked) -> Option<CheckpointFault>
     requires { message.now.config ≡ kept.old.config }
     ensures { kept.new.config ≡ kept.old.config }
@@ -24,7 +24,7 @@ fn note(kept: &mut Checkpoints, message: &Checked) -> Option<CheckpointFault>
     }
 }
 
-// The signers of the proof of a number, in order.
+/// The signers of the proof of a number, in order.
 fn provers(alloc: Global, kept: &Checkpoints, number: u64) -> Result<Vec<u32>, Fail> {
     let proof = kept.proof(SeqNo(number))?;
     let mut ids = Vec::new(alloc);
@@ -34,49 +34,64 @@ fn provers(alloc: Global, kept: &Checkpoints, number: u64) -> Result<Vec<u32>, F
     Ok(ids)
 }
 
-// The first byte of the digest that is stable at a number.
+/// The first byte of the digest that is stable at a number.
 fn stable(kept: &Checkpoints, number: u64) -> Option<u8> {
     kept.stable(SeqNo(number)).map(|digest| digest.0[0])
 }
 
-// Signer, number and digest of a Checkpoint, its fault, and the digest that is stable at 2 then.
-type Row = (u8, u64, u8, Option<CheckpointFault>, Option<u8>);
+/// Signer, number and digest of a Checkpoint; its fault, and the digest that is stable at 2 then.
+const NOTES: &str = "\
+3 2 7 => - -\n\
+1 2 8 => - -\n\
+1 2 7 => DigestDiffers -\n\
+1 2 8 => - -\n\
+0 2 7 => - -\n\
+2 4 7 => - -\n\
+2 2 7 => - 7\n\
+0 0 7 => Old 7\n\
+";
 
-static NOTES: [Row; 8] = [
-    (3, 2, 7, None, None),
-    (1, 2, 8, None, None),
-    (1, 2, 7, Some(CheckpointFault::DigestDiffers), None),
-    (1, 2, 8, None, None),
-    (0, 2, 7, None, None),
-    (2, 4, 7, None, None),
-    (2, 2, 7, None, Some(7)),
-    (0, 0, 7, Some(CheckpointFault::Old), Some(7)),
-];
+/// The numbers of a Checkpoint.
+fn checkpoint_of(said: &str) -> Result<[u8; 3], Fail> {
+    let mut numbers = [0; 3];
+    for (number, word) in numbers.iter_mut().zip(said.split(' ')) {
+        *number = word.parse()?;
+    }
+    Ok(numbers)
+}
 
-// Notes these Checkpoints one after another, and returns whether each answer and the stable digest are
-// as they must be.
+/// The name of a fault, `-` for none.
+fn name_of(fault: Option<CheckpointFault>) -> &'static str {
+    match fault {
+        None => "-",
+        Some(CheckpointFault::Old) => "Old",
+        Some(CheckpointFault::DigestDiffers) => "DigestDiffers",
+        Some(CheckpointFault::Memory) => "Memory",
+    }
+}
+
+/// Notes these Checkpoints one after another, and returns whether each answer and the stable digest are
+/// as they must be.
 fn answers(
     alloc: Global,
     config: &Arc<Config>,
     signers: &mut [Signer],
     kept: &mut Checkpoints,
-    rows: &[Row],
+    table: &str,
 ) -> Result<bool, Fail>
     requires { kept.old.config ≡ config.now.value }
     ensures { kept.new.config ≡ config.now.value }
 {
     let mut right = true;
-    for (id, number, digest, fault, answer) in rows {
-        if *number < 100 {
-            let message = checkpoint(
-                alloc,
-                config,
-                signers,
-                *id,
-                SeqNo(*number),
-                Digest([*digest; 32]),
-            )?;
-            right = right && note(kept, &message) == *fault && stable(kept, 2) == *answer;
+    for line in table.lines() {
+        let (said, wanted) = line.split_once(" => ").ok_or("no answer")?;
+        let (fault, answer) = wanted.split_once(" ").ok_or("no digest")?;
+        let [id, number, digest] = checkpoint_of(said)?;
+        if number < 100 {
+            let (number, digest) = (SeqNo(u64::from(number)), Digest([digest; 32]));
+            let message = checkpoint(alloc, config, signers, id, number, digest)?;
+            let found = name_of(note(kept, &message));
+            right = right && found == fault && stable(kept, 2) == answer.parse::<u8>().ok();
         }
     }
     Ok(right)
@@ -88,7 +103,7 @@ fn a_quorum_makes_a_number_stable(rt: HostRuntime) -> Result<(), Fail> {
     let mut signers = signers(alloc, 6)?;
     let config = config(alloc, &signers)?;
     let mut kept = Checkpoints::new(alloc, &config)?;
-    let right = answers(alloc, &config, &mut signers, &mut kept, &NOTES)?;
+    let right = answers(alloc, &config, &mut signers, &mut kept, NOTES)?;
     assert_eq!(rt; right, true);
     let ids = provers(alloc, &kept, 2)?;
     let expected: [u32; 3] = [0, 2, 3];
@@ -96,27 +111,27 @@ fn a_quorum_makes_a_number_stable(rt: HostRuntime) -> Result<(), Fail> {
     Ok(())
 }
 
-// Checkpoints at 2, 4 and 6, of which 2 and 4 are stable.
-static THREE_NUMBERS: [Row; 8] = [
-    (0, 2, 7, None, None),
-    (1, 2, 7, None, None),
-    (2, 2, 7, None, Some(7)),
-    (1, 4, 9, None, Some(7)),
-    (2, 4, 9, None, Some(7)),
-    (3, 4, 9, None, Some(7)),
-    (0, 6, 5, None, Some(7)),
-    (1, 6, 5, None, Some(7)),
-];
+/// Checkpoints at 2, 4 and 6, of which 2 and 4 are stable.
+const THREE_NUMBERS: &str = "\
+0 2 7 => - -\n\
+1 2 7 => - -\n\
+2 2 7 => - 7\n\
+1 4 9 => - 7\n\
+2 4 9 => - 7\n\
+3 4 9 => - 7\n\
+0 6 5 => - 7\n\
+1 6 5 => - 7\n\
+";
 
-// At the mark and below it a Checkpoint is old; above it one counts.
-static AFTER_THE_MARK: [Row; 4] = [
-    (0, 4, 9, Some(CheckpointFault::Old), None),
-    (0, 3, 9, Some(CheckpointFault::Old), None),
-    (0, 5, 9, None, None),
-    (2, 6, 5, None, None),
-];
+/// At the mark and below it a Checkpoint is old; above it one counts.
+const AFTER_THE_MARK: &str = "\
+0 4 9 => Old -\n\
+0 3 9 => Old -\n\
+0 5 9 => - -\n\
+2 6 5 => - -\n\
+";
 
-// Keeps one byte at each of these numbers.
+/// Keeps one byte at each of these numbers.
 fn keep_each(alloc: Global, kept: &mut Checkpoints, numbers: &[u64]) -> Result<(), Fail>
     ensures { kept.new.config ≡ kept.old.config }
 {
@@ -128,7 +143,7 @@ fn keep_each(alloc: Global, kept: &mut Checkpoints, numbers: &[u64]) -> Result<(
     Ok(())
 }
 
-// The numbers up to 8 at which a snapshot is kept.
+/// The numbers up to 8 at which a snapshot is kept.
 fn snapshots(alloc: Global, kept: &Checkpoints) -> Result<Vec<u64>, AllocError> {
     let mut numbers = Vec::new(alloc);
     for number in 0..9 {
@@ -139,8 +154,8 @@ fn snapshots(alloc: Global, kept: &Checkpoints) -> Result<Vec<u64>, AllocError> 
     Ok(numbers)
 }
 
-// What is kept after the mark rose to 4: whether the digest of 4 and its proof stay, and all at or below
-// it is gone but its snapshot.
+/// What is kept after the mark rose to 4: whether the digest of 4 and its proof stay, and all at or below
+/// it is gone but its snapshot.
 fn is_cut(alloc: Global, kept: &Checkpoints) -> Result<bool, Fail> {
     let signers: [u32; 3] = [1, 2, 3];
     let numbers: [u64; 2] = [4, 5];
@@ -159,7 +174,7 @@ fn the_mark_rises(rt: HostRuntime) -> Result<(), Fail> {
     let mut signers = signers(alloc, 7)?;
     let config = config(alloc, &signers)?;
     let mut kept = Checkpoints::new(alloc, &config)?;
-    let before = answers(alloc, &config, &mut signers, &mut kept, &THREE_NUMBERS)?;
+    let before = answers(alloc, &config, &mut signers, &mut kept, THREE_NUMBERS)?;
     keep_each(alloc, &mut kept, &[2, 3, 4, 5])?;
     assert_eq!(rt; before, true);
     assert_eq!(rt; kept.stable_above(SeqNo(0)), Some(SeqNo(4)));
@@ -169,39 +184,37 @@ fn the_mark_rises(rt: HostRuntime) -> Result<(), Fail> {
     kept.discard_to(SeqNo(4));
     kept.discard_to(SeqNo(2));
     let same = is_cut(alloc, &kept)?;
-    let after = answers(alloc, &config, &mut signers, &mut kept, &AFTER_THE_MARK)?;
+    let after = answers(alloc, &config, &mut signers, &mut kept, AFTER_THE_MARK)?;
     assert_eq!(rt; (cut, same, after), (true, true, true));
     assert_eq!(rt; kept.stable_above(SeqNo(4)), Some(SeqNo(6)));
     Ok(())
 }
 
-// SHA-256 of "abc" (FIPS 180-4's example).
+/// SHA-256 of "abc" (FIPS 180-4's example).
 static OF_ABC: [u8; 32] = [
     0xba, 0x78, 0x16, 0xbf, 0x8f, 0x01, 0xcf, 0xea, 0x41, 0x41, 0x40, 0xde, 0x5d, 0xae, 0x22, 0x23,
     0xb0, 0x03, 0x61, 0xa3, 0x96, 0x17, 0x7a, 0x9c, 0xb4, 0x10, 0xff, 0x61, 0xf2, 0x00, 0x15, 0xad,
 ];
 
-// What is offered at which number, and the fault.
-type Offer = (u64, &'static [u8], Option<CheckpointFault>);
+/// At which number what is offered, and the fault.
+const BEFORE: &str = "\
+2 abd => DigestDiffers\n\
+3 abc => DigestDiffers\n\
+0 abc => Old\n\
+2  => DigestDiffers\n\
+";
 
-static BEFORE: [Offer; 4] = [
-    (2, b"abd", Some(CheckpointFault::DigestDiffers)),
-    (3, b"abc", Some(CheckpointFault::DigestDiffers)),
-    (0, b"abc", Some(CheckpointFault::Old)),
-    (2, b"", Some(CheckpointFault::DigestDiffers)),
-];
+/// Each with one byte of the snapshot changed.
+const CHANGED: &str = "\
+2 `bc => DigestDiffers\n\
+2 aBc => DigestDiffers\n\
+2 abb => DigestDiffers\n\
+";
 
-// Each with one byte of the snapshot changed.
-static CHANGED: [Offer; 3] = [
-    (2, b"`bc", Some(CheckpointFault::DigestDiffers)),
-    (2, b"aBc", Some(CheckpointFault::DigestDiffers)),
-    (2, b"abb", Some(CheckpointFault::DigestDiffers)),
-];
-
-static AT_THE_MARK: [Offer; 2] = [
-    (2, b"abc", Some(CheckpointFault::Old)),
-    (1, b"abc", Some(CheckpointFault::Old)),
-];
+const AT_THE_MARK: &str = "\
+2 abc => Old\n\
+1 abc => Old\n\
+";
 
 fn bytes_of(alloc: Global, text: &[u8]) -> Result<Bytes, AllocError> {
     let mut bytes = Vec::new(alloc);
@@ -211,7 +224,7 @@ fn bytes_of(alloc: Global, text: &[u8]) -> Result<Bytes, AllocError> {
     Ok(Bytes::from_vec(bytes))
 }
 
-// What can be seen of a table whose number 2 is the only one that has anything.
+/// What can be seen of a table whose number 2 is the only one that has anything.
 type Seen = (SeqNo, Option<u8>, Option<SeqNo>, Option<usize>);
 
 fn seen(kept: &Checkpoints) -> Seen {
@@ -224,13 +237,16 @@ fn seen(kept: &Checkpoints) -> Seen {
     )
 }
 
-// Whether each offer has its fault and all stays as it is.
-fn refuses(alloc: Global, kept: &mut Checkpoints, offers: &[Offer]) -> Result<bool, Fail> {
+/// Whether each offer has its fault and all stays as it is.
+fn refuses(alloc: Global, kept: &mut Checkpoints, offers: &str) -> Result<bool, Fail> {
     let was = seen(kept);
     let mut right = true;
-    for (number, text, fault) in offers {
-        let answer = kept.offer(SeqNo(*number), bytes_of(alloc, text)?).err();
-        right = right && answer == *fault && seen(kept) == was;
+    for line in offers.lines() {
+        let (said, fault) = line.split_once(" => ").ok_or("no fault")?;
+        let (number, text) = said.split_once(" ").ok_or("no number")?;
+        let bytes = bytes_of(alloc, text.as_bytes())?;
+        let answer = kept.offer(SeqNo(number.parse()?), bytes).err();
+        right = right && name_of(answer) == fault && seen(kept) == was;
     }
     Ok(right)
 }
@@ -245,14 +261,14 @@ fn snapshots_are_offered(rt: HostRuntime) -> Result<(), Fail> {
         let message = checkpoint(alloc, &config, &mut signers, id, SeqNo(2), Digest(OF_ABC))?;
         assert_eq!(rt; note(&mut kept, &message), None);
     }
-    let before = refuses(alloc, &mut kept, &BEFORE)?;
+    let before = refuses(alloc, &mut kept, BEFORE)?;
     assert_eq!(rt; kept.snapshot_of(SeqNo(2)), None);
     let abc: &[u8] = b"abc";
     kept.offer(SeqNo(2), bytes_of(alloc, abc)?)?;
     assert_eq!(rt; kept.snapshot_of(SeqNo(2)), Some(abc));
-    let changed = refuses(alloc, &mut kept, &CHANGED)?;
+    let changed = refuses(alloc, &mut kept, CHANGED)?;
     kept.discard_to(SeqNo(2));
-    let after = refuses(alloc, &mut kept, &AT_THE_MARK)?;
+    let after = refuses(alloc, &mut kept, AT_THE_MARK)?;
     assert_eq!(rt; (before, changed, after), (true, true, true));
     assert_eq!(rt; kept.snapshot_of(SeqNo(2)), Some(abc));
     Ok(())

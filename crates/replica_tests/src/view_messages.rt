@@ -1,4 +1,4 @@
-//! Signed ViewChanges and NewViews of four replicas, built of plain numbers.
+//! Signed ViewChanges and NewViews of four replicas, built of texts.
 
 ghost use Rattle.std.specs.Prelude.{◌≡◌, IfOk};
 
@@ -20,20 +20,6 @@ const NULL_DIGEST: [u8; 32] = [
     0xe3, 0xb0, 0xc4, 0x42, 0x98, 0xfc, 0x1c, 0x14, 0x9a, 0xfb, 0xf4, 0xc8, 0x99, 0x6f, 0xb9, 0x24,
     0x27, 0xae, 0x41, 0xe4, 0x64, 0x9b, 0x93, 0x4c, 0xa4, 0x95, 0x99, 0x1b, 0x78, 0x52, 0xb8, 0x55,
 ];
-
-/// A proposal and its Prepares: view, number, digest, and each Prepare's signer and digest.
-pub type CertificateCase = (u32, u64, u8, &'static [(u8, u8)]);
-
-/// A ViewChange: view, low mark, each Checkpoint's signer, number and digest, and the certificates.
-pub type ChangeCase = (
-    u32,
-    u64,
-    &'static [(u8, u64, u8)],
-    &'static [CertificateCase],
-);
-
-/// A NewView: view, each ViewChange with its signer, and each proposal's view, number and digest.
-pub type NewViewCase = (u32, &'static [(u8, ChangeCase)], &'static [(u32, u64, u8)]);
 
 /// Four replicas: their signers and their configuration.
 pub fn replicas(alloc: Global, secret: u8) -> Result<(Vec<Signer>, Arc<Config>), Fail> {
@@ -120,22 +106,36 @@ pub fn checked(
     Ok(open(alloc, config, &bytes)?)
 }
 
-pub fn certificate(
-    alloc: Global,
-    signers: &mut [Signer],
-    case: &CertificateCase,
-) -> Result<Certificate, Fail> {
-    let (view, number, digest, agreeing) = *case;
-    let said = proposal(view, number, digest);
-    let pre_prepare = signed(alloc, signers, (view % 4) as u8, said)?;
+/// The numbers of a text between these signs, three at most.
+fn numbers(text: &str, between: &str) -> Result<[u32; 3], Fail> {
+    let mut numbers = [0; 3];
+    for (number, word) in numbers.iter_mut().zip(text.split(between)) {
+        *number = word.parse()?;
+    }
+    Ok(numbers)
+}
+
+/// The proposal of `VIEW/NUMBER/DIGEST`.
+pub fn proposal_of(text: &str) -> Result<PrePrepare, Fail> {
+    let [view, number, digest] = numbers(text, "/")?;
+    Ok(proposal(view, u64::from(number), u8::try_from(digest)?))
+}
+
+/// The certificate of `VIEW/NUMBER/DIGEST by SIGNER:DIGEST ..`.
+fn certificate(alloc: Global, signers: &mut [Signer], text: &str) -> Result<Certificate, Fail> {
+    let (said, by) = text.split_once(" by ").ok_or("no Prepares")?;
+    let said = proposal_of(said)?;
+    let primary = (said.view.0 % 4) as u8;
+    let pre_prepare = signed(alloc, signers, primary, said)?;
     let mut prepares = Vec::new(alloc);
-    for (id, digest) in agreeing {
+    for word in by.split(' ') {
+        let [id, digest, _] = numbers(word, ":")?;
         let prepare = Prepare {
             view: said.view,
             number: said.number,
-            digest: digest_of(*digest),
+            digest: digest_of(u8::try_from(digest)?),
         };
-        prepares.push(signed(alloc, signers, *id, prepare)?)?;
+        prepares.push(signed(alloc, signers, u8::try_from(id)?, prepare)?)?;
     }
     Ok(Certificate {
         pre_prepare,
@@ -150,62 +150,98 @@ pub fn checkpoint(number: u64, digest: u8) -> Checkpoint {
     }
 }
 
-pub fn change(
+/// The Checkpoints of `SIGNER:NUMBER:DIGEST ..`.
+fn proof(
     alloc: Global,
     signers: &mut [Signer],
-    case: &ChangeCase,
-) -> Result<ViewChange, Fail> {
-    let (view, low, proof, prepared) = *case;
+    text: &str,
+) -> Result<Vec<Signed<Checkpoint>>, Fail> {
     let mut checkpoints = Vec::new(alloc);
-    for (id, number, digest) in proof {
-        checkpoints.push(signed(alloc, signers, *id, checkpoint(*number, *digest))?)?;
+    for word in text.split(' ') {
+        let [id, number, digest] = numbers(word, ":")?;
+        let said = checkpoint(u64::from(number), u8::try_from(digest)?);
+        checkpoints.push(signed(alloc, signers, u8::try_from(id)?, said)?)?;
     }
+    Ok(checkpoints)
+}
+
+/// The ViewChange of `VIEW low MARK, proof .., CERTIFICATE ..`.
+pub fn change(alloc: Global, signers: &mut [Signer], text: &str) -> Result<ViewChange, Fail> {
+    let mut checkpoints = Vec::new(alloc);
     let mut certificates = Vec::new(alloc);
-    for one in prepared {
-        certificates.push(certificate(alloc, signers, one)?)?;
+    let (head, rest) = text.split_once(", ").unwrap_or((text, ""));
+    for part in rest.split(", ") {
+        if let Some(said) = part.strip_prefix("proof ") {
+            checkpoints = proof(alloc, signers, said)?;
+        } else if !part.is_empty() {
+            certificates.push(certificate(alloc, signers, part)?)?;
+        }
     }
+    let (view, low) = head.split_once(" low ").ok_or("no low mark")?;
     Ok(ViewChange {
-        view: View(view),
-        low: SeqNo(low),
+        view: View(view.parse()?),
+        low: SeqNo(low.parse()?),
         checkpoints: Sequence::from_vec(checkpoints),
         certificates: Sequence::from_vec(certificates),
     })
 }
 
-pub fn new_view_of(
+/// The signed ViewChange of `SIGNER CHANGE`.
+fn signed_change(
     alloc: Global,
     signers: &mut [Signer],
-    case: &NewViewCase,
-) -> Result<NewView, Fail> {
-    let (view, asking, proposed) = *case;
-    let mut changes = Vec::new(alloc);
-    for (id, one) in asking {
-        let body = change(alloc, signers, one)?;
-        changes.push(signed(alloc, signers, *id, body)?)?;
+    text: &str,
+) -> Result<Signed<ViewChange>, Fail> {
+    let (id, said) = text.split_once(" ").ok_or("no ViewChange")?;
+    let body = change(alloc, signers, said)?;
+    signed(alloc, signers, id.parse()?, body)
+}
+
+/// The signed proposals of `VIEW/NUMBER/DIGEST ..`.
+fn proposals(
+    alloc: Global,
+    signers: &mut [Signer],
+    id: u8,
+    text: &str,
+) -> Result<Vec<Signed<PrePrepare>>, Fail> {
+    let mut proposals = Vec::new(alloc);
+    for word in text.split(' ') {
+        proposals.push(signed(alloc, signers, id, proposal_of(word)?)?)?;
     }
+    Ok(proposals)
+}
+
+/// The NewView of `VIEW; SIGNER CHANGE; ..; with PROPOSAL ..`.
+pub fn new_view_of(alloc: Global, signers: &mut [Signer], text: &str) -> Result<NewView, Fail> {
+    let mut changes = Vec::new(alloc);
     let mut pre_prepares = Vec::new(alloc);
-    for (of_view, number, digest) in proposed {
-        let body = proposal(*of_view, *number, *digest);
-        pre_prepares.push(signed(alloc, signers, (view % 4) as u8, body)?)?;
+    let (view, rest) = text.split_once("; ").ok_or("no ViewChanges")?;
+    let view = View(view.parse()?);
+    for part in rest.split("; ") {
+        if let Some(said) = part.strip_prefix("with ") {
+            pre_prepares = proposals(alloc, signers, (view.0 % 4) as u8, said)?;
+        } else {
+            changes.push(signed_change(alloc, signers, part)?)?;
+        }
     }
     Ok(NewView {
-        view: View(view),
+        view,
         changes: Sequence::from_vec(changes),
         pre_prepares: Sequence::from_vec(pre_prepares),
     })
 }
 
-/// The number of the fault of a ViewChange or a NewView: 0 for none, 255 for a message of another kind.
-pub fn answer(config: &Arc<Config>, message: &Checked) -> u8
+/// The name of the fault of a ViewChange or a NewView, `-` for none.
+pub fn fault_name(alloc: Global, config: &Arc<Config>, message: &Checked) -> Result<String, Fail>
     requires { message.now.config ≡ config.now.value }
 {
     let result = match message.body() {
         Body::ViewChange(_) => valid(config, message),
         Body::NewView(_) => valid_new_view(config, message),
-        _ => return 255,
+        _ => return Err(Fail::new("another kind of message")),
     };
     match result {
-        Ok(()) => 0,
-        Err(fault) => fault.number(),
+        Ok(()) => Ok(String::from_str(alloc, "-")?),
+        Err(fault) => Ok(fault.to_string(alloc)?),
     }
 }

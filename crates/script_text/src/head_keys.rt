@@ -14,6 +14,7 @@ use crate::script::{Client, Secret};
 use crate::values::{
     AnyTable, Integer, KeyHeight, ListOf, PerReplica, ReplicaIndex, SecretDigits, Word, table_of,
 };
+use host_types::limits::MAX_FAULTY;
 use host_types::{ClientEntry, ClientId, Config, ReplicaId, TenantId};
 use lms_tree::Height;
 use pbft_codec::Sequence;
@@ -37,9 +38,6 @@ const CLIENT_KEYS: [&str; 2] = ["id", "tenant"];
 
 /// A key that no signature verifies under.
 const NO_KEY: [u8; 56] = [0; 56];
-
-/// The most replicas that may be faulty.
-const MAX_FAULTY: u8 = 3;
 
 /// What is needed of a head, as it is written.
 #[derive(Drop)]

@@ -16,6 +16,7 @@ use crate::values::{
     ClientName, FaultyIndex, HexBytes, KindName, ListOf, NodeName, ReplicaIndex, SequenceNumber,
     True, UpTo, VoteName, Word, table_of,
 };
+use host_types::operation::{CALL, INSTALL};
 use host_types::{Bytes, ClientId, ReplicaId, View};
 use pbft_codec::Sequence;
 use seal::VoteKind;
@@ -44,12 +45,6 @@ const STATE_KEYS: [&str; 2] = ["do", "at"];
 
 /// The greatest time that a document can name: that of its integers.
 const MAX_TIME: u64 = 9_223_372_036_854_775_807;
-
-/// Begins an operation that installs code.
-const INSTALL: u8 = 1;
-
-/// Begins an operation that calls a procedure.
-const CALL: u8 = 2;
 
 /// Who signs a vote, for whom it is queued, and its kind, view and number.
 type Ballot = ((ReplicaId, Sequence<Node>), (VoteKind, (u32, Number)));

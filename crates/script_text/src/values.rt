@@ -13,6 +13,7 @@ use crate::form::Form;
 use crate::kind::Kind;
 use crate::script::{Client, Node, Number, ScriptBytes, Secret};
 use hex::{FromHex, FromHexError};
+use host_types::limits::SEQUENCE_NUMBER_LIMIT;
 use host_types::{Bytes, ClientId, ReplicaId, SeqNo};
 use lms_tree::Height;
 use pbft_codec::Sequence;
@@ -22,9 +23,6 @@ use toml::{Table, Value};
 
 /// The most bytes that hex digits give: a script has no more than twice as many.
 const MAX_HEX_BYTES: usize = 524_288;
-
-/// The greatest sequence number.
-const MAX_NUMBER: u64 = 281_474_976_710_655;
 
 /// Any integer.
 #[derive(Clone, Copy)]
@@ -76,7 +74,7 @@ impl Form for SequenceNumber {
     fn read(&self, alloc: Global, value: &Value) -> Result<Number, TableFault> {
         let integer = Integer.read(alloc, value)?;
         match u64::try_from(integer) {
-            Ok(number) if number <= MAX_NUMBER => Ok(Number::new(SeqNo(number))),
+            Ok(number) if number < SEQUENCE_NUMBER_LIMIT => Ok(Number::new(SeqNo(number))),
             _ => Err(TableFault::WrongValue),
         }
     }

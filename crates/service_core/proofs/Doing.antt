@@ -7,18 +7,11 @@ use Rattle.std.proofs.lemmas.Option.{slice_get-map, slice_get-get_or, slice_get_
 use Rattle.tenant_maps.specs.Entries.{Entries}
 use Rattle.bpf_model.specs.Verdict.{Accepts}
 use Rattle.bpf_verifier.specs.Verified.{Verified}
-use Rattle.service_core.specs.Operations.{Installs, Calls, Runs, installed, refused, no_procedure, too_many_procedures, arguments_too_long}
+use Rattle.service_model.proofs.Matches.{match_true, match_false, match_none, match_some}
+use Rattle.service_model.specs.Operations.{Installs, Calls, Runs, installed, refused, no_procedure, too_many_procedures, arguments_too_long}
 
 abbrev pub codes_of : List Verified → List (List ℕ)
 codes_of procedures = map (λ p. p.bytes) procedures
-
-pub match_true : (b : Bool) (P Q : Type 0) → b ≡ true → P → MatchBool b P Q
-match_true true P Q e p = p
-match_true false P Q e p = absurd (cc)
-
-pub match_false : (b : Bool) (P Q : Type 0) → b ≡ false → Q → MatchBool b P Q
-match_false true P Q e q = absurd (cc)
-match_false false P Q e q = q
 
 pub installs_too_many : (procedures after : List (List ℕ)) (code result : List ℕ) → 64 ≤ length procedures → after ≡ procedures → result ≡ too_many_procedures
     → Installs procedures code after result
@@ -31,14 +24,6 @@ installs_refused procedures after code result h none a r = match_false _ _ _ (lt
 pub installs_accepted : (procedures after : List (List ℕ)) (code result : List ℕ) (bound : ℕ) → length procedures < 64 → Accepts code bound
     → after ≡ procedures ++ code ∷ [] → result ≡ installed (length procedures) → Installs procedures code after result
 installs_accepted procedures after code result bound h accepts a r = match_false _ _ _ (lt-leb 64 (length procedures) h) (inl (bound, accepts, a, r))
-
-pub match_none : {X : Type 0} (o : Option X) (P : Type 0) (Q : X → Type 0) → o ≡ None → P → MatchOption o P Q
-match_none None P Q e p = p
-match_none (Some x) P Q e p = absurd (cc)
-
-pub match_some : {X : Type 0} (o : Option X) (x : X) (P : Type 0) (Q : X → Type 0) → o ≡ Some x → Q x → MatchOption o P Q
-match_some None x P Q e q = absurd (cc)
-match_some {X = X} (Some y) x P Q e q = let same : y ≡ x = cc in subst Q (sym same) q
 
 code_at : (procedures : List Verified) (id : ℕ) (procedure : Verified) → id < length procedures → procedure ≡ get_or procedures id procedure → slice_get (codes_of procedures) id ≡ Some procedure.bytes
 code_at procedures id procedure h is =

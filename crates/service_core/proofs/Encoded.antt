@@ -10,11 +10,11 @@ use Rattle.std.proofs.lemmas.Grind.{flat_map-append}
 use Rattle.service_core.specs.declared.state_fault.StateFault.{StateFault}
 use Rattle.service_core.specs.declared.state_fault.StateFault.TheVariants.{BadState, Memory}
 use Rattle.host_types.specs.Configuration.{Configuration}
-use Rattle.service_core.specs.TenantStates.{Service}
-use Rattle.service_core.specs.Decoding.{Encodes}
-use Rattle.service_core.specs.Words.{u32_bytes, u64_bytes}
+use Rattle.service_model.specs.TenantStates.{Service}
+use Rattle.service_model.specs.Decoding.{Encodes}
+use Rattle.service_model.specs.Words.{u32_bytes, u64_bytes}
 use Rattle.service_core.specs.Readings.{Begins, Fails, Reads}
-use Rattle.service_core.proofs.PrefixFree.{IsPrefixFree, free_four}
+use Rattle.service_model.proofs.PrefixFree.{IsPrefixFree, free_four}
 
 -- ---- faults
 

@@ -12,12 +12,12 @@ use Rattle.tenant_maps.specs.Entries.{Entries, next_key}
 use Rattle.tenant_maps.proofs.EntriesLemmas.{order}
 use Rattle.service_core.specs.declared.state_fault.StateFault.{StateFault}
 use Rattle.service_core.specs.declared.state_fault.StateFault.TheVariants.{BadState, Memory}
-use Rattle.service_core.specs.Words.{u32_bytes}
-use Rattle.service_core.specs.Encoding.{encoded_entries}
-use Rattle.service_core.specs.Bounded.{IsSizedMap}
+use Rattle.service_model.specs.Words.{u32_bytes}
+use Rattle.service_model.specs.Encoding.{encoded_entries}
+use Rattle.service_model.specs.Bounded.{IsSizedMap}
 use Rattle.service_core.specs.Readings.{Begins, Reads, IsAbove, AreSizedEntries}
-use Rattle.service_core.proofs.PrefixFree.{IsPrefixFree, free_four}
-use Rattle.service_core.proofs.Injective.{entry_lengths, free_entry}
+use Rattle.service_model.proofs.PrefixFree.{IsPrefixFree, free_four}
+use Rattle.service_model.proofs.Injective.{entry_lengths, free_entry}
 use Rattle.service_core.proofs.Encoded.{HasRead, SoMany, stuck}
 
 -- an entry: a key and a value, of 16 and 32 bytes

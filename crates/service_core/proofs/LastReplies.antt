@@ -10,8 +10,8 @@ use Rattle.std.proofs.lemmas.List.Folds.{find-append}
 use Rattle.std.proofs.lemmas.List.Elements.{All-head, All-tail}
 use Rattle.std.proofs.lemmas.List.Quantifiers.{position-Some}
 use Rattle.host_types.specs.declared.request.Reply.{Reply}
-use Rattle.service_core.specs.TenantStates.{Replies, replies_of}
-use Rattle.service_core.proofs.Found.{find_by_position}
+use Rattle.service_model.specs.TenantStates.{Replies, replies_of}
+use Rattle.service_model.proofs.Found.{find_by_position}
 
 -- whether the reply is this client's
 abbrev pub to : ℕ → Reply → Bool

@@ -9,12 +9,12 @@ use Rattle.host_types.specs.declared.config.ClientEntry.{ClientEntry}
 use Rattle.host_types.specs.declared.request.Reply.{Reply}
 use Rattle.service_core.specs.declared.state_fault.StateFault.{StateFault}
 use Rattle.service_core.specs.declared.state_fault.StateFault.TheVariants.{BadState, Memory}
-use Rattle.service_core.specs.Words.{u32_bytes}
-use Rattle.service_core.specs.TenantStates.{TenantState, replies_of}
-use Rattle.service_core.specs.Encoding.{length_prefixed, encoded_procedures, encoded_entries, encoded_tenant}
+use Rattle.service_model.specs.Words.{u32_bytes}
+use Rattle.service_model.specs.TenantStates.{TenantState, replies_of}
+use Rattle.service_model.specs.Encoding.{length_prefixed, encoded_procedures, encoded_entries, encoded_tenant}
 use Rattle.service_core.specs.Readings.{Begins, Reads, AreProcedures, Contents, AreContents, encoded_contents, ArePartsOf, HaveReplies, replies_to_tenant}
-use Rattle.service_core.proofs.PrefixFree.{same_length, free_four, free_list}
-use Rattle.service_core.proofs.Injective.{four_long, entries_free}
+use Rattle.service_model.proofs.PrefixFree.{same_length, free_four, free_list}
+use Rattle.service_model.proofs.Injective.{four_long, entries_free}
 use Rattle.service_core.proofs.ShortCodes.{IsShortCode, free_code}
 
 regrouped : (a b c r : List ℕ) → ((a ++ b) ++ c) ++ r ≡ a ++ (b ++ (c ++ r))

@@ -1,11 +1,11 @@
 -- What stands in the bytes of a reply, behind each of its fields.
 use Rattle.std.proofs.Common.{◌≡◌, ℕ, ◌^◌, ◌<◌, List, ◌++◌, sym, ◌∙◌, append_assoc, arith}
 use Rattle.host_types.specs.declared.request.Reply.{Reply}
-use Rattle.service_core.specs.Words.{u32_bytes, u64_bytes}
-use Rattle.service_core.specs.Encoding.{length_prefixed, encoded_reply}
-use Rattle.service_core.specs.Bounded.{IsBoundedReply}
+use Rattle.service_model.specs.Words.{u32_bytes, u64_bytes}
+use Rattle.service_model.specs.Encoding.{length_prefixed, encoded_reply}
+use Rattle.service_model.specs.Bounded.{IsBoundedReply}
 use Rattle.service_core.specs.Readings.{Begins}
-use Rattle.service_core.proofs.PrefixFree.{IsPrefixFree, FieldsInRange, free_four, free_eight, free_reply}
+use Rattle.service_model.proofs.PrefixFree.{IsPrefixFree, FieldsInRange, free_four, free_eight, free_reply}
 
 abbrev pub IsFit : ℕ → Reply → Type 0
 IsFit taken reply = IsBoundedReply taken reply.client.0 reply

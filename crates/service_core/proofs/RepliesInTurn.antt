@@ -9,12 +9,12 @@ use Rattle.host_types.specs.declared.ClientId.{ClientId}
 use Rattle.host_types.specs.declared.config.ClientEntry.{ClientEntry}
 use Rattle.host_types.specs.declared.request.Reply.{Reply}
 use Rattle.host_types.specs.Configuration.{client_ids_of, entry_of}
-use Rattle.service_core.specs.TenantStates.{Service, replies_of, last_reply_of}
-use Rattle.service_core.specs.Encoding.{last_replies_of}
-use Rattle.service_core.specs.Bounded.{IsBoundedReply, IsBounded}
+use Rattle.service_model.specs.TenantStates.{Service, replies_of, last_reply_of}
+use Rattle.service_model.specs.Encoding.{last_replies_of}
+use Rattle.service_model.specs.Bounded.{IsBoundedReply, IsBounded}
 use Rattle.service_core.specs.Readings.{in_turn, is_of, replies_to_tenant, AreLastReplies}
-use Rattle.service_core.proofs.Clients.{Each, Ascends, OwnReplies, above_first, client_ids_ascend}
-use Rattle.service_core.proofs.Injective.{found_has, last_bounded, own_of, few_replies_found}
+use Rattle.service_model.proofs.Clients.{Each, Ascends, OwnReplies, above_first, client_ids_ascend}
+use Rattle.service_model.proofs.Injective.{found_has, last_bounded, own_of, few_replies_found}
 use Rattle.service_core.proofs.LastReplies.{to, get-replies_of}
 use Rattle.service_core.proofs.Turns.{turn_here, turn_later}
 

@@ -3,10 +3,10 @@ use Rattle.std.proofs.Common.{◌≡◌, ℕ, ◌≤◌, ◌++◌, List, length,
 use Rattle.bpf_model.specs.Verdict.{Accepts}
 use Rattle.service_core.specs.declared.state_fault.StateFault.{StateFault}
 use Rattle.service_core.specs.declared.state_fault.StateFault.TheVariants.{BadState, Memory}
-use Rattle.service_core.specs.Encoding.{length_prefixed}
-use Rattle.service_core.specs.Sound.{IsAcceptedCode}
+use Rattle.service_model.specs.Encoding.{length_prefixed}
+use Rattle.service_model.specs.Sound.{IsAcceptedCode}
 use Rattle.service_core.specs.Readings.{Fails}
-use Rattle.service_core.proofs.PrefixFree.{IsPrefixFree, free_length_prefixed}
+use Rattle.service_model.proofs.PrefixFree.{IsPrefixFree, free_length_prefixed}
 
 abbrev pub IsShortCode : List ℕ → Type 0
 IsShortCode code = (length code ≤ 8192) × IsAcceptedCode code

@@ -10,21 +10,21 @@ use Rattle.host_types.specs.declared.config.ClientEntry.{ClientEntry}
 use Rattle.host_types.specs.declared.request.Reply.{Reply}
 use Rattle.host_types.specs.Configuration.{Configuration, IsConfiguration, insert_sorted, client_ids_of, tenants_of, entry_of}
 use Rattle.host_types.proofs.InsertSorted.{insert_sorted_before, insert_sorted_here, insert_sorted_after}
-use Rattle.service_core.specs.Words.{u32_bytes, u64_bytes}
-use Rattle.service_core.specs.TenantStates.{Replies, TenantState, Service, empty_tenant, tenant_at, tenant_index, last_reply_of}
-use Rattle.service_core.specs.Encoding.{encoded_tenant, encoded_replies, encoded_reply, last_replies_of}
-use Rattle.service_core.specs.Sound.{IsSoundTenant}
-use Rattle.service_core.specs.Bounded.{IsBoundedReply, IsBoundedTenant}
-use Rattle.service_core.specs.Decoding.{Encodes}
+use Rattle.service_model.specs.Words.{u32_bytes, u64_bytes}
+use Rattle.service_model.specs.TenantStates.{Replies, TenantState, Service, empty_tenant, tenant_at, tenant_index, last_reply_of}
+use Rattle.service_model.specs.Encoding.{encoded_tenant, encoded_replies, encoded_reply, last_replies_of}
+use Rattle.service_model.specs.Sound.{IsSoundTenant}
+use Rattle.service_model.specs.Bounded.{IsBoundedReply, IsBoundedTenant}
+use Rattle.service_model.specs.Decoding.{Encodes}
 use Rattle.service_core.specs.Readings.{Begins, AreLastReplies, ArePartsOf, HaveReplies, is_of, replies_to_tenant}
-use Rattle.service_core.proofs.Clients.{Each, has, client_ids_ascend, or_left, or_right, or_cases}
+use Rattle.service_model.proofs.Clients.{Each, has, client_ids_ascend, or_left, or_right, or_cases}
 use Rattle.service_core.proofs.LastReplies.{to, get-replies_of}
-use Rattle.service_core.proofs.TenantIndexes.{index_for, listed_has_index}
-use Rattle.service_core.proofs.Found.{tenant_at_index}
-use Rattle.service_core.proofs.PrefixFree.{same_length, free_eight, free_list}
+use Rattle.service_model.proofs.TenantIndexes.{index_for, listed_has_index}
+use Rattle.service_model.proofs.Found.{tenant_at_index}
+use Rattle.service_model.proofs.PrefixFree.{same_length, free_eight, free_list}
 use Rattle.service_core.proofs.Replies.{IsFit, free_fit}
 use Rattle.service_core.proofs.RepliesInTurn.{last_replies_fit, turn_found, tenant_replies_found, found_passes, tenant_replies_bounded, tenant_replies_sound}
-use Rattle.service_core.proofs.Injective.{four_long}
+use Rattle.service_model.proofs.Injective.{four_long}
 use Rattle.service_core.proofs.Parts.{ids_of, number, free_parts}
 
 -- ---- the clients' ids are those that are listed

@@ -4,9 +4,9 @@ use Rattle.std.specs.Prelude.{flat_map}
 use Rattle.std.specs.List.{filter_map}
 use Rattle.host_types.specs.declared.ClientId.{ClientId}
 use Rattle.host_types.specs.Configuration.{client_ids_of}
-use Rattle.service_core.specs.Words.{u32_bytes, u64_bytes}
-use Rattle.service_core.specs.TenantStates.{TenantState, Service, last_reply_of}
-use Rattle.service_core.specs.Encoding.{encoded, encoded_reply, encoded_tenant, last_replies_of}
+use Rattle.service_model.specs.Words.{u32_bytes, u64_bytes}
+use Rattle.service_model.specs.TenantStates.{TenantState, Service, last_reply_of}
+use Rattle.service_model.specs.Encoding.{encoded, encoded_reply, encoded_tenant, last_replies_of}
 
 regrouped : (a b c d e : List ℕ) → ((a ++ b) ++ c) ++ (d ++ e) ≡ ((a ++ (b ++ c)) ++ d) ++ e
 regrouped a b c d e = simp append_assoc

@@ -1,14 +1,4 @@
-pub mod Words
-pub mod Operations
 pub mod ReadOperations
-pub mod TenantStates
-pub mod Equality
-pub mod Steps
-pub mod Encoding
 pub mod Sinks
-pub mod Sound
-pub mod Bounded
-pub mod Asked
-pub mod Decoding
 pub mod StateFaults
 pub mod Readings

@@ -4,7 +4,7 @@ use Rattle.service_core.specs.declared.operation.Operation.{Operation as Read}
 use Rattle.service_core.specs.declared.operation.Operation.TheVariants.{Install as ReadInstall, Call as ReadCall, Bad as ReadBad}
 use Rattle.service_core.specs.declared.operation.ResultCode.{ResultCode}
 use Rattle.service_core.specs.declared.operation.ResultCode.TheVariants.{Done, BadOperation, Refused, NoProcedure, TooManyProcedures, ArgumentsTooLong}
-use Rattle.service_core.specs.Operations.{Operation, Install, Call, Bad}
+use Rattle.service_model.specs.Operations.{Operation, Install, Call, Bad}
 
 -- the operation that was read
 abbrev pub meaning_of : Read → Operation

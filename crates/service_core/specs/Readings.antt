@@ -13,11 +13,11 @@ use Rattle.host_types.specs.Configuration.{entry_of, client_ids_of}
 use Rattle.tenant_maps.specs.Entries.{Entries}
 use Rattle.service_core.specs.declared.state_fault.StateFault.{StateFault}
 use Rattle.service_core.specs.declared.state_fault.StateFault.TheVariants.{BadState, Memory}
-use Rattle.service_core.specs.Words.{u32_bytes}
-use Rattle.service_core.specs.TenantStates.{TenantState, replies_of}
-use Rattle.service_core.specs.Encoding.{encoded_procedures, encoded_entries}
-use Rattle.service_core.specs.Sound.{IsAcceptedCode}
-use Rattle.service_core.specs.Bounded.{IsSizedMap, IsBoundedReply}
+use Rattle.service_model.specs.Words.{u32_bytes}
+use Rattle.service_model.specs.TenantStates.{TenantState, replies_of}
+use Rattle.service_model.specs.Encoding.{encoded_procedures, encoded_entries}
+use Rattle.service_model.specs.Sound.{IsAcceptedCode}
+use Rattle.service_model.specs.Bounded.{IsSizedMap, IsBoundedReply}
 
 -- The bytes begin with the encoding of a value that fits.
 abbrev pub Begins : {A : Type 0} → (A → List ℕ) → (A → Type 0) → List ℕ → Type 0

@@ -1,9 +1,9 @@
 //! The canonical encoding of a state, piece by piece into a sink.
 
 ghost use Rattle.std.specs.Prelude.{◌≡◌, ◌≤◌, ◌<◌, ◌^◌, ◌++◌, ℕ, length, map, OnOk, flat_map, All};
-ghost use Rattle.service_core.specs.Words.{u32_bytes, u64_bytes};
+ghost use Rattle.service_model.specs.Words.{u32_bytes, u64_bytes};
 ghost use Rattle.service_core.specs.Sinks.{Feeds};
-ghost use Rattle.service_core.specs.Encoding.{length_prefixed, encoded_reply, encoded_procedures, encoded_entries, encoded_tenant};
+ghost use Rattle.service_model.specs.Encoding.{length_prefixed, encoded_reply, encoded_procedures, encoded_entries, encoded_tenant};
 
 use crate::sink::Sink;
 use crate::tenant_part::TenantPart;
@@ -15,7 +15,7 @@ use tenant_maps::{MapPort, TenantMap};
 const ENTRIES_IN_PIECE: usize = 16;
 
 /// A number in four bytes.
-#[tactic(auto, unfolding(crate::specs::Words::u32_bytes))]
+#[tactic(auto, unfolding(service_model::specs::Words::u32_bytes))]
 pub(crate) fn put_u32<S: Sink>(sink: &mut S, number: u32) -> Result<(), S::Fault>
     ensures { OnOk result (Feeds S.holds sink.old sink.new (u32_bytes number)) }
 {
@@ -23,7 +23,7 @@ pub(crate) fn put_u32<S: Sink>(sink: &mut S, number: u32) -> Result<(), S::Fault
 }
 
 /// A number in eight bytes.
-#[tactic(auto, unfolding(crate::specs::Words::u64_bytes))]
+#[tactic(auto, unfolding(service_model::specs::Words::u64_bytes))]
 pub(crate) fn put_u64<S: Sink>(sink: &mut S, number: u64) -> Result<(), S::Fault>
     ensures { OnOk result (Feeds S.holds sink.old sink.new (u64_bytes number)) }
 {

@@ -4,9 +4,7 @@
 #![tactic(auto)]
 
 mod encoding;
-mod law;
 mod operation;
-mod outcome;
 mod reader;
 mod sink;
 mod state;
@@ -14,11 +12,10 @@ mod state_fault;
 mod tenant_part;
 mod tenant_reader;
 
-pub use law::{
-    a_step_exists, a_step_has_one_outcome, equal_bytes_are_equal_states,
+pub use service_model::{
+    Outcome, a_step_exists, a_step_has_one_outcome, equal_bytes_are_equal_states,
     installed_procedures_cannot_go_wrong, maps_stay_maps, requests_have_one_outcome,
     states_are_bounded, states_are_sound,
 };
-pub use outcome::Outcome;
 pub use state::State;
 pub use state_fault::StateFault;

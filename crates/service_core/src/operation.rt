@@ -1,26 +1,19 @@
 //! What a client asks for: to install code, or to call a procedure; and doing it.
 
 ghost use Rattle.std.specs.Prelude.{◌≡◌, ◌≤◌, [], ◌∷◌, map, length, IfOk};
-ghost use Rattle.service_core.specs.Operations.{Installs, Calls, Does, operation_of, installed, called};
+ghost use Rattle.service_model.specs.Operations.{Installs, Calls, Does, operation_of, installed, called};
 ghost use Rattle.service_core.specs.ReadOperations.{meaning_of, result_byte};
 
 use bpf_machine::{Finished, run};
+use bpf_model::layout::ARGUMENTS_SIZE;
 use bpf_verifier::{Procedure, VerifyFault, verify};
 use host_types::ClientId;
+use host_types::operation::{CALL, INSTALL};
 use std::alloc::{AllocError, Global};
 use tenant_maps::TenantMap;
 
 /// The most procedures of a tenant.
-const MAX_PROCEDURES: usize = 64;
-
-/// The most argument bytes of a call.
-const MAX_ARGUMENTS: usize = 256;
-
-/// The first byte of an installation.
-const INSTALL: u8 = 1;
-
-/// The first byte of a call.
-const CALL: u8 = 2;
+pub(crate) const MAX_PROCEDURES: usize = 64;
 
 /// What a client asks for.
 #[derive(Clone, Copy)]
@@ -117,7 +110,7 @@ fn install(
 }
 
 /// The result of an installation.
-#[tactic(auto, unfolding(crate::specs::Words::u32_bytes))]
+#[tactic(auto, unfolding(service_model::specs::Words::u32_bytes))]
 fn installed(alloc: Global, id: u32) -> Result<Vec<u8>, AllocError>
     ensures value { IfOk result (λ bytes. bytes.items ≡ installed id) }
     ensures short { IfOk result (λ bytes. length bytes.items ≤ 265) }
@@ -143,7 +136,7 @@ fn call(
     if id >= procedures.len() {
         return code_alone(alloc, ResultCode::NoProcedure);
     }
-    if args.len() > MAX_ARGUMENTS {
+    if args.len() > ARGUMENTS_SIZE {
         return code_alone(alloc, ResultCode::ArgumentsTooLong);
     }
     let procedure = &procedures[id];
@@ -152,7 +145,7 @@ fn call(
 }
 
 /// The result of a call.
-#[tactic(auto, unfolding(crate::specs::Words::u64_bytes))]
+#[tactic(auto, unfolding(service_model::specs::Words::u64_bytes))]
 fn returned(alloc: Global, finished: &Finished) -> Result<Vec<u8>, AllocError>
     ensures value { IfOk result (λ bytes. bytes.items ≡ called finished.now.result finished.now.out.items) }
     ensures short { IfOk result (λ bytes. length bytes.items ≤ 265) }

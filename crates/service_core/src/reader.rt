@@ -2,23 +2,19 @@
 
 ghost use Rattle.std.specs.Prelude.{◌≡◌, ◌<◌, ◌≤◌, ◌^◌, ◌++◌, ◌∷◌, [], length, flat_map, All, IfOk};
 ghost use Rattle.host_types.specs.Configuration.{IsConfiguration};
-ghost use Rattle.service_core.specs.Words.{u32_bytes, u64_bytes};
-ghost use Rattle.service_core.specs.Encoding.{length_prefixed, encoded_reply, encoded_replies};
-ghost use Rattle.service_core.specs.Bounded.{IsBoundedReply};
+ghost use Rattle.service_model.specs.Words.{u32_bytes, u64_bytes};
+ghost use Rattle.service_model.specs.Encoding.{length_prefixed, encoded_reply, encoded_replies};
+ghost use Rattle.service_model.specs.Bounded.{IsBoundedReply};
 ghost use Rattle.service_core.specs.Readings.{Reads, in_turn, AreBoundedReplies, AreLastReplies};
 
+use crate::state::VERSION;
 use crate::state_fault::StateFault;
+use host_types::limits::{MAX_CLIENTS, SEQUENCE_NUMBER_LIMIT};
 use host_types::{Bytes, ClientId, Config, Reply, SeqNo};
 use std::alloc::Global;
 
-/// The version of a state's bytes.
-const VERSION: u8 = 1;
-
-/// Numbers are below this.
-const NUMBER_LIMIT: u64 = 1 << 48;
-
-/// The most clients of a configuration, and so the most last replies.
-const MAX_REPLIES: u32 = 64;
+/// The most last replies: one for each client.
+const MAX_REPLIES: u32 = MAX_CLIENTS as u32;
 
 /// The most bytes of a result.
 const MAX_RESULT: u32 = 265;
@@ -84,7 +80,7 @@ pub(crate) fn read_head(bytes: &[u8]) -> Result<(u64, &[u8]), StateFault>
         return Err(StateFault::BadState);
     }
     let (number, rest) = read_u64(rest)?;
-    if number >= NUMBER_LIMIT {
+    if number >= SEQUENCE_NUMBER_LIMIT {
         return Err(StateFault::BadState);
     }
     Ok((number, rest))

@@ -6,29 +6,29 @@ ghost use Rattle.std.specs.Option.{option_copied, option_map};
 ghost use Rattle.std.specs.Arc.{arc_value};
 ghost use Rattle.sha2.specs.Sha256.{sha256};
 ghost use Rattle.host_types.specs.Configuration.{entry_of};
-ghost use Rattle.service_core.specs.Words.{u32_bytes};
-ghost use Rattle.service_core.specs.Decoding.{Encodes};
+ghost use Rattle.service_model.specs.Words.{u32_bytes};
+ghost use Rattle.service_model.specs.Decoding.{Encodes};
 ghost use Rattle.service_core.specs.declared.state_fault.StateFault.TheVariants.{BadState};
-ghost use Rattle.service_core.specs.TenantStates.{Service, genesis_of, tenant_index, client_index, last_reply_of};
-ghost use Rattle.service_core.specs.Steps.{IsStep};
+ghost use Rattle.service_model.specs.TenantStates.{Service, genesis_of, tenant_index, client_index, last_reply_of};
+ghost use Rattle.service_model.specs.Steps.{IsStep};
 ghost use Rattle.service_core.specs.Sinks.{Feeds};
-ghost use Rattle.service_core.specs.Encoding.{encoded, encoded_reply, encoded_tenant};
+ghost use Rattle.service_model.specs.Encoding.{encoded, encoded_reply, encoded_tenant};
 
 use crate::encoding::{put_reply, put_tenant, put_u32, put_u64};
-use crate::outcome::Outcome;
 use crate::reader::{read_head, read_replies};
 use crate::sink::Sink;
 use crate::state_fault::StateFault;
 use crate::tenant_part::TenantPart;
 use crate::tenant_reader::read_tenants;
 use host_types::{ClientId, Config, Digest, Reply, Request, SeqNo, TenantId};
+use service_model::Outcome;
 use sha2::Sha256;
 use std::alloc::{AllocError, Global};
 use std::marker::Model;
 use std::sync::Arc;
 
 /// The version of a state's bytes.
-const VERSION: u8 = 1;
+pub(crate) const VERSION: u8 = 1;
 
 /// The state of the service under a configuration: how many requests it has taken, and each tenant's
 /// procedures, map and last replies.
@@ -44,8 +44,8 @@ impl Model for State {
     ghost use Rattle.std.specs.Prelude.{◌≡◌, map};
     ghost use Rattle.std.specs.Arc.{arc_value};
     ghost use Rattle.host_types.specs.Configuration.{tenants_of};
-    ghost use Rattle.service_core.specs.TenantStates.{Service};
-    ghost use Rattle.service_core.specs.Equality.{service_code};
+    ghost use Rattle.service_model.specs.TenantStates.{Service};
+    ghost use Rattle.service_model.specs.Equality.{service_code};
 
     ghost Value = { Service };
 

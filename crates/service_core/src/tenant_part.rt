@@ -3,13 +3,13 @@
 ghost use Rattle.std.specs.Prelude.{◌≡◌, ◌==◌, ◌≤◌, IfOk, OnOk, IfSome, All, find, position, length, map};
 ghost use Rattle.std.specs.Option.{option_copied};
 ghost use Rattle.std.specs.FinMap as finite;
-ghost use Rattle.service_core.specs.TenantStates.{replies_of, empty_tenant};
-ghost use Rattle.service_core.specs.Steps.{Executes, IsTenantStep};
+ghost use Rattle.service_model.specs.TenantStates.{replies_of, empty_tenant};
+ghost use Rattle.service_model.specs.Steps.{Executes, IsTenantStep};
 
 use crate::operation::{Operation, perform};
-use crate::outcome::Outcome;
 use bpf_verifier::Procedure;
 use host_types::{Bytes, ClientId, Reply, Request, SeqNo, TenantId};
+use service_model::Outcome;
 use std::alloc::{AllocError, Global};
 use std::marker::Model;
 use tenant_maps::TenantMap;
@@ -26,8 +26,8 @@ pub(crate) struct TenantPart {
 
 impl Model for TenantPart {
     ghost use Rattle.std.specs.Prelude.{◌≤◌, map, length, All};
-    ghost use Rattle.service_core.specs.TenantStates.{TenantState, replies_of};
-    ghost use Rattle.service_core.specs.Equality.{tenant_code};
+    ghost use Rattle.service_model.specs.TenantStates.{TenantState, replies_of};
+    ghost use Rattle.service_model.specs.Equality.{tenant_code};
 
     ghost Value = { TenantState };
 

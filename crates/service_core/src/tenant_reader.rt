@@ -4,30 +4,26 @@ ghost use Rattle.std.specs.Prelude.{◌≡◌, ◌≢◌, ◌≤◌, ◌++◌, �
 ghost use Rattle.std.specs.FinMap as finite;
 ghost use Rattle.bpf_model.specs.declared.fault.VerifyFault.TheVariants as faults;
 ghost use Rattle.service_core.specs.declared.state_fault.StateFault.TheVariants.{BadState, Memory};
-ghost use Rattle.service_core.specs.Words.{u32_bytes};
+ghost use Rattle.service_model.specs.Words.{u32_bytes};
 ghost use Rattle.host_types.specs.Configuration.{tenants_of, entry_of};
-ghost use Rattle.service_core.specs.TenantStates.{replies_of};
-ghost use Rattle.service_core.specs.Encoding.{length_prefixed, encoded_procedures, encoded_entries, encoded_tenant};
-ghost use Rattle.service_core.specs.Sound.{IsAcceptedCode};
-ghost use Rattle.service_core.specs.Bounded.{IsSizedMap};
+ghost use Rattle.service_model.specs.TenantStates.{replies_of};
+ghost use Rattle.service_model.specs.Encoding.{length_prefixed, encoded_procedures, encoded_entries, encoded_tenant};
+ghost use Rattle.service_model.specs.Sound.{IsAcceptedCode};
+ghost use Rattle.service_model.specs.Bounded.{IsSizedMap};
 ghost use Rattle.service_core.specs.Readings.{Reads, AreProcedures, AreContents, encoded_contents, ArePartsOf, HaveReplies, AreSizedEntries, IsAbove, is_of, replies_to_tenant};
 
+use crate::operation::MAX_PROCEDURES;
 use crate::reader::{read_count, read_length_prefixed, read_u32};
 use crate::state_fault::StateFault;
 use crate::tenant_part::{TenantPart, copy_of};
+use bpf_decode::{MAX_SLOTS, SLOT_SIZE};
 use bpf_verifier::{Procedure, VerifyFault, verify};
 use host_types::{ClientId, Config, Reply, TenantId};
 use std::alloc::{AllocError, Global};
-use tenant_maps::{MapPort, TenantMap};
-
-/// The most procedures of a tenant.
-const MAX_PROCEDURES: u32 = 64;
+use tenant_maps::{MAX_ENTRIES, MapPort, TenantMap};
 
 /// The most bytes of a procedure.
-const MAX_CODE: u32 = 8192;
-
-/// The most entries of a tenant's map.
-const MAX_ENTRIES: u32 = 4096;
+const MAX_CODE: u32 = (SLOT_SIZE * MAX_SLOTS) as u32;
 
 /// A procedure, which is verified anew.
 fn read_procedure(alloc: Global, bytes: &[u8]) -> Result<(Procedure, &[u8]), StateFault>
@@ -63,7 +59,7 @@ fn read_procedures_of(
 fn read_procedures(alloc: Global, bytes: &[u8]) -> Result<(Vec<Procedure>, &[u8]), StateFault>
     ensures { Reads (λ x. (map (λ p. p.bytes) x.0.items, x.1.now)) encoded_procedures AreProcedures bytes.now result }
 {
-    let (count, rest) = read_count(MAX_PROCEDURES, bytes)?;
+    let (count, rest) = read_count(MAX_PROCEDURES as u32, bytes)?;
     read_procedures_of(alloc, count, rest)
 }
 
@@ -116,7 +112,7 @@ fn read_entries_of(
 fn read_entries(alloc: Global, bytes: &[u8]) -> Result<(TenantMap, &[u8]), StateFault>
     ensures { Reads (λ x. (x.0.entries, x.1.now)) encoded_entries IsSizedMap bytes.now result }
 {
-    let (count, rest) = read_count(MAX_ENTRIES, bytes)?;
+    let (count, rest) = read_count(MAX_ENTRIES as u32, bytes)?;
     read_entries_of(alloc, count, rest)
 }
 

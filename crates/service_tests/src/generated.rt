@@ -3,29 +3,27 @@
 
 ghost use Rattle.std.specs.Prelude.{◌<◌};
 
-use crate::service::{COPY, PUT, SEVEN, apply, call, config, genesis, install, raw, request};
-use crate::state_bytes::{expect_again, is_exact, next, with_byte};
-use host_types::{Bytes, ClientId, Request};
-use service_core::State;
+use crate::answers::FULL_STATE;
+use crate::changes::is_state;
+use crate::service::{Service, bytes_of, config};
 use std::alloc::{AllocError, Global};
 use std::test::Fail;
 
-/// Clients with their tenants.
-const CLIENTS: [(u32, u32); 6] = [(300, 2), (100, 1), (200, 1), (150, 2), (400, 7), (16, 3)];
+/// Clients, and each with its tenant.
+const CLIENTS: [u32; 6] = [300, 100, 200, 150, 400, 16];
 
-/// Removes the entry whose key is the first 16 argument bytes.
-const REMOVE: &[u8] = &[0x85, 0, 0, 0, 3, 0, 0, 0, 0x95, 0, 0, 0, 0, 0, 0, 0];
+const PAIRS: &str = "300:2 100:1 200:1 150:2 400:7 16:3";
 
-/// Emits the 256 argument bytes.
-const EMIT: &[u8] = &[
-    0xb7, 0x02, 0, 0, 0, 1, 0, 0, 0x85, 0, 0, 0, 6, 0, 0, 0, 0x95, 0, 0, 0, 0, 0, 0, 0,
+/// What is installed: code that puts an entry, returns 7, copies an entry, removes one, emits the arguments; and
+/// code that is refused, since it falls off its end.
+const CODES: [&str; 6] = [
+    "bf12000000000000070200001000000085000000020000009500000000000000",
+    "b7000000070000009500000000000000",
+    "bf16000000000000bf1200000000000007020000100000008500000001000000bf610000000000000701000030000000bf62000000000000070200001000000085000000020000009500000000000000",
+    "85000000030000009500000000000000",
+    "b70200000001000085000000060000009500000000000000",
+    "b700000000000000",
 ];
-
-/// Code that the verifier refuses: it falls off its end.
-const NO_EXIT: &[u8] = &[0xb7, 0, 0, 0, 0, 0, 0, 0];
-
-/// What is installed.
-const CODES: [&[u8]; 6] = [PUT, SEVEN, COPY, REMOVE, EMIT, NO_EXIT];
 
 /// A generator of numbers, at the last one that it gave.
 #[derive(Drop)]
@@ -34,82 +32,108 @@ struct Numbers {
 }
 
 impl Numbers {
+    /// The next number.
+    fn next(&mut self) -> u32 {
+        self.last = self
+            .last
+            .wrapping_mul(1_664_525)
+            .wrapping_add(1_013_904_223);
+        self.last
+    }
+
     /// The next number below this one.
     fn below(&mut self, limit: u32) -> u32
         requires { 0 < limit }
         ensures { result < limit }
     {
-        self.last = next(self.last);
-        (self.last >> 8) % limit
+        (self.next() >> 8) % limit
     }
 
     /// An installation, a call, or an operation that there isn't.
-    fn operation(&mut self, alloc: Global) -> Result<Bytes, AllocError> {
+    fn operation(&mut self, alloc: Global) -> Result<String, AllocError> {
         match self.below(8) {
-            0 => raw(alloc, &[9]),
-            1 | 2 => install(alloc, CODES[self.below(6) as usize]),
+            0 => String::from_str(alloc, "raw 09"),
+            1 | 2 => {
+                let code = CODES[self.below(6) as usize];
+                format!(in alloc; "install {code}")
+            }
             _ => {
-                let procedure = self.below(6);
-                let mut arguments = Vec::from_elem(alloc, self.below(20) as u8, 16)?;
-                arguments.extend_from_slice(&[self.below(256) as u8; 32])?;
-                call(alloc, procedure, &arguments)
+                let (procedure, key, value) = (self.below(6), self.below(20), self.below(256));
+                let front = format!(in alloc; "{key:02x}")?.repeat(alloc, 16)?;
+                let back = format!(in alloc; "{value:02x}")?.repeat(alloc, 32)?;
+                format!(in alloc; "call {procedure} {front}{back}")
             }
         }
     }
 
     /// A client's request, whose time may be above, at or below its last; or the null request.
-    fn request(&mut self, alloc: Global, number: u64) -> Result<Option<Request>, AllocError> {
-        let (client, _) = CLIENTS[self.below(6) as usize];
+    fn line(&mut self, alloc: Global, number: u64) -> Result<String, AllocError> {
+        let client = CLIENTS[self.below(6) as usize];
         if self.below(12) == 0 {
-            return Ok(None);
+            return String::from_str(alloc, "null");
         }
         let time = number.saturating_sub(u64::from(self.below(4)));
-        let op = self.operation(alloc)?;
-        Ok(Some(request(client, time, op)))
+        let operation = self.operation(alloc)?;
+        format!(in alloc; "{client} {time} {operation}")
     }
 }
 
-/// Applies the next request of a generator.
-fn step(alloc: Global, state: &mut State, numbers: &mut Numbers) -> Result<(), Fail> {
-    let number = state.number().0;
-    match numbers.request(alloc, number)? {
-        Some(request) => {
-            apply(state, &request)?;
-        }
-        None if number < 10_000 => {
-            state.apply(None)?;
-        }
-        None => return Err(Fail::new("too many requests")),
+/// The bytes with another one at an offset.
+fn with_byte(alloc: Global, bytes: &[u8], offset: usize, byte: u8) -> Result<Vec<u8>, AllocError> {
+    let mut changed = bytes.to_vec(alloc)?;
+    if let Some(old) = changed.get_mut(offset) {
+        *old = byte;
     }
-    Ok(())
+    Ok(changed)
 }
 
-/// The bytes with another one at an offset that a generator gives.
-fn changed(alloc: Global, bytes: &[u8], numbers: &mut Numbers) -> Result<Vec<u8>, AllocError> {
+/// Whether the service's bytes with one of them changed, which a generator chooses, are those of a state.
+fn is_state_near(service: &Service, numbers: &mut Numbers) -> Result<bool, Fail> {
+    let bytes = service.state.to_bytes()?;
     let offset = numbers.below(1 << 24) as usize % bytes.len().max(1);
     let old = bytes.get(offset).copied().unwrap_or(0);
-    let by = 1 + numbers.below(255) as u8;
-    with_byte(alloc, bytes, offset, old.wrapping_add(by))
+    let byte = old.wrapping_add(1 + numbers.below(255) as u8);
+    let changed = with_byte(service.alloc, &bytes, offset, byte)?;
+    is_state(service.alloc, &service.config, &changed)
+}
+
+/// How many of a hundred states, by requests of a generator, have a state beside them.
+fn states_near(alloc: Global, numbers: &mut Numbers) -> Result<u32, Fail> {
+    let mut service = Service::new(alloc, PAIRS)?;
+    let mut states = 0u32;
+    for _ in 0..100 {
+        let line = numbers.line(alloc, service.state.number().0)?;
+        service.take(&line)?;
+        service.read_again()?;
+        states = states.saturating_add(u32::from(is_state_near(&service, numbers)?));
+    }
+    Ok(states)
 }
 
 /// 1,000 states: ten times a hundred requests from the first state on.
 #[test]
 fn states_of_many_requests_are_read(rt: HostRuntime) -> Result<(), Fail> {
-    let alloc = rt.alloc();
-    let clients = config(alloc, &CLIENTS)?;
     let mut numbers = Numbers { last: 20_261_124 };
     let mut states = 0u32;
     for _ in 0..10 {
-        let mut state = genesis(alloc, &CLIENTS)?;
-        for _ in 0..100 {
-            step(alloc, &mut state, &mut numbers)?;
-            expect_again(&rt, &clients, &state)?;
-            let bytes = changed(alloc, &state.to_bytes()?, &mut numbers)?;
-            if is_exact(&rt, &clients, &bytes)? {
-                states = states.saturating_add(1);
-            }
-        }
+        states = states.saturating_add(states_near(rt.alloc(), &mut numbers)?);
     }
     assert!(rt; states > 200 && states < 800, "{states}");
+    Ok(())
+}
+
+/// Every byte of a state changed to a few others, and the bytes each time those of a state or of none.
+#[test]
+fn a_state_with_a_byte_changed_is_read_exactly(rt: HostRuntime) -> Result<(), Fail> {
+    let clients = config(rt.alloc(), "300:2 100:1 200:1 150:2")?;
+    let bytes = bytes_of(rt.alloc(), FULL_STATE)?;
+    let mut numbers = Numbers { last: 20_270_101 };
+    let mut states = 0u32;
+    for step in 0..3360 {
+        let byte = (numbers.next() >> 24) as u8;
+        let changed = with_byte(rt.alloc(), &bytes, step / 8, byte)?;
+        states = states.saturating_add(u32::from(is_state(rt.alloc(), &clients, &changed)?));
+    }
+    assert!(rt; states > 500 && states < 2860);
     Ok(())
 }

@@ -1,7 +1,7 @@
 //! A largest state, written out by its layout, and bytes near it that encode none.
 
+use crate::changes::wants;
 use crate::service::config;
-use crate::state_bytes::{Edit, PROCEDURE, SAME, edited, is_exact};
 use std::alloc::{AllocError, Global};
 use std::test::Fail;
 
@@ -53,58 +53,30 @@ fn largest(alloc: Global) -> Result<Vec<u8>, AllocError> {
 
 /// The last tenant stands from byte 5,066,661 on: its procedures from 5,066,669 on, the last slot of them at
 /// 5,591,205, and its entries from 5,591,217 on.
-const NEAR: &[Edit] = &[
-    ("nothing", true, SAME, (0, 0), &[], 0),
-    (
-        "the last byte cut off",
-        false,
-        SAME,
-        (5_787_824, 5_787_825),
-        &[],
-        0,
-    ),
-    (
-        "half of it cut off",
-        false,
-        SAME,
-        (2_893_912, 5_787_825),
-        &[],
-        0,
-    ),
-    ("a byte more", false, SAME, (5_787_825, 5_787_825), &[0], 1),
-    ("a key out of order", false, (5_591_217, 1), (0, 0), &[], 0),
-    (
-        "a procedure that falls off its end",
-        false,
-        (5_591_205, 0xb7),
-        (0, 0),
-        &[],
-        0,
-    ),
-    (
-        "65 procedures",
-        false,
-        (5_066_668, 65),
-        (5_066_669, 5_066_669),
-        PROCEDURE,
-        1,
-    ),
-];
+const NEAR: &str = "\
+yes | 0 1 01 | nothing\n\
+no | 5787824 5787825 - | the last byte cut off\n\
+no | 2893912 5787825 - | half of it cut off\n\
+no | 5787825 5787825 00 | a byte more\n\
+no | 5591217 5591218 01 | a key out of order\n\
+no | 5591205 5591206 b7 | a procedure that falls off its end\n\
+no | 5066669 5066669 00000010b7000000070000009500000000000000, 5066668 5066669 41 | 65 procedures\n\
+";
+
+/// Clients 100 to 163, of the tenants 1 to 8.
+fn pairs(alloc: Global) -> Result<String, AllocError> {
+    let mut pairs = String::from_str(alloc, "100:1")?;
+    for index in 1..64u32 {
+        let (client, tenant) = (100 + index, index % 8 + 1);
+        pairs.push_str(&format!(in alloc; " {client}:{tenant}")?)?;
+    }
+    Ok(pairs)
+}
 
 #[test]
 fn a_largest_state_is_read(rt: HostRuntime) -> Result<(), Fail> {
-    let alloc = rt.alloc();
-    let mut pairs = Vec::new(alloc);
-    for index in 0..64u32 {
-        pairs.push((100 + index, index % 8 + 1))?;
-    }
-    let clients = config(alloc, &pairs)?;
-    let bytes = largest(alloc)?;
+    let clients = config(rt.alloc(), &pairs(rt.alloc())?)?;
+    let bytes = largest(rt.alloc())?;
     assert!(rt; bytes.len() == 5_787_825);
-    for edit in NEAR {
-        let changed = edited(alloc, &bytes, edit)?;
-        let what = edit.0;
-        assert!(rt; is_exact(&rt, &clients, &changed)? == edit.1, "{what}");
-    }
-    Ok(())
+    wants(rt.alloc(), &clients, &bytes, NEAR)
 }

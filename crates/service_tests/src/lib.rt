@@ -3,10 +3,12 @@
 #![tactic(auto)]
 
 #[cfg(test)]
+mod answers;
+#[cfg(test)]
+mod changes;
+#[cfg(test)]
 mod generated;
 #[cfg(test)]
 mod largest;
 #[cfg(test)]
 mod service;
-#[cfg(test)]
-mod state_bytes;

@@ -4,8 +4,6 @@
 
 mod port;
 mod tenant_map;
-#[cfg(test)]
-mod tests;
 
 pub use port::{MapPort, Put};
-pub use tenant_map::TenantMap;
+pub use tenant_map::{MAX_ENTRIES, TenantMap};

@@ -14,7 +14,7 @@ use std::marker::Model;
 use std::ops::Bound;
 
 /// The most entries of a tenant's map.
-const MAX_ENTRIES: usize = 4096;
+pub const MAX_ENTRIES: usize = 4096;
 
 /// One tenant's map. Contracts see it as its entries, which are always a tenant's map.
 #[derive(Drop)]

@@ -1,37 +1,26 @@
 //! Messages that are sealed, opened and refused.
 
-use crate::is_named;
+use crate::codec::layouts::kind;
 use host_types::{Bytes, ClientEntry, ClientId, Config, TenantId};
 use lms_tree::{Height, SignFault, Signer};
-use pbft_codec::{Body, CodecFault, RequestBody, Role, Signed, signed_bytes};
-use seal::{Checked, Part, SealFault, nested, open, parts, request_digest, seal};
+use pbft_codec::{Body, RequestBody, Role, Signed, signed_bytes};
+use seal::{Checked, nested, open, parts, request_digest, seal};
 use sha2::{Digest, Sha256};
 use std::alloc::{AllocError, Global};
 use std::process::Abort;
 use std::sync::Arc;
 use std::test::Fail;
 
-const REPLICA: u8 = 1;
-
-const CLIENT: u8 = 2;
-
-// The body of a Request at time 1 of one operation byte.
+/// The body of a Request at time 1 of one operation byte.
 const REQUEST: [u8; 14] = [1, 0, 0, 0, 0, 0, 0, 0, 1, 0, 0, 0, 1, 9];
 
-// The seeds are parameters, so that a proof takes them as they come and computes nothing of them.
+/// A signer of height 5. The seeds are parameters, so that a proof takes them as they come and computes nothing
+/// of them.
 fn signer(alloc: Global, identifier: [u8; 16], seed: [u8; 32]) -> Result<Signer, AllocError> {
     Signer::from_seed(alloc, Height::H5, identifier, seed)
 }
 
-fn replica(alloc: Global, index: u8) -> Result<Signer, AllocError> {
-    signer(alloc, [index; 16], [5; 32])
-}
-
-fn client(alloc: Global) -> Result<Signer, AllocError> {
-    signer(alloc, [100; 16], [6; 32])
-}
-
-// Four replicas, of which one may be faulty, and the client 100.
+/// Four replicas, of which one may be faulty, and the client 100.
 fn config(alloc: Global, keys: &[[u8; 56]], client: [u8; 56]) -> Result<Arc<Config>, Fail> {
     let mut clients = Vec::new(alloc);
     clients.push(ClientEntry {
@@ -50,7 +39,8 @@ fn put_length_prefixed(out: &mut Vec<u8>, bytes: &[u8]) -> Result<(), Fail> {
     Ok(())
 }
 
-fn text(alloc: Global, role: u8, id: u32, body: &[u8]) -> Result<Vec<u8>, Fail> {
+/// What is signed of a message.
+fn covered(alloc: Global, role: u8, id: u32, body: &[u8]) -> Result<Vec<u8>, Fail> {
     let mut text = Vec::new(alloc);
     text.push(role)?;
     text.extend_from_slice(&id.to_be_bytes())?;
@@ -58,7 +48,7 @@ fn text(alloc: Global, role: u8, id: u32, body: &[u8]) -> Result<Vec<u8>, Fail> 
     Ok(text)
 }
 
-// A message of this body, put together by hand.
+/// A message of this body, put together by hand.
 fn message(
     alloc: Global,
     signer: &mut Signer,
@@ -66,7 +56,7 @@ fn message(
     id: u32,
     body: &[u8],
 ) -> Result<Vec<u8>, Fail> {
-    let sig = signer.sign(&text(alloc, role, id, body)?)?;
+    let sig = signer.sign(&covered(alloc, role, id, body)?)?;
     let mut out = Vec::new(alloc);
     out.push(role)?;
     out.extend_from_slice(&id.to_be_bytes())?;
@@ -75,7 +65,7 @@ fn message(
     Ok(out)
 }
 
-// The body of a PrePrepare (2), a Prepare (3) or a Commit (4) of number 1.
+/// The body of a PrePrepare (2), a Prepare (3) or a Commit (4) of number 1.
 fn vote(alloc: Global, kind: u8, view: u32) -> Result<Vec<u8>, Fail> {
     let mut body = Vec::new(alloc);
     body.push(kind)?;
@@ -85,334 +75,201 @@ fn vote(alloc: Global, kind: u8, view: u32) -> Result<Vec<u8>, Fail> {
     Ok(body)
 }
 
-// The body of a ViewChange for view 1 with no Checkpoints and one certificate of two Prepares.
-fn change(
-    alloc: Global,
-    pre_prepare: &[u8],
-    prepare: &[u8],
-    other_prepare: &[u8],
-) -> Result<Vec<u8>, Fail> {
-    let mut body = Vec::new(alloc);
-    body.extend_from_slice(&[7, 0, 0, 0, 1])?;
-    body.extend_from_slice(&[0; 12])?;
-    body.extend_from_slice(&[0, 0, 0, 1])?;
-    body.extend_from_slice(pre_prepare)?;
-    body.extend_from_slice(&[0, 0, 0, 2])?;
-    body.extend_from_slice(prepare)?;
-    body.extend_from_slice(other_prepare)?;
-    Ok(body)
-}
-
-fn with_last_byte_changed(alloc: Global, bytes: &[u8]) -> Result<Vec<u8>, Fail> {
-    let mut changed = Vec::from_slice(alloc, bytes)?;
-    if let Some(last) = changed.last_mut() {
-        *last = last.wrapping_add(1);
+/// Changes the last byte, or puts one more behind it.
+fn damage(bytes: &mut Vec<u8>, how: &str) -> Result<(), AllocError> {
+    match (how.as_bytes(), bytes.last_mut()) {
+        (b"changed", Some(last)) => {
+            *last = last.wrapping_add(1);
+            Ok(())
+        }
+        (b"longer", _) => Ok(bytes.push(0)?),
+        _ => Ok(()),
     }
-    Ok(changed)
 }
 
-fn fault(alloc: Global, config: &Arc<Config>, bytes: &[u8]) -> Option<SealFault> {
-    open(alloc, config, bytes).err()
+/// The words of a text up to the first blank, and behind it.
+fn halves(line: &str) -> (&str, &str) {
+    line.split_once(" ").unwrap_or((line, ""))
 }
 
-#[test]
-fn bytes_and_signatures_are_verified(rt: HostRuntime) -> Result<(), Fail> {
-    let alloc = rt.alloc();
-    let mut second = replica(alloc, 1)?;
-    let config = config(
-        alloc,
-        &[[0; 56], second.public_key(), [0; 56], [0; 56]],
-        [0; 56],
-    )?;
-    let good = message(alloc, &mut second, REPLICA, 1, &vote(alloc, 3, 0)?)?;
-    let changed = with_last_byte_changed(alloc, &good)?;
-    let more = [good.as_slice(), [0].as_slice()].concat(alloc)?;
-    let rows = [
-        ("as signed", &good, None),
-        ("changed", &changed, Some(SealFault::BadSignature)),
-        (
-            "one byte more",
-            &more,
-            Some(SealFault::Codec(CodecFault::Trailing)),
-        ),
-    ];
-    for (name, bytes, wanted) in rows {
-        assert!(rt; fault(alloc, &config, bytes) == wanted, "{name}");
-    }
-    Ok(())
-}
-
-// The fault of a replica's message of this body, changed behind its signature or not.
-fn fault_of_part(
-    alloc: Global,
-    config: &Arc<Config>,
-    signer: &mut Signer,
-    id: u32,
-    body: &[u8],
-    is_changed: bool,
-) -> Result<Option<SealFault>, Fail> {
-    let bytes = message(alloc, signer, REPLICA, id, body)?;
-    if !is_changed {
-        return Ok(fault(alloc, config, &bytes));
-    }
-    let changed = with_last_byte_changed(alloc, &bytes)?;
-    Ok(fault(alloc, config, &changed))
-}
-
-#[test]
-fn the_first_fault_of_a_part_is_reported(rt: HostRuntime) -> Result<(), Fail> {
-    let alloc = rt.alloc();
-    let mut first = replica(alloc, 0)?;
-    let config = config(
-        alloc,
-        &[first.public_key(), [0; 56], [0; 56], [0; 56]],
-        [0; 56],
-    )?;
-    let prepare = vote(alloc, 3, 0)?;
-    let request = REQUEST.as_slice();
-    let rows = [
-        (
-            "a Prepare of the primary",
-            0,
-            prepare.as_slice(),
-            false,
-            SealFault::WrongRole,
-        ),
-        (
-            "and a bad signature",
-            0,
-            prepare.as_slice(),
-            true,
-            SealFault::WrongRole,
-        ),
-        (
-            "a replica's Request",
-            0,
-            request,
-            false,
-            SealFault::WrongRole,
-        ),
-        (
-            "replica 4 of 4",
-            4,
-            prepare.as_slice(),
-            false,
-            SealFault::UnknownSigner,
-        ),
-        (
-            "replica 257",
-            257,
-            prepare.as_slice(),
-            false,
-            SealFault::UnknownSigner,
-        ),
-        (
-            "a Request of replica 4",
-            4,
-            request,
-            false,
-            SealFault::UnknownSigner,
-        ),
-        (
-            "a Request of replica 257",
-            257,
-            request,
-            false,
-            SealFault::UnknownSigner,
-        ),
-    ];
-    for (name, id, body, is_changed, wanted) in rows {
-        let found = fault_of_part(alloc, &config, &mut first, id, body, is_changed)?;
-        assert!(rt; found == Some(wanted), "{name}");
-    }
-    Ok(())
-}
-
-// The messages of a certificate: a PrePrepare, the same with a bad signature, a Prepare, and one of a
-// replica that isn't listed.
+/// The signers of replicas 0, 1 and 2.
 #[derive(Drop)]
-struct Votes {
-    pre_prepare: Vec<u8>,
-    changed: Vec<u8>,
-    prepare: Vec<u8>,
-    unlisted: Vec<u8>,
+struct Group {
+    alloc: Global,
+    signers: Vec<Signer>,
+    config: Arc<Config>,
 }
 
-fn signed_votes(alloc: Global, first: &mut Signer, second: &mut Signer) -> Result<Votes, Fail> {
-    let proposal = vote(alloc, 2, 0)?;
-    let vote = vote(alloc, 3, 0)?;
-    let pre_prepare = message(alloc, first, REPLICA, 0, &proposal)?;
-    let changed = with_last_byte_changed(alloc, &pre_prepare)?;
-    let prepare = message(alloc, second, REPLICA, 1, &vote)?;
-    let unlisted = message(alloc, second, REPLICA, 4, &vote)?;
-    Ok(Votes {
-        pre_prepare,
-        changed,
-        prepare,
-        unlisted,
-    })
-}
-
-#[test]
-fn the_first_part_with_a_fault_is_reported(rt: HostRuntime) -> Result<(), Fail> {
-    let alloc = rt.alloc();
-    let mut first = replica(alloc, 0)?;
-    let mut second = replica(alloc, 1)?;
-    let config = config(
-        alloc,
-        &[first.public_key(), second.public_key(), [0; 56], [0; 56]],
-        [0; 56],
-    )?;
-    let votes = signed_votes(alloc, &mut first, &mut second)?;
-    let good = change(alloc, &votes.pre_prepare, &votes.prepare, &votes.unlisted)?;
-    let bad = change(alloc, &votes.changed, &votes.prepare, &votes.unlisted)?;
-    let rows = [
-        ("the last Prepare's", &good, false, SealFault::UnknownSigner),
-        ("the PrePrepare's", &bad, false, SealFault::BadSignature),
-        ("the whole message's", &good, true, SealFault::BadSignature),
-    ];
-    for (name, body, is_changed, wanted) in rows {
-        let found = fault_of_part(alloc, &config, &mut second, 1, body, is_changed)?;
-        assert!(rt; found == Some(wanted), "{name}");
+impl Group {
+    fn new(alloc: Global) -> Result<Group, Fail> {
+        let mut signers = Vec::new(alloc);
+        let mut keys = [[0; 56]; 4];
+        for index in 0..3u8 {
+            let signer = signer(alloc, [index; 16], [5; 32])?;
+            keys[usize::from(index)] = signer.public_key();
+            signers.push(signer)?;
+        }
+        let config = config(alloc, &keys, [0; 56])?;
+        Ok(Group {
+            alloc,
+            signers,
+            config,
+        })
     }
-    Ok(())
-}
 
-fn kind(body: &Body) -> u8 {
-    match body {
-        Body::Request(_) => 1,
-        Body::PrePrepare(_) => 2,
-        Body::Prepare(_) => 3,
-        Body::Commit(_) => 4,
-        Body::Reply(_) => 5,
-        Body::Checkpoint(_) => 6,
-        Body::ViewChange(_) => 7,
-        Body::NewView(_) => 8,
-        Body::Fetch(_) => 9,
-        Body::Snapshot(_) => 10,
+    /// The message of a replica's id, signed by one of the signers.
+    fn message(&mut self, id: u32, signer: usize, body: &[u8]) -> Result<Vec<u8>, Fail> {
+        let signer = self.signers.get_mut(signer).ok_or("no such signer")?;
+        message(self.alloc, signer, 1, id, body)
+    }
+
+    /// A vote of view 0 that a replica signs: a PrePrepare of the primary, a Prepare of another one.
+    fn vote(&mut self, id: u32, signer: usize) -> Result<Vec<u8>, Fail> {
+        let kind = if id == 0 { 2 } else { 3 };
+        let body = vote(self.alloc, kind, 0)?;
+        self.message(id, signer, &body)
+    }
+
+    /// The body of a ViewChange for view 1 with no Checkpoints and one certificate: a PrePrepare, damaged so, and
+    /// the Prepares of replica 1 and of this other one, which signer 2 signs.
+    fn change(&mut self, how: &str, other: u32) -> Result<Vec<u8>, Fail> {
+        let mut body = [7, 0, 0, 0, 1].to_vec(self.alloc)?;
+        body.extend_from_slice(&[0; 12])?;
+        body.extend_from_slice(&[0, 0, 0, 1])?;
+        let mut proposal = self.vote(0, 0)?;
+        damage(&mut proposal, how)?;
+        body.extend_from_slice(&proposal)?;
+        body.extend_from_slice(&[0, 0, 0, 2])?;
+        body.extend_from_slice(&self.vote(1, 1)?)?;
+        body.extend_from_slice(&self.vote(other, 2)?)?;
+        Ok(body)
+    }
+
+    /// What the NewView for view 1 holds: the ViewChanges of replicas 1 and 2, and a PrePrepare of replica 1.
+    fn held(&mut self) -> Result<Vec<Vec<u8>>, Fail> {
+        let mut held = Vec::new(self.alloc);
+        let change = self.change("-", 2)?;
+        held.push(self.message(1, 1, &change)?)?;
+        held.push(self.message(2, 2, &change)?)?;
+        let proposal = vote(self.alloc, 2, 1)?;
+        held.push(self.message(1, 1, &proposal)?)?;
+        Ok(held)
+    }
+
+    /// The body of the text's name: `prepare`, `request`, `change HOW OTHER` or `new-view`.
+    fn body(&mut self, text: &str) -> Result<Vec<u8>, Fail> {
+        let (name, rest) = halves(text);
+        match name.as_bytes() {
+            b"prepare" => vote(self.alloc, 3, 0),
+            b"request" => Ok(REQUEST.to_vec(self.alloc)?),
+            b"change" => {
+                let (how, other) = halves(rest);
+                self.change(how, other.parse()?)
+            }
+            b"new-view" => {
+                let held = self.held()?;
+                new_view(self.alloc, &held)
+            }
+            _ => Err(Fail::new("no such body")),
+        }
+    }
+
+    /// The name of the fault of a message, or `-`: its id, its signer, how it is damaged, and its body.
+    fn fault(&mut self, text: &str) -> Result<String, Fail> {
+        let (id, rest) = halves(text);
+        let (signer, rest) = halves(rest);
+        let (how, body) = halves(rest);
+        let body = self.body(body)?;
+        let mut bytes = self.message(id.parse()?, signer.parse()?, &body)?;
+        damage(&mut bytes, how)?;
+        match open(self.alloc, &self.config, &bytes).err() {
+            Some(fault) => Ok(fault.to_string(self.alloc)?),
+            None => Ok(String::from_str(self.alloc, "-")?),
+        }
     }
 }
 
-// Signers and kinds.
-fn signers_and_kinds(alloc: Global, parts: &[Part]) -> Result<Vec<(u32, u8)>, Fail> {
-    let mut signers_and_kinds = Vec::new(alloc);
-    for part in parts {
-        signers_and_kinds.push((part.id, kind(&part.body)))?;
-    }
-    Ok(signers_and_kinds)
-}
-
-// The NewView for view 1 of replica 1, over its own ViewChange and this one of replica 2.
-fn new_view(alloc: Global, own: &[u8], other: &[u8], pre_prepare: &[u8]) -> Result<Vec<u8>, Fail> {
-    let mut body = Vec::new(alloc);
-    body.extend_from_slice(&[8, 0, 0, 0, 1])?;
+/// The body of the NewView for view 1 of two ViewChanges and a PrePrepare.
+fn new_view(alloc: Global, held: &[Vec<u8>]) -> Result<Vec<u8>, Fail> {
+    let [own, other, proposed] = held else {
+        return Err(Fail::new("not three messages"));
+    };
+    let mut body = [8, 0, 0, 0, 1].to_vec(alloc)?;
     body.extend_from_slice(&[0, 0, 0, 2])?;
     body.extend_from_slice(own)?;
     body.extend_from_slice(other)?;
     body.extend_from_slice(&[0, 0, 0, 1])?;
-    body.extend_from_slice(pre_prepare)?;
+    body.extend_from_slice(proposed)?;
     Ok(body)
 }
 
-// A NewView's body, and what it holds: the ViewChanges of replicas 1 and 2, a PrePrepare of replica 1.
-#[derive(Drop)]
-struct Entry {
-    own: Vec<u8>,
-    other: Vec<u8>,
-    proposed: Vec<u8>,
-    body: Vec<u8>,
-}
+/// The id that a message names, who signs it, how it is damaged behind its signature, and its body; and the fault.
+/// A certificate has a PrePrepare that is damaged so, and Prepares of replica 1 and of the one that is named.
+const MESSAGES: &str = "\
+1 1 - prepare => -\n\
+1 1 changed prepare => BadSignature\n\
+1 1 longer prepare => Trailing\n\
+0 0 - prepare => WrongRole\n\
+0 0 changed prepare => WrongRole\n\
+0 0 - request => WrongRole\n\
+4 0 - prepare => UnknownSigner\n\
+257 0 - prepare => UnknownSigner\n\
+4 0 - request => UnknownSigner\n\
+257 0 - request => UnknownSigner\n\
+1 1 - change - 2 => -\n\
+1 1 - change - 4 => UnknownSigner\n\
+1 1 - change changed 4 => BadSignature\n\
+1 1 changed change - 4 => BadSignature\n\
+1 1 - new-view => -\n\
+2 2 - new-view => WrongRole\n\
+";
 
-fn entry_of(
-    alloc: Global,
-    first: &mut Signer,
-    second: &mut Signer,
-    third: &mut Signer,
-) -> Result<Entry, Fail> {
-    let pre_prepare = message(alloc, first, REPLICA, 0, &vote(alloc, 2, 0)?)?;
-    let prepare = message(alloc, second, REPLICA, 1, &vote(alloc, 3, 0)?)?;
-    let other_prepare = message(alloc, third, REPLICA, 2, &vote(alloc, 3, 0)?)?;
-    let body = change(alloc, &pre_prepare, &prepare, &other_prepare)?;
-    let own = message(alloc, second, REPLICA, 1, &body)?;
-    let other = message(alloc, third, REPLICA, 2, &body)?;
-    let proposed = message(alloc, second, REPLICA, 1, &vote(alloc, 2, 1)?)?;
-    let body = new_view(alloc, &own, &other, &proposed)?;
-    Ok(Entry {
-        own,
-        other,
-        proposed,
-        body,
-    })
-}
-
-// Signers and kinds of a NewView's parts, each after the one it is nested in.
-const PARTS: [(u32, u8); 10] = [
-    (1, 8),
-    (1, 7),
-    (0, 2),
-    (1, 3),
-    (2, 3),
-    (2, 7),
-    (0, 2),
-    (1, 3),
-    (2, 3),
-    (1, 2),
-];
-
-fn holds(entry: &Entry, inside: &[Checked]) -> bool {
-    match inside {
-        [own, other, proposed] => {
-            own.bytes() == entry.own.as_slice()
-                && other.bytes() == entry.other.as_slice()
-                && proposed.bytes() == entry.proposed.as_slice()
-                && other.signer() == (Role::Replica, 2)
-        }
-        _ => false,
+#[test]
+fn the_first_part_with_a_fault_is_reported(rt: HostRuntime) -> Result<(), Fail> {
+    let mut group = Group::new(rt.alloc())?;
+    for line in MESSAGES.lines() {
+        let (text, wanted) = line.split_once(" => ").ok_or("no fault")?;
+        assert!(rt; group.fault(text)?.as_str() == wanted, "{line}");
     }
+    Ok(())
 }
 
-fn check_new_view(
-    rt: &impl Abort,
-    alloc: Global,
-    opened: &Checked,
-    entry: &Entry,
-) -> Result<(), Fail> {
-    let parts = parts(alloc, opened)?;
-    assert!(rt; signers_and_kinds(alloc, &parts)?.as_slice() == PARTS.as_slice());
-    let inside = nested(alloc, opened)?;
-    assert!(rt; holds(entry, &inside));
-    Ok(())
+/// Signers and kinds of the parts of a NewView, each after the one it is nested in.
+const PARTS: &str = "1:8 1:7 0:2 1:3 2:3 2:7 0:2 1:3 2:3 1:2 ";
+
+/// Signers and kinds of a message's parts.
+fn parts_of(alloc: Global, message: &Checked) -> Result<String, Fail> {
+    let mut text = String::new(alloc);
+    for part in &parts(alloc, message)? {
+        let (id, kind) = (part.id, kind(&part.body));
+        text.push_str(&format!(in alloc; "{id}:{kind} ")?)?;
+    }
+    Ok(text)
+}
+
+/// Whether the messages inside are those that are held, of which the second one is of replica 2.
+fn holds(held: &[Vec<u8>], inside: &[Checked]) -> bool {
+    held.len() == inside.len()
+        && held
+            .iter()
+            .zip(inside)
+            .all(|(bytes, message)| message.bytes() == bytes.as_slice())
+        && matches!(inside.get(1), Some(other) if other.signer() == (Role::Replica, 2))
 }
 
 #[test]
 fn the_parts_of_a_new_view(rt: HostRuntime) -> Result<(), Fail> {
-    let alloc = rt.alloc();
-    let mut first = replica(alloc, 0)?;
-    let mut second = replica(alloc, 1)?;
-    let mut third = replica(alloc, 2)?;
-    let keys = [
-        first.public_key(),
-        second.public_key(),
-        third.public_key(),
-        [0; 56],
-    ];
-    let config = config(alloc, &keys, [0; 56])?;
-    let entry = entry_of(alloc, &mut first, &mut second, &mut third)?;
-    let bytes = message(alloc, &mut second, REPLICA, 1, &entry.body)?;
-    match open(alloc, &config, &bytes) {
-        Ok(opened) => check_new_view(&rt, alloc, &opened, &entry)?,
-        Err(fault) => Err(fault)?,
-    }
-    // The primary of view 1 alone enters it.
-    let of_other = message(alloc, &mut third, REPLICA, 2, &entry.body)?;
-    assert_eq!(rt;
-        fault(alloc, &config, &of_other),
-        Some(SealFault::WrongRole)
-    );
+    let mut group = Group::new(rt.alloc())?;
+    let held = group.held()?;
+    let body = new_view(rt.alloc(), &held)?;
+    let bytes = group.message(1, 1, &body)?;
+    let opened = open(rt.alloc(), &group.config, &bytes)?;
+    assert!(rt; parts_of(rt.alloc(), &opened)?.as_str() == PARTS);
+    assert!(rt; holds(&held, &nested(rt.alloc(), &opened)?));
     Ok(())
 }
 
-// Seals a request of one byte for client 100, after what the caller of `seal` owes was tested.
+/// Seals a request of one byte for client 100, after what the caller of `seal` owes was tested.
 fn sealed_request(
     rt: &impl Abort,
     alloc: Global,
@@ -436,7 +293,7 @@ fn sealed_request(
     Ok(seal(alloc, config, signer, Role::Client, 100, unsigned.body))
 }
 
-// A sealed request of client 100 shows what it was made of.
+/// Whether a sealed request of client 100 shows what it was made of.
 fn is_sealed_as(sealed: &Checked, bytes: &[u8]) -> bool {
     sealed.bytes() == bytes
         && sealed.signer() == (Role::Client, 100)
@@ -444,53 +301,35 @@ fn is_sealed_as(sealed: &Checked, bytes: &[u8]) -> bool {
         && sealed.config().f() == 1
 }
 
-fn check_sealed(rt: &impl Abort, alloc: Global, sealed: &Checked) -> Result<(), Fail> {
-    let parts = parts(alloc, sealed)?;
-    assert!(rt; signers_and_kinds(alloc, &parts)?.as_slice() == [(100, 1)].as_slice());
-    assert!(rt; nested(alloc, sealed)?.is_empty());
-    assert!(rt; fault(alloc, sealed.config(), sealed.bytes()).is_none());
-    assert!(rt; sealed.copy()?.bytes() == sealed.bytes());
-    let digest = Sha256::digest(&text(alloc, CLIENT, 100, &REQUEST)?);
-    assert!(rt; request_digest(sealed).0 == digest);
-    Ok(())
+/// Whether it has no part but itself, is opened, and has the digest of what is signed.
+fn is_opened(alloc: Global, sealed: &Checked) -> Result<bool, Fail> {
+    let digest = Sha256::digest(&covered(alloc, 2, 100, &REQUEST)?);
+    Ok(
+        parts_of(alloc, sealed)?.as_str() == "100:1 "
+            && nested(alloc, sealed)?.is_empty()
+            && open(alloc, sealed.config(), sealed.bytes()).is_ok()
+            && sealed.copy()?.bytes() == sealed.bytes()
+            && request_digest(sealed).0 == digest,
+    )
+}
+
+/// The signer of client 100.
+fn client(alloc: Global) -> Result<Signer, AllocError> {
+    signer(alloc, [100; 16], [6; 32])
 }
 
 #[test]
 fn a_signer_seals_until_it_is_exhausted(rt: HostRuntime) -> Result<(), Fail> {
     let alloc = rt.alloc();
-    let bytes = message(alloc, &mut client(alloc)?, CLIENT, 100, &REQUEST)?;
+    let bytes = message(alloc, &mut client(alloc)?, 2, 100, &REQUEST)?;
     let mut signer = client(alloc)?;
     let config = config(alloc, &[[0; 56]; 4], signer.public_key())?;
     let first = sealed_request(&rt, alloc, &config, &mut signer)??;
-    assert!(rt; is_sealed_as(&first, &bytes));
-    check_sealed(&rt, alloc, &first)?;
+    assert!(rt; is_sealed_as(&first, &bytes) && is_opened(alloc, &first)?);
     for _ in 1..32 {
         let _next = sealed_request(&rt, alloc, &config, &mut signer)??;
     }
     let none = sealed_request(&rt, alloc, &config, &mut signer)?;
     assert!(rt; none.err() == Some(SignFault::Exhausted) && signer.next_leaf() == 32);
-    Ok(())
-}
-
-#[test]
-fn faults_have_names_and_numbers(rt: HostRuntime) -> Result<(), Fail> {
-    let rows = [
-        (SealFault::Codec(CodecFault::Truncated), "Truncated", 1),
-        (
-            SealFault::Codec(CodecFault::NotAscending),
-            "NotAscending",
-            1,
-        ),
-        (SealFault::UnknownSigner, "UnknownSigner", 2),
-        (SealFault::BadSignature, "BadSignature", 3),
-        (SealFault::WrongRole, "WrongRole", 4),
-        (SealFault::Memory, "Memory", 5),
-    ];
-    for (fault, name, number) in rows {
-        assert!(rt;
-            is_named(rt.alloc(), &fault, name)? && fault.number() == number,
-            "{name}"
-        );
-    }
     Ok(())
 }

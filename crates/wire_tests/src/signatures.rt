@@ -1,88 +1,86 @@
 //! Keys and signatures of another implementation, and what is wrong with damaged ones.
 
-use crate::is_named;
-use hex::FromHex;
+use hex::{FromHex, decode};
+use lms_ots::digits;
 use lms_tree::{Height, SigFault, SignFault, Signer, Verifier, verify};
 use std::alloc::{AllocError, Global};
-use std::process::Abort;
 use std::test::Fail;
 
 mod valid;
 
-use valid::{
-    LEAF_0_OF_HEIGHT_5, LEAF_0_OF_HEIGHT_10, LEAF_1_OF_HEIGHT_5, LEAF_31_OF_HEIGHT_5,
-    RFC_8554_CASE_2,
-};
+use valid::VALID;
 
-// A key, a message and a signature in hex, the signature in pieces.
-#[derive(Drop)]
-struct Case {
-    key: &'static str,
-    message: &'static str,
-    signature: &'static [&'static str],
-}
+/// An identifier, a seed and the public key of the tree of height 5 over them, in hex.
+const KEYS: &str = "\
+00000000000000000000000000000000 \
+0000000000000000000000000000000000000000000000000000000000000000 \
+0000000500000003000000000000000000000000000000007e14ed0d8b44b61918a5647b0567a49e969e0454cb0f14df2a62b1ca787edcb0\n\
+000102030405060708090a0b0c0d0e0f \
+1111111111111111111111111111111111111111111111111111111111111111 \
+0000000500000003000102030405060708090a0b0c0d0e0f2cdd4a5bf162e109fc106952210cafed891e470667f100962c910a33cac7afc4\n\
+31c635aa95ecf2d28e39f18b79fdd758 \
+45b171b720630b2e1424a6ae17e1359039813d92c98f4c4b6b7564c0cbf708ed \
+000000050000000331c635aa95ecf2d28e39f18b79fdd758c4bad6fbbcf0a0d4fb83d6a9d67369c87e67453be8a541ec1083e7904542d27d\n\
+354b4087b88b37f5c0529baab950a363 \
+b2dfbb0deece7479444346ce9820fc2cfb82ae8dab8786bfabf5ef578e55c25c \
+0000000500000003354b4087b88b37f5c0529baab950a363d2e9139f3225a86c546e9f3633b5747863111ef040d7e11e5a12162bb8fdf731\n\
+48c10cad86b416fae1bc02d0d460f3db \
+756780b9fb119fdce5d2c188f11fc4c9aac2265d9e9c8f189338e0ac1c1c1b95 \
+000000050000000348c10cad86b416fae1bc02d0d460f3db22c3f1e44f9892944924507669b7578abe9f6c1791bd3455f0b93c0b742274f4\n\
+6e41d77279bf5bd8c687069e87769e95 \
+46243ec8dcc1eca2c44931eeca88321849c1991785f9b8cf5371f951ddd28d1b \
+00000005000000036e41d77279bf5bd8c687069e87769e95d22a4217f63ff9086a0857c8b5eebba952f7177308e4724acd709f45733c71be\n\
+0a037b8aaf7425703a1b94a0435bb812 \
+81e4a5f580421aff7199167a36f4577dd6a121801ebe93d95e348792063a0bd1 \
+00000005000000030a037b8aaf7425703a1b94a0435bb812e4d27c28549f6640f49f6b16722936fbe916e8b9cdc49764d8ccaa1850a5ba4b\n\
+356066ac17ab6adb73dbbdef973a032e \
+85a51bcdfd5fac55fc7439dc685a9a903e5386f9bb1878095a8bd879636370cb \
+0000000500000003356066ac17ab6adb73dbbdef973a032ec61ab59b5a4a0100febaaccc0d8f495cc00af6f6766251b557c3b3cdc6d5978b\n\
+";
 
-// An identifier, a seed and the public key of the tree of height 5 over them, in hex.
-const KEYS: [(&str, &str, &str); 8] = [
-    (
-        "00000000000000000000000000000000",
-        "0000000000000000000000000000000000000000000000000000000000000000",
-        "0000000500000003000000000000000000000000000000007e14ed0d8b44b61918a5647b0567a49e969e0454cb0f14df2a62b1ca787edcb0",
-    ),
-    (
-        "000102030405060708090a0b0c0d0e0f",
-        "1111111111111111111111111111111111111111111111111111111111111111",
-        "0000000500000003000102030405060708090a0b0c0d0e0f2cdd4a5bf162e109fc106952210cafed891e470667f100962c910a33cac7afc4",
-    ),
-    (
-        "31c635aa95ecf2d28e39f18b79fdd758",
-        "45b171b720630b2e1424a6ae17e1359039813d92c98f4c4b6b7564c0cbf708ed",
-        "000000050000000331c635aa95ecf2d28e39f18b79fdd758c4bad6fbbcf0a0d4fb83d6a9d67369c87e67453be8a541ec1083e7904542d27d",
-    ),
-    (
-        "354b4087b88b37f5c0529baab950a363",
-        "b2dfbb0deece7479444346ce9820fc2cfb82ae8dab8786bfabf5ef578e55c25c",
-        "0000000500000003354b4087b88b37f5c0529baab950a363d2e9139f3225a86c546e9f3633b5747863111ef040d7e11e5a12162bb8fdf731",
-    ),
-    (
-        "48c10cad86b416fae1bc02d0d460f3db",
-        "756780b9fb119fdce5d2c188f11fc4c9aac2265d9e9c8f189338e0ac1c1c1b95",
-        "000000050000000348c10cad86b416fae1bc02d0d460f3db22c3f1e44f9892944924507669b7578abe9f6c1791bd3455f0b93c0b742274f4",
-    ),
-    (
-        "6e41d77279bf5bd8c687069e87769e95",
-        "46243ec8dcc1eca2c44931eeca88321849c1991785f9b8cf5371f951ddd28d1b",
-        "00000005000000036e41d77279bf5bd8c687069e87769e95d22a4217f63ff9086a0857c8b5eebba952f7177308e4724acd709f45733c71be",
-    ),
-    (
-        "0a037b8aaf7425703a1b94a0435bb812",
-        "81e4a5f580421aff7199167a36f4577dd6a121801ebe93d95e348792063a0bd1",
-        "00000005000000030a037b8aaf7425703a1b94a0435bb812e4d27c28549f6640f49f6b16722936fbe916e8b9cdc49764d8ccaa1850a5ba4b",
-    ),
-    (
-        "356066ac17ab6adb73dbbdef973a032e",
-        "85a51bcdfd5fac55fc7439dc685a9a903e5386f9bb1878095a8bd879636370cb",
-        "0000000500000003356066ac17ab6adb73dbbdef973a032ec61ab59b5a4a0100febaaccc0d8f495cc00af6f6766251b557c3b3cdc6d5978b",
-    ),
-];
-
+/// The bytes of hex text.
 fn array<const N: usize>(text: &str) -> Result<[u8; N], Fail> {
     Ok(<[u8; N] as FromHex>::from_hex(text)?)
 }
 
-// The bytes of hex text that is cut into pieces.
-fn concatenation(alloc: Global, buffer: &[&str]) -> Result<Vec<u8>, Fail> {
-    let mut bytes = Vec::new(alloc);
-    for piece in buffer {
-        let part = hex::decode(alloc, *piece)?;
-        bytes.extend_from_slice(&part)?;
-    }
-    Ok(bytes)
+/// The word before a blank, and what stands behind it.
+fn halves(line: &str) -> (&str, &str) {
+    line.split_once(" ").unwrap_or((line, ""))
 }
 
-// The seeds are parameters, so that a proof computes nothing of them.
+/// A signer of height 5. The seeds are parameters, so that a proof computes nothing of them.
 fn signer(alloc: Global, identifier: [u8; 16], seed: [u8; 32]) -> Result<Signer, AllocError> {
     Signer::from_seed(alloc, Height::H5, identifier, seed)
+}
+
+/// The signer of a line of `KEYS`, and the public key that it should have.
+fn signer_of(alloc: Global, line: &str) -> Result<(Signer, [u8; 56]), Fail> {
+    let (identifier, rest) = halves(line);
+    let (seed, key) = halves(rest);
+    let signer = signer(alloc, array(identifier)?, array(seed)?)?;
+    Ok((signer, array(key)?))
+}
+
+#[test]
+fn public_keys_of_another_implementation(rt: HostRuntime) -> Result<(), Fail> {
+    for line in KEYS.lines() {
+        let (signer, key) = signer_of(rt.alloc(), line)?;
+        assert!(rt; signer.public_key() == key, "{line}");
+    }
+    Ok(())
+}
+
+#[test]
+fn digits_of_zeros_and_of_ones(rt: HostRuntime) {
+    let mut want = [0u8; 67];
+    want[64] = 3;
+    want[65] = 12;
+    assert!(rt; digits(&[0; 32]).as_slice() == want.as_slice());
+    let mut want = [15u8; 67];
+    want[64] = 0;
+    want[65] = 0;
+    want[66] = 0;
+    assert!(rt; digits(&[0xff; 32]).as_slice() == want.as_slice());
 }
 
 #[test]
@@ -90,208 +88,129 @@ fn a_tree_of_height_5_signs_32_times(rt: HostRuntime) -> Result<(), Fail> {
     let mut signer = signer(rt.alloc(), [7; 16], [9; 32])?;
     let key = signer.public_key();
     for leaf in 0..32u32 {
-        assert_eq!(rt; signer.next_leaf(), leaf);
-        assert_eq!(rt; signer.leaves_left(), 32 - leaf);
+        assert!(rt; signer.next_leaf() == leaf && signer.leaves_left() == 32 - leaf);
         let body = leaf.to_be_bytes();
         let sig = signer.sign(&body)?;
-        assert_eq!(rt; verify(&key, &body, &sig), Ok(()));
+        assert!(rt; verify(&key, &body, &sig) == Ok(()));
     }
-    assert_eq!(rt; signer.sign(b"once more").err(), Some(SignFault::Exhausted));
-    assert_eq!(rt; signer.next_leaf(), 32);
+    assert!(rt; signer.sign(b"once more").err() == Some(SignFault::Exhausted));
+    assert!(rt; signer.next_leaf() == 32);
     Ok(())
 }
 
-fn check_keys(rt: &impl Abort, alloc: Global, rows: &[(&str, &str, &str)]) -> Result<(), Fail> {
-    for (id, secret, key) in rows {
-        let signer = signer(alloc, array(id)?, array(secret)?)?;
-        assert_eq!(rt; signer.public_key(), array(key)?, "at {id}");
-    }
-    Ok(())
+/// A key, a message and a signature.
+#[derive(Drop)]
+struct Case {
+    key: [u8; 56],
+    message: Vec<u8>,
+    signature: Vec<u8>,
 }
 
-#[test]
-fn public_keys_of_another_implementation(rt: HostRuntime) -> Result<(), Fail> {
-    check_keys(&rt, rt.alloc(), &KEYS[..3])
-}
-
-#[test]
-fn more_public_keys_of_another_implementation(rt: HostRuntime) -> Result<(), Fail> {
-    check_keys(&rt, rt.alloc(), &KEYS[3..6])
-}
-
-#[test]
-fn last_public_keys_of_another_implementation(rt: HostRuntime) -> Result<(), Fail> {
-    check_keys(&rt, rt.alloc(), &KEYS[6..])
+/// The valid case of this name.
+fn valid_case(alloc: Global, name: &str) -> Result<Case, Fail> {
+    let found = VALID.lines().find(|line| halves(line).0 == name);
+    let (_, rest) = halves(found.ok_or("no such case")?);
+    let (key, rest) = halves(rest);
+    let (message, signature) = halves(rest);
+    let message = if message == "-" { "" } else { message };
+    Ok(Case {
+        key: array(key)?,
+        message: decode(alloc, message)?,
+        signature: decode(alloc, signature)?,
+    })
 }
 
 #[test]
 fn signatures_of_another_implementation(rt: HostRuntime) -> Result<(), Fail> {
-    let mut signer = signer(rt.alloc(), array(KEYS[2].0)?, array(KEYS[2].1)?)?;
+    let line = KEYS.lines().nth(2).ok_or("no third key")?;
+    let (mut signer, _) = signer_of(rt.alloc(), line)?;
     let _first = signer.sign(b"a")?;
     let second = signer.sign(b"a")?;
-    assert_eq!(rt;
-        second.as_slice(),
-        concatenation(rt.alloc(), LEAF_1_OF_HEIGHT_5.signature)?.as_slice()
-    );
+    assert!(rt; second.as_slice() == valid_case(rt.alloc(), "first")?.signature.as_slice());
     Ok(())
 }
 
-// What is changed of a case.
-#[derive(Clone, Copy)]
-enum Change {
-    Nothing,
-    Key { at: usize, byte: u8 },
-    Message(&'static str),
-    Signature { at: usize, byte: u8 },
-    Leaf(u32),
-    Length(usize),
-}
+/// Valid cases, and those that a change damages, with the fault: `length N`, `message HEX`, or bytes from a place
+/// of the key or of the signature on.
+const CHANGES: &str = "\
+first => -\n\
+ten => -\n\
+zero => -\n\
+five => -\n\
+rfc => -\n\
+five length 2349 => Length\n\
+five length 8 => Length\n\
+five key 3 06 => Length\n\
+five key 7 04 => WrongType\n\
+ten key 3 00 => WrongType\n\
+ten signature 2187 00 => WrongType\n\
+five signature 0 00000020 => Leaf\n\
+five signature 0 ffffffff => Leaf\n\
+ten signature 0 00000001 => Mismatch\n\
+five message 61 => Mismatch\n\
+ten signature 2188 01 => Mismatch\n\
+";
 
-fn put(bytes: &mut [u8], at: usize, byte: u8) {
-    if let Some(found) = bytes.get_mut(at) {
-        *found = byte;
+/// Writes bytes in hex from a place on: `PLACE HEX`.
+fn put(bytes: &mut [u8], text: &str) -> Result<(), Fail> {
+    let (place, piece) = halves(text);
+    let place = place.parse::<usize>()?;
+    for (target, byte) in bytes.iter_mut().skip(place).zip(piece.as_bytes().chunks(2)) {
+        *target = u8::from_str_radix(str::from_utf8(byte)?, 16)?;
     }
+    Ok(())
 }
 
-// What verification says of the case with this change.
-fn verdict(alloc: Global, case: &Case, change: Change) -> Result<Option<SigFault>, Fail> {
-    let mut key: [u8; 56] = array(case.key)?;
-    let mut message = hex::decode(alloc, case.message)?;
-    let mut signature = concatenation(alloc, case.signature)?;
-    match change {
-        Change::Nothing => {}
-        Change::Key { at, byte } => put(&mut key, at, byte),
-        Change::Message(text) => message = hex::decode(alloc, text)?,
-        Change::Signature { at, byte } => put(&mut signature, at, byte),
-        Change::Leaf(leaf) => {
-            for (at, byte) in leaf.to_be_bytes().into_iter().enumerate() {
-                put(&mut signature, at, byte);
-            }
+impl Case {
+    /// Changes the case as a text says.
+    fn change(&mut self, alloc: Global, text: &str) -> Result<(), Fail> {
+        let (what, rest) = halves(text);
+        match what.as_bytes() {
+            b"" => {}
+            b"length" => self.signature.resize(rest.parse::<usize>()?, 0)?,
+            b"message" => self.message = decode(alloc, rest)?,
+            b"key" => put(&mut self.key, rest)?,
+            b"signature" => put(&mut self.signature, rest)?,
+            _ => return Err(Fail::new("no such change")),
         }
-        Change::Length(length) => signature.resize(length, 0)?,
+        Ok(())
     }
-    Ok(verify(&key, &message, &signature).err())
+}
+
+/// What verification says of a case, changed or not: the name of the fault, or `-`.
+fn verdict(alloc: Global, line: &str) -> Result<String, Fail> {
+    let (name, change) = halves(line);
+    let mut case = valid_case(alloc, name)?;
+    case.change(alloc, change)?;
+    match verify(&case.key, &case.message, &case.signature) {
+        Ok(()) => Ok(String::from_str(alloc, "-")?),
+        Err(fault) => Ok(fault.to_string(alloc)?),
+    }
 }
 
 #[test]
-fn valid_signatures(rt: HostRuntime) -> Result<(), Fail> {
-    let cases = [
-        &LEAF_1_OF_HEIGHT_5,
-        &LEAF_0_OF_HEIGHT_10,
-        &LEAF_0_OF_HEIGHT_5,
-        &LEAF_31_OF_HEIGHT_5,
-        &RFC_8554_CASE_2,
-    ];
-    for case in cases {
-        assert_eq!(rt; verdict(rt.alloc(), case, Change::Nothing)?, None);
+fn valid_and_damaged_signatures(rt: HostRuntime) -> Result<(), Fail> {
+    for line in CHANGES.lines() {
+        let (case, wanted) = line.split_once(" => ").ok_or("no verdict")?;
+        assert!(rt; verdict(rt.alloc(), case)?.as_str() == wanted, "{line}");
     }
     Ok(())
+}
+
+/// The verdict on a message in pieces of 7 bytes, and these more bytes behind it.
+fn in_pieces(case: &Case, more: &[u8]) -> Result<(), SigFault> {
+    let mut verifier = Verifier::new(&case.key, &case.signature)?;
+    for piece in case.message.chunks(7) {
+        verifier.update(piece);
+    }
+    verifier.update(more);
+    verifier.finish()
 }
 
 #[test]
 fn a_message_in_pieces(rt: HostRuntime) -> Result<(), Fail> {
-    let key: [u8; 56] = array(RFC_8554_CASE_2.key)?;
-    let message = hex::decode(rt.alloc(), RFC_8554_CASE_2.message)?;
-    let signature = concatenation(rt.alloc(), RFC_8554_CASE_2.signature)?;
-    let mut whole = Verifier::new(&key, &signature).map_err(|fault| fault.number())?;
-    let mut longer = Verifier::new(&key, &signature).map_err(|fault| fault.number())?;
-    for piece in message.chunks(7) {
-        whole.update(piece);
-        longer.update(piece);
-    }
-    longer.update(&[0]);
-    assert!(rt; whole.finish().is_ok());
-    assert!(rt; longer.finish().err() == Some(SigFault::Mismatch));
-    Ok(())
-}
-
-#[test]
-fn damaged_signatures_and_keys(rt: HostRuntime) -> Result<(), Fail> {
-    let five = &LEAF_31_OF_HEIGHT_5;
-    let ten = &LEAF_0_OF_HEIGHT_10;
-    let rows = [
-        (
-            "one byte more",
-            five,
-            Change::Length(2_349),
-            SigFault::Length,
-        ),
-        ("8 bytes", five, Change::Length(8), SigFault::Length),
-        (
-            "a key of height 10",
-            five,
-            Change::Key { at: 3, byte: 6 },
-            SigFault::Length,
-        ),
-        (
-            "a key of one-time type 4",
-            five,
-            Change::Key { at: 7, byte: 4 },
-            SigFault::WrongType,
-        ),
-        (
-            "a key of type 0",
-            ten,
-            Change::Key { at: 3, byte: 0 },
-            SigFault::WrongType,
-        ),
-        (
-            "a signature of type 0",
-            ten,
-            Change::Signature { at: 2_187, byte: 0 },
-            SigFault::WrongType,
-        ),
-        (
-            "leaf 32 of height 5",
-            five,
-            Change::Leaf(32),
-            SigFault::Leaf,
-        ),
-        (
-            "the greatest leaf",
-            five,
-            Change::Leaf(4_294_967_295),
-            SigFault::Leaf,
-        ),
-        ("another leaf", ten, Change::Leaf(1), SigFault::Mismatch),
-        (
-            "another message",
-            five,
-            Change::Message("61"),
-            SigFault::Mismatch,
-        ),
-        (
-            "another sibling",
-            ten,
-            Change::Signature { at: 2_188, byte: 1 },
-            SigFault::Mismatch,
-        ),
-    ];
-    for (name, case, change, fault) in rows {
-        assert_eq!(rt; verdict(rt.alloc(), case, change)?, Some(fault), "{name}");
-    }
-    Ok(())
-}
-
-#[test]
-fn faults_have_names_and_numbers(rt: HostRuntime) -> Result<(), Fail> {
-    let rows = [
-        (SigFault::Length, "Length", 1),
-        (SigFault::WrongType, "WrongType", 2),
-        (SigFault::Leaf, "Leaf", 3),
-        (SigFault::Mismatch, "Mismatch", 4),
-    ];
-    for (fault, name, number) in rows {
-        assert!(rt;
-            is_named(rt.alloc(), &fault, name)? && fault.number() == number,
-            "{name}"
-        );
-    }
-    assert_eq!(rt;
-        SignFault::Exhausted.to_string(rt.alloc())?.as_str(),
-        "Exhausted"
-    );
-    assert_eq!(rt; SignFault::Memory.to_string(rt.alloc())?.as_str(), "Memory");
-    assert_eq!(rt; SignFault::Memory.number(), 2);
+    let case = valid_case(rt.alloc(), "rfc")?;
+    assert!(rt; in_pieces(&case, &[]).is_ok());
+    assert!(rt; in_pieces(&case, &[0]).err() == Some(SigFault::Mismatch));
     Ok(())
 }

@@ -1,15 +1,11 @@
 //! Configurations and their first fault, sets of replicas, lists of bytes.
 
-use crate::is_named;
-use host_types::{
-    Bytes, ClientEntry, ClientId, Config, ConfigFault, ReplicaId, ReplicaSet, TenantId, View,
-};
+use host_types::{Bytes, ClientEntry, ClientId, Config, ReplicaId, ReplicaSet, TenantId, View};
 use std::alloc::{AllocError, Global};
-use std::process::Abort;
 use std::sync::Arc;
 use std::test::Fail;
 
-// So many keys, each of the bytes of its index.
+/// So many keys, each of the bytes of its index.
 fn keys(alloc: Global, count: u8) -> Result<Vec<[u8; 56]>, AllocError> {
     let mut keys = Vec::new(alloc);
     for index in 0..count {
@@ -18,126 +14,69 @@ fn keys(alloc: Global, count: u8) -> Result<Vec<[u8; 56]>, AllocError> {
     Ok(keys)
 }
 
-// A client for each pair of an id and a tenant.
-fn clients(alloc: Global, pairs: &[(u32, u32)]) -> Result<Vec<ClientEntry>, AllocError> {
+/// A client for each `ID:TENANT`, and where the text has `ID..ID:TENANT` for each id from the one up to the
+/// other.
+fn clients(alloc: Global, pairs: &str) -> Result<Vec<ClientEntry>, Fail> {
     let mut clients = Vec::new(alloc);
-    for (id, tenant) in pairs {
-        clients.push(ClientEntry {
-            id: ClientId(*id),
-            tenant: TenantId(*tenant),
-            key: [7; 56],
-        })?;
+    for pair in pairs.split_whitespace() {
+        let (ids, tenant) = pair.split_once(":").ok_or("no tenant")?;
+        let (first, last) = ids.split_once("..").unwrap_or((ids, ids));
+        let tenant = TenantId(tenant.parse()?);
+        for id in first.parse::<u32>()?..=last.parse::<u32>()? {
+            clients.push(ClientEntry {
+                id: ClientId(id),
+                tenant,
+                key: [7; 56],
+            })?;
+        }
     }
     Ok(clients)
 }
 
-// The fault of a configuration of these replicas and clients, if it has one.
-fn fault_of(
-    alloc: Global,
-    f: u8,
-    k: u8,
-    key_count: u8,
-    pairs: &[(u32, u32)],
-) -> Result<Option<ConfigFault>, AllocError> {
-    Ok(Config::new(f, k, keys(alloc, key_count)?, clients(alloc, pairs)?).err())
+/// f, k, the number of the replicas' keys, and the clients with their tenants; and the fault, or `-`.
+const CONFIGURATIONS: &str = "\
+1 8 4 100:1 => -\n\
+3 1 10 => -\n\
+1 8 4 16:1 17:2 18:3 19:4 20:5 21:6 22:7 23:8 => -\n\
+4 8 13 100:1 => BadF\n\
+0 8 1 100:1 => BadF\n\
+4 0 3 100:1 => BadF\n\
+1 8 3 100:1 => WrongReplicaCount\n\
+1 0 3 100:1 => WrongReplicaCount\n\
+1 0 4 100:1 => BadInterval\n\
+1 9 4 100:1 => BadInterval\n\
+1 0 4 15:1 => BadInterval\n\
+1 8 4 15:1 => TooMany\n\
+1 8 4 16:1 17:2 18:3 19:4 20:5 21:6 22:7 23:8 24:9 => TooMany\n\
+1 8 4 16:1 16:2 3:1 => TooMany\n\
+1 8 4 16:1 16:2 => DuplicateClient\n\
+1 8 4 16..79:1 => -\n\
+1 8 4 16..80:1 => TooMany\n\
+";
+
+/// The word before a blank, and what stands behind it.
+fn halves(line: &str) -> (&str, &str) {
+    line.split_once(" ").unwrap_or((line, ""))
 }
 
-const EIGHT_TENANTS: [(u32, u32); 8] = [
-    (16, 1),
-    (17, 2),
-    (18, 3),
-    (19, 4),
-    (20, 5),
-    (21, 6),
-    (22, 7),
-    (23, 8),
-];
-
-const NINE_TENANTS: [(u32, u32); 9] = [
-    (16, 1),
-    (17, 2),
-    (18, 3),
-    (19, 4),
-    (20, 5),
-    (21, 6),
-    (22, 7),
-    (23, 8),
-    (24, 9),
-];
-
-// f, k, the number of replicas' keys, the clients' ids and tenants, and the fault.
-type Row = (u8, u8, u8, &'static [(u32, u32)], Option<ConfigFault>);
-
-const ROWS: [Row; 15] = [
-    (1, 8, 4, &[(100, 1)], None),
-    (3, 1, 10, &[], None),
-    (1, 8, 4, &EIGHT_TENANTS, None),
-    (4, 8, 13, &[(100, 1)], Some(ConfigFault::BadF)),
-    (0, 8, 1, &[(100, 1)], Some(ConfigFault::BadF)),
-    (4, 0, 3, &[(100, 1)], Some(ConfigFault::BadF)),
-    (1, 8, 3, &[(100, 1)], Some(ConfigFault::WrongReplicaCount)),
-    (1, 0, 3, &[(100, 1)], Some(ConfigFault::WrongReplicaCount)),
-    (1, 0, 4, &[(100, 1)], Some(ConfigFault::BadInterval)),
-    (1, 9, 4, &[(100, 1)], Some(ConfigFault::BadInterval)),
-    (1, 0, 4, &[(15, 1)], Some(ConfigFault::BadInterval)),
-    (1, 8, 4, &[(15, 1)], Some(ConfigFault::TooMany)),
-    (1, 8, 4, &NINE_TENANTS, Some(ConfigFault::TooMany)),
-    (
-        1,
-        8,
-        4,
-        &[(16, 1), (16, 2), (3, 1)],
-        Some(ConfigFault::TooMany),
-    ),
-    (
-        1,
-        8,
-        4,
-        &[(16, 1), (16, 2)],
-        Some(ConfigFault::DuplicateClient),
-    ),
-];
+/// The name of the fault of a configuration, or `-`.
+fn fault_of(alloc: Global, text: &str) -> Result<String, Fail> {
+    let (f, rest) = halves(text);
+    let (k, rest) = halves(rest);
+    let (count, pairs) = halves(rest);
+    let keys = keys(alloc, count.parse()?)?;
+    match Config::new(f.parse()?, k.parse()?, keys, clients(alloc, pairs)?).err() {
+        Some(fault) => Ok(fault.to_string(alloc)?),
+        None => Ok(String::from_str(alloc, "-")?),
+    }
+}
 
 #[test]
 fn the_first_fault_is_reported(rt: HostRuntime) -> Result<(), Fail> {
-    for (f, k, key_count, pairs, fault) in ROWS {
-        assert_eq!(rt;
-            fault_of(rt.alloc(), f, k, key_count, pairs)?,
-            fault,
-            "{f} {k} {key_count}"
-        );
+    for line in CONFIGURATIONS.lines() {
+        let (text, wanted) = line.split_once(" => ").ok_or("no fault")?;
+        assert!(rt; fault_of(rt.alloc(), text)?.as_str() == wanted, "{line}");
     }
-    Ok(())
-}
-
-#[test]
-fn faults_have_names_and_numbers(rt: HostRuntime) -> Result<(), Fail> {
-    let rows = [
-        (ConfigFault::BadF, "BadF", 1),
-        (ConfigFault::WrongReplicaCount, "WrongReplicaCount", 2),
-        (ConfigFault::BadInterval, "BadInterval", 3),
-        (ConfigFault::DuplicateClient, "DuplicateClient", 4),
-        (ConfigFault::TooMany, "TooMany", 6),
-    ];
-    for (fault, name, number) in rows {
-        assert!(rt;
-            is_named(rt.alloc(), &fault, name)? && fault.number() == number,
-            "{name}"
-        );
-    }
-    Ok(())
-}
-
-#[test]
-fn more_than_64_clients(rt: HostRuntime) -> Result<(), Fail> {
-    let alloc = rt.alloc();
-    let mut all = Vec::new(alloc);
-    for id in 16..80u32 {
-        all.push((id, 1))?;
-    }
-    assert_eq!(rt; fault_of(alloc, 1, 8, 4, &all)?, None);
-    all.push((80, 1))?;
-    assert_eq!(rt; fault_of(alloc, 1, 8, 4, &all)?, Some(ConfigFault::TooMany));
     Ok(())
 }
 
@@ -166,36 +105,29 @@ fn has_its_ids(config: &Config) -> bool {
 
 #[test]
 fn a_configuration_has_what_it_was_given(rt: HostRuntime) -> Result<(), Fail> {
-    let alloc = rt.alloc();
-    let listed = clients(alloc, &[(100, 9), (16, 2), (101, 9), (17, 4)])?;
-    let config = Config::new(1, 8, keys(alloc, 4)?, listed).map_err(|fault| fault.number())?;
-    assert!(rt; has_its_numbers(&config));
-    assert!(rt; has_its_keys(&config));
-    assert!(rt; has_its_ids(&config));
+    let listed = clients(rt.alloc(), "100:9 16:2 101:9 17:4")?;
+    let keys = keys(rt.alloc(), 4)?;
+    let config = Config::new(1, 8, keys, listed).map_err(|fault| fault.number())?;
+    assert!(rt; has_its_numbers(&config) && has_its_keys(&config) && has_its_ids(&config));
     Ok(())
 }
 
 #[test]
 fn a_set_of_replicas(rt: HostRuntime) {
     let mut set = ReplicaSet::new();
-    assert_eq!(rt; set.len(), 0);
+    assert!(rt; set.len() == 0);
     for id in [0u8, 63, 64, 255] {
-        assert!(rt; set.insert(ReplicaId(id)));
-        assert!(rt; !set.insert(ReplicaId(id)));
+        assert!(rt; set.insert(ReplicaId(id)) && !set.insert(ReplicaId(id)));
     }
-    assert_eq!(rt; set.len(), 4);
-    assert!(rt; set.contains(ReplicaId(255)));
-    assert!(rt; !set.contains(ReplicaId(254)));
+    assert!(rt; set.len() == 4);
+    assert!(rt; set.contains(ReplicaId(255)) && !set.contains(ReplicaId(254)));
 }
 
 #[test]
 fn bytes_are_kept(rt: HostRuntime) -> Result<(), Fail> {
     let bytes = Bytes::from_vec([1, 2, 3].to_vec(rt.alloc())?);
-    assert_eq!(rt; bytes.as_slice(), [1, 2, 3].as_slice());
-    assert_eq!(rt;
-        bytes.into_vec(rt.alloc())?.as_slice(),
-        [1, 2, 3].as_slice()
-    );
+    assert!(rt; bytes.as_slice() == [1, 2, 3].as_slice());
+    assert!(rt; bytes.into_vec(rt.alloc())?.as_slice() == [1, 2, 3].as_slice());
     Ok(())
 }
 
@@ -203,8 +135,8 @@ fn bytes_are_kept(rt: HostRuntime) -> Result<(), Fail> {
 fn a_part_of_a_shared_buffer_is_kept(rt: HostRuntime) -> Result<(), Fail> {
     let buffer = Arc::new(rt.alloc(), [1, 2, 3, 4, 5].to_vec(rt.alloc())?)?;
     let part = Bytes::part(&buffer, 1, 4)?;
-    assert_eq!(rt; part.as_slice(), [2, 3, 4].as_slice());
-    assert_eq!(rt; part.into_vec(rt.alloc())?.as_slice(), [2, 3, 4].as_slice());
-    assert_eq!(rt; buffer.as_slice(), [1, 2, 3, 4, 5].as_slice());
+    assert!(rt; part.as_slice() == [2, 3, 4].as_slice());
+    assert!(rt; part.into_vec(rt.alloc())?.as_slice() == [2, 3, 4].as_slice());
+    assert!(rt; buffer.as_slice() == [1, 2, 3, 4, 5].as_slice());
     Ok(())
 }

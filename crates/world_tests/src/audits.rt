@@ -197,8 +197,8 @@ fn records_of_an_honest_family_have_a_history(rt: HostRuntime) -> Result<(), Fai
     let alloc = rt.alloc();
     let group = Group::new(alloc)?;
     let mut world = group.world(&set_of(&[3]))?;
-    assert_eq!(rt; group.play(&mut world, FIRST)?, None);
-    assert_eq!(rt; group.play(&mut world, SECOND)?, None);
+    group.play(&mut world, FIRST)?;
+    group.play(&mut world, SECOND)?;
     let mut records = Vec::new(alloc);
     for outcome in world.report()?.outcomes() {
         let mut record = Vec::new(alloc);

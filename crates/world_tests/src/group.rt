@@ -13,9 +13,6 @@ use std::test::Fail;
 /// The one client.
 pub const CLIENT: u32 = 16;
 
-/// To install the code `mov64 r0, 7` and `exit`.
-const INSTALL: [u8; 17] = [1, 0xb7, 0, 0, 0, 7, 0, 0, 0, 0x95, 0, 0, 0, 0, 0, 0, 0];
-
 /// The configuration, and the signers of the faulty replicas, which say what a test has them say.
 #[derive(Drop)]
 pub struct Group {
@@ -64,13 +61,8 @@ impl Group {
         let mut client = signer(alloc, 9)?;
         let config = config_of(alloc, &replicas, &client)?;
         let mut requests = Vec::new(alloc);
-        let nothing: &[u8] = &[];
-        for (name, time, op) in [
-            ("a", 1, nothing),
-            ("b", 2, nothing),
-            ("install", 3, &INSTALL),
-        ] {
-            requests.push((name, request_at(alloc, &mut client, time, op)?))?;
+        for (name, time) in [("a", 1), ("b", 2)] {
+            requests.push((name, request_at(alloc, &mut client, time)?))?;
         }
         Ok(Group {
             alloc,
@@ -143,10 +135,10 @@ impl Group {
 
 // The bytes of the client's request at a time. An empty operation is none that the service knows: its
 // result is the one byte 1.
-fn request_at(alloc: Global, client: &mut Signer, time: u64, op: &[u8]) -> Result<Vec<u8>, Fail> {
+fn request_at(alloc: Global, client: &mut Signer, time: u64) -> Result<Vec<u8>, Fail> {
     let body = Body::Request(RequestBody {
         time,
-        op: Bytes::from_vec(Vec::from_slice(alloc, op)?),
+        op: Bytes::from_vec(Vec::new(alloc)),
     });
     signed(alloc, client, Role::Client, CLIENT, body)
 }

@@ -1,5 +1,5 @@
-//! Tests of worlds of replicas and of the audit of what they did, by public calls alone. They stand in a
-//! crate of their own, since a crate with tests is proved twice.
+//! Tests of worlds of replicas, of the audit of what they did, and of scripts whose reader or writer fails, by public
+//! calls alone. They stand apart, so that the crates below are proved once and not again beside their tests.
 #![tactic(auto)]
 
 #[cfg(test)]
@@ -8,6 +8,8 @@ mod audits;
 mod group;
 #[cfg(test)]
 mod listed;
+#[cfg(test)]
+mod reads;
 #[cfg(test)]
 mod rows;
 #[cfg(test)]

@@ -75,33 +75,6 @@ const REFUSED: &str = "
     stands 3        => no replica
 ";
 
-// A procedure is installed. The client's request at time 3 may be its first.
-const INSTALLED: &str = "
-    request install to 0 => pre-prepare
-    request install to 1 => nothing
-    request install to 2 => nothing
-    give 0.0 to 1        => prepare
-    give 0.0 to 2        => prepare
-    give 1.0 to 0        => nothing
-    give 2.0 to 0        => commit
-    give 2.0 to 1        => commit
-    give 1.0 to 2        => commit
-    give 0.1 to 1        => nothing
-    give 2.1 to 1        => reply, executed 1
-    give 0.1 to 2        => nothing
-    give 1.1 to 2        => reply, executed 1
-    give 1.1 to 0        => nothing
-    give 2.1 to 0        => reply, executed 1
-";
-
-// The state then: number 1; the reply to client 16 at time 3, number 1, of result 00 and id 0; and tenant
-// 1 with one procedure, whose code has 16 bytes, and no entry.
-const STATE: [u8; 78] = [
-    1, 0, 0, 0, 0, 0, 0, 0, 1, 0, 0, 0, 1, 0, 0, 0, 16, 0, 0, 0, 0, 0, 0, 0, 3, 0, 0, 0, 0, 0, 0,
-    0, 1, 0, 0, 0, 5, 0, 0, 0, 0, 0, 0, 0, 0, 1, 0, 0, 0, 1, 0, 0, 0, 1, 0, 0, 0, 16, 0xb7, 0, 0,
-    0, 7, 0, 0, 0, 0x95, 0, 0, 0, 0, 0, 0, 0, 0, 0, 0, 0,
-];
-
 // Whether the correct replicas have one state after so many requests, and the faulty one none.
 fn has_one_state(world: &World, number: u64) -> bool {
     let Some(first) = world.state(ReplicaId(0)) else {
@@ -128,11 +101,11 @@ fn events_of_a_world(rt: HostRuntime) -> Result<(), Fail> {
     let group = Group::new(rt.alloc())?;
     let mut world = group.world(&set_of(&[3]))?;
     assert!(rt; has_one_state(&world, 0));
-    assert_eq!(rt; group.play(&mut world, FIRST)?, None);
+    group.play(&mut world, FIRST)?;
     assert!(rt; has_one_state(&world, 1));
-    assert_eq!(rt; group.play(&mut world, REFUSED)?, None);
+    group.play(&mut world, REFUSED)?;
     assert!(rt; has_one_state(&world, 1));
-    assert_eq!(rt; group.play(&mut world, SECOND)?, None);
+    group.play(&mut world, SECOND)?;
     assert!(rt; has_one_state(&world, 2));
     let report = world.report()?;
     assert_eq!(rt; counts(&report), [(0, 12), (1, 12), (2, 10)]);
@@ -145,9 +118,9 @@ fn a_run_is_its_events(rt: HostRuntime) -> Result<(), Fail> {
     let group = Group::new(rt.alloc())?;
     let faulty = set_of(&[3]);
     let mut world = group.world(&faulty)?;
-    assert_eq!(rt; group.play(&mut world, FIRST)?, None);
-    assert_eq!(rt; group.play(&mut world, REFUSED)?, None);
-    assert_eq!(rt; group.play(&mut world, SECOND)?, None);
+    group.play(&mut world, FIRST)?;
+    group.play(&mut world, REFUSED)?;
+    group.play(&mut world, SECOND)?;
     let played = world.report()?;
     let mut events = group.events(FIRST)?;
     for event in group.events(SECOND)? {
@@ -168,9 +141,9 @@ fn a_stopped_replica_is_reported(rt: HostRuntime) -> Result<(), Fail> {
     let group = Group::new(rt.alloc())?;
     let mut world = group.world(&set_of(&[0, 2, 3]))?;
     for _ in 0..32 {
-        assert_eq!(rt; group.play(&mut world, "timeout 1 => view-change")?, None);
+        group.play(&mut world, "timeout 1 => view-change")?;
     }
-    assert_eq!(rt; group.play(&mut world, "timeout 1 => no row")?, None);
+    group.play(&mut world, "timeout 1 => no row")?;
     assert!(rt; world.state(ReplicaId(1)).is_none());
     let report = world.report()?;
     match report.outcomes() {
@@ -180,20 +153,6 @@ fn a_stopped_replica_is_reported(rt: HostRuntime) -> Result<(), Fail> {
             assert_eq!(rt; outcome.halted, Some(Halt::Exhausted));
         }
         _ => return Err(Fail::new("other replicas")),
-    }
-    Ok(())
-}
-
-// The states of correct replicas have the procedures that were installed.
-#[test]
-fn a_procedure_is_installed(rt: HostRuntime) -> Result<(), Fail> {
-    let group = Group::new(rt.alloc())?;
-    let mut world = group.world(&set_of(&[3]))?;
-    assert_eq!(rt; group.play(&mut world, INSTALLED)?, None);
-    assert!(rt; has_one_state(&world, 1));
-    match world.state(ReplicaId(0)) {
-        Some(state) => assert_eq!(rt; state.to_bytes()?.as_slice(), STATE.as_slice()),
-        None => return Err(Fail::new("no state")),
     }
     Ok(())
 }

@@ -27,18 +27,18 @@ fn replica(text: &str) -> Result<ReplicaId, Fail> {
 }
 
 impl Group {
-    /// The first line that the world answers otherwise, with its answer.
-    pub fn play(&self, world: &mut World, script: &str) -> Result<Option<String>, Fail> {
+    /// Lets the events of a script happen. It fails with the first line that the world answers otherwise, and the answer.
+    pub fn play(&self, world: &mut World, script: &str) -> Result<(), Fail> {
         for line in script.lines() {
             if !line.trim().is_empty() {
                 let (given, expected) = halves(line, "=>")?;
                 let answer = self.answer(world, given.trim())?;
                 if answer.as_str() != expected.trim() {
-                    return Ok(Some(format!(in self.alloc; "{line}: {answer}")?));
+                    return Err(format!(in self.alloc; "{line}: {answer}")?.into());
                 }
             }
         }
-        Ok(None)
+        Ok(())
     }
 
     /// The events of a script.

@@ -1,6 +1,6 @@
 //! The layout of each kind: a body in hex whose fields all differ, and what is read from it.
 
-use super::bytes_of;
+use hex::decode as bytes_of;
 use host_types::{ClientId, Digest, SeqNo, View};
 use pbft_codec::{
     Body, Certificate, Checkpoint, Commit, Fetch, NewView, PrePrepare, Prepare, ReplyBody,
@@ -40,24 +40,6 @@ const CHECKPOINT: Checkpoint = Checkpoint {
     number: NUMBER,
     digest: DIGEST,
 };
-
-const NUMBER_HEX: &str = "0000060708090a0b";
-
-const DIGEST_HEX: &str = "000102030405060708090a0b0c0d0e0f101112131415161718191a1b1c1d1e1f";
-
-// A new view of one view change of one checkpoint and one certificate, and one proposal.
-const NEW_VIEW: &[&str] = &[
-    "08",
-    "01020304000000010100000008000000c407010203040000060708090a0b00",
-    "000001010000000500000029060000060708090a0b000102030405060708090a",
-    "0b0c0d0e0f101112131415161718191a1b1c1d1e1f00000001cc000000010100",
-    "0000060000002d02010203040000060708090a0b000102030405060708090a0b",
-    "0c0d0e0f101112131415161718191a1b1c1d1e1f000000000000000101000000",
-    "070000002d03010203040000060708090a0b000102030405060708090a0b0c0d",
-    "0e0f101112131415161718191a1b1c1d1e1f0000000000000001dd0000000101",
-    "000000090000002d02010203040000060708090a0b000102030405060708090a",
-    "0b0c0d0e0f101112131415161718191a1b1c1d1e1f00000001ee",
-];
 
 fn is_proposal(message: &Signed<PrePrepare>, id: u32) -> bool {
     message.id == id && message.body == PRE_PREPARE
@@ -104,34 +86,29 @@ fn is_new_view(entry: &NewView) -> bool {
     }
 }
 
-// A body of each layout; the new view holds the view change, and that the other two kinds of body.
-static BODIES: [&[&str]; 8] = [
-    &["01", "0102030405060708", "00000002", "6162"],
-    &["02", "01020304", NUMBER_HEX, DIGEST_HEX],
-    &["03", "01020304", NUMBER_HEX, DIGEST_HEX],
-    &["04", "01020304", NUMBER_HEX, DIGEST_HEX],
-    &[
-        "05",
-        "01020304",
-        "11121314",
-        "2122232425262728",
-        "0000313233343536",
-        "00000001",
-        "ff",
-    ],
-    &["06", NUMBER_HEX, DIGEST_HEX],
-    &["0a", NUMBER_HEX, "00000002", "abcd"],
-    NEW_VIEW,
-];
+/// A body of each layout in hex, whose fields all differ; the new view holds the view change, and that the other
+/// two kinds of body.
+const BODIES: &str = "\
+010102030405060708000000026162\n\
+02010203040000060708090a0b000102030405060708090a0b0c0d0e0f101112131415161718191a1b1c1d1e1f\n\
+03010203040000060708090a0b000102030405060708090a0b0c0d0e0f101112131415161718191a1b1c1d1e1f\n\
+04010203040000060708090a0b000102030405060708090a0b0c0d0e0f101112131415161718191a1b1c1d1e1f\n\
+0501020304111213142122232425262728000031323334353600000001ff\n\
+060000060708090a0b000102030405060708090a0b0c0d0e0f101112131415161718191a1b1c1d1e1f\n\
+0a0000060708090a0b00000002abcd\n\
+0801020304000000010100000008000000c407010203040000060708090a0b0000000101000000050000002906000006\
+0708090a0b000102030405060708090a0b0c0d0e0f101112131415161718191a1b1c1d1e1f00000001cc000000010100\
+0000060000002d02010203040000060708090a0b000102030405060708090a0b0c0d0e0f101112131415161718191a1b\
+1c1d1e1f000000000000000101000000070000002d03010203040000060708090a0b000102030405060708090a0b0c0d\
+0e0f101112131415161718191a1b1c1d1e1f0000000000000001dd0000000101000000090000002d0201020304000006\
+0708090a0b000102030405060708090a0b0c0d0e0f101112131415161718191a1b1c1d1e1f00000001ee\n\
+0901000102030405060708090a0b0c0d0e0f101112131415161718191a1b1c1d1e1f\n\
+09020000060708090a0b\n\
+";
 
-static FETCHES: [(&[&str], Fetch); 2] = [
-    (&["09", "01", DIGEST_HEX], Fetch::Request(DIGEST)),
-    (&["09", "02", NUMBER_HEX], Fetch::State(NUMBER)),
-];
-
-// The body in a message of replica 0x01020304 with the signature aa.
-fn message_of(alloc: Global, pieces: &[&str]) -> Result<Signed, Fail> {
-    let body = bytes_of(alloc, pieces)?;
+/// The body in a message of replica 0x01020304 with the signature aa.
+fn message_of(alloc: Global, hex: &str) -> Result<Signed, Fail> {
+    let body = bytes_of(alloc, hex)?;
     let length = u32::try_from(body.len())?;
     let mut bytes = Vec::new(alloc);
     bytes.extend_from_slice(&[1, 1, 2, 3, 4])?;
@@ -163,43 +140,45 @@ fn is_snapshot(snapshot: &Snapshot) -> bool {
     snapshot.number == NUMBER && snapshot.state.as_slice() == [0xab, 0xcd].as_slice()
 }
 
-// Whether a body is of this kind, and has the fields of its layout.
-fn is_laid_out(body: &Body, kind: &str) -> bool {
+/// Whether a body has the fields of its layout.
+fn is_laid_out(body: &Body) -> bool {
     match body {
-        Body::Request(request) => kind == "01" && is_request(request),
-        Body::PrePrepare(vote) => kind == "02" && *vote == PRE_PREPARE,
-        Body::Prepare(vote) => kind == "03" && *vote == PREPARE,
-        Body::Commit(vote) => kind == "04" && *vote == COMMIT,
-        Body::Reply(reply) => kind == "05" && is_reply(reply),
-        Body::Checkpoint(vote) => kind == "06" && *vote == CHECKPOINT,
-        Body::NewView(entry) => kind == "08" && is_new_view(entry),
-        Body::Snapshot(snapshot) => kind == "0a" && is_snapshot(snapshot),
-        _ => false,
+        Body::Request(request) => is_request(request),
+        Body::PrePrepare(vote) => *vote == PRE_PREPARE,
+        Body::Prepare(vote) => *vote == PREPARE,
+        Body::Commit(vote) => *vote == COMMIT,
+        Body::Reply(reply) => is_reply(reply),
+        Body::Checkpoint(vote) => *vote == CHECKPOINT,
+        Body::ViewChange(_) => false,
+        Body::NewView(entry) => is_new_view(entry),
+        Body::Fetch(fetch) => *fetch == Fetch::Request(DIGEST) || *fetch == Fetch::State(NUMBER),
+        Body::Snapshot(snapshot) => is_snapshot(snapshot),
     }
 }
 
-fn is_fetch(body: &Body, fetch: Fetch) -> bool {
-    matches!(body, Body::Fetch(found) if *found == fetch)
+/// The kind of a body.
+pub(crate) fn kind(body: &Body) -> u8 {
+    match body {
+        Body::Request(_) => 1,
+        Body::PrePrepare(_) => 2,
+        Body::Prepare(_) => 3,
+        Body::Commit(_) => 4,
+        Body::Reply(_) => 5,
+        Body::Checkpoint(_) => 6,
+        Body::ViewChange(_) => 7,
+        Body::NewView(_) => 8,
+        Body::Fetch(_) => 9,
+        Body::Snapshot(_) => 10,
+    }
 }
 
 #[test]
 fn each_field_has_its_place(rt: HostRuntime) -> Result<(), Fail> {
-    for pieces in BODIES {
-        let message = message_of(rt.alloc(), pieces)?;
-        let kind = pieces.first().copied().unwrap_or("");
-        assert!(rt;
-            is_signed(&message) && is_laid_out(&message.body, kind),
-            "{kind}"
-        );
-    }
-    Ok(())
-}
-
-#[test]
-fn both_kinds_of_fetches(rt: HostRuntime) -> Result<(), Fail> {
-    for (pieces, fetch) in FETCHES {
-        let message = message_of(rt.alloc(), pieces)?;
-        assert!(rt; is_fetch(&message.body, fetch));
+    for line in BODIES.lines() {
+        let message = message_of(rt.alloc(), line)?;
+        let kind = bytes_of(rt.alloc(), line)?.first().copied().unwrap_or(0);
+        assert!(rt; is_signed(&message) && is_laid_out(&message.body), "{line}");
+        assert!(rt; self::kind(&message.body) == kind, "{line}");
     }
     Ok(())
 }

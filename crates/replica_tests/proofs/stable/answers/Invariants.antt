@@ -1,5 +1,5 @@
 use Rattle.std.proofs.Common.{◌≡◌}
 use Rattle.replica_tests.proofs.stable.answers.Given as goal
 
-abbrev pub invariant-loop-id : goal.invariant-loop-id
-invariant-loop-id l = l.kept.config ≡ l.fn.config.value
+abbrev pub invariant-loop-line : goal.invariant-loop-line
+invariant-loop-line l = l.kept.config ≡ l.fn.config.value

@@ -2,7 +2,7 @@ use Rattle.std.proofs.Common.{rules, ◌++◌, ◌+◌, ◌≤◌, length, sym, 
 use Rattle.std.specs.FinMap as finite
 use Rattle.std.proofs.lemmas.List.{take_all}
 use Rattle.std.proofs.lemmas.Result.{on_ok_weaker}
-use Rattle.service_core.specs.Words.{u32_bytes}
+use Rattle.service_model.specs.Words.{u32_bytes}
 use Rattle.service_core.proofs.Fed.{rows, fed_same, put_none, put_row, put_fed, put_all}
 use Rattle.service_core.proofs.encoding.put_entries.Goals as goal
 

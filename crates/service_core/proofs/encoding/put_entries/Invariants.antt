@@ -1,6 +1,6 @@
 use Rattle.std.proofs.Common.{◌++◌, ◌<◌, ◌≡◌, length}
 use Rattle.std.specs.FinMap as finite
-use Rattle.service_core.specs.Words.{u32_bytes}
+use Rattle.service_model.specs.Words.{u32_bytes}
 use Rattle.service_core.proofs.Fed.{Put, rows}
 use Rattle.service_core.proofs.encoding.put_entries.Given as goal
 

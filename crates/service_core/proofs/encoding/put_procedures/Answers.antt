@@ -2,8 +2,8 @@ use Rattle.std.proofs.Common.{◌++◌, ap, ◌∙◌, sym, List, ℕ, length, m
 use Rattle.std.specs.Prelude.{flat_map}
 use Rattle.std.proofs.lemmas.List.{append-nil, length-map}
 use Rattle.bpf_verifier.specs.Verified.{Verified}
-use Rattle.service_core.specs.Words.{u32_bytes}
-use Rattle.service_core.specs.Encoding.{length_prefixed}
+use Rattle.service_model.specs.Words.{u32_bytes}
+use Rattle.service_model.specs.Encoding.{length_prefixed}
 use Rattle.service_core.proofs.Fed.{fed_same, fed_more, fed_all, flat_map-map}
 use Rattle.service_core.proofs.encoding.put_procedures.Goals as goal
 

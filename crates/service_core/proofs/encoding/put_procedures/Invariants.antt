@@ -1,8 +1,8 @@
 use Rattle.std.proofs.Common.{◌++◌, length, take}
 use Rattle.std.specs.Prelude.{flat_map}
-use Rattle.service_core.specs.Words.{u32_bytes}
+use Rattle.service_model.specs.Words.{u32_bytes}
 use Rattle.service_core.specs.Sinks.{Feeds}
-use Rattle.service_core.specs.Encoding.{length_prefixed}
+use Rattle.service_model.specs.Encoding.{length_prefixed}
 use Rattle.service_core.proofs.encoding.put_procedures.Given as goal
 
 abbrev pub invariant-loop-procedure : goal.invariant-loop-procedure

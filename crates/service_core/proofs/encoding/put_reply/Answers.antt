@@ -1,7 +1,7 @@
 use Rattle.std.proofs.Common.{◌++◌, ap}
 use Rattle.std.proofs.lemmas.Result.{on_ok_weaker}
-use Rattle.service_core.specs.Words.{u32_bytes, u64_bytes}
-use Rattle.service_core.specs.Encoding.{length_prefixed}
+use Rattle.service_model.specs.Words.{u32_bytes, u64_bytes}
+use Rattle.service_model.specs.Encoding.{length_prefixed}
 use Rattle.service_core.proofs.Fed.{fed_then, fed_same}
 use Rattle.service_core.proofs.encoding.put_reply.Goals as goal
 

@@ -1,6 +1,6 @@
 use Rattle.std.proofs.Common.{◌<◌, ◌^◌, arith}
-use Rattle.service_core.specs.Words.{u32_bytes}
-use Rattle.service_core.proofs.PrefixFree.{free_four}
+use Rattle.service_model.specs.Words.{u32_bytes}
+use Rattle.service_model.proofs.PrefixFree.{free_four}
 use Rattle.service_core.proofs.Encoded.{determined}
 use Rattle.service_core.proofs.reader.read_count.Goals as goal
 

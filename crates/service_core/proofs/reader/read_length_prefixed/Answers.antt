@@ -1,7 +1,7 @@
 use Rattle.std.proofs.Common.{◌∙◌, ◌<◌, ◌^◌, ◌++◌, length, ap, arith, append_assoc}
 use Rattle.std.proofs.lemmas.List.{length-append}
-use Rattle.service_core.specs.Words.{u32_bytes}
-use Rattle.service_core.proofs.PrefixFree.{free_four}
+use Rattle.service_model.specs.Words.{u32_bytes}
+use Rattle.service_model.proofs.PrefixFree.{free_four}
 use Rattle.service_core.proofs.Encoded.{determined}
 use Rattle.service_core.proofs.reader.read_length_prefixed.Goals as goal
 

@@ -1,9 +1,9 @@
 use Rattle.std.proofs.Common.{◌<◌, ◌^◌, List, ◌∙◌, sym, ap, true≢false, arith}
 use Rattle.host_types.specs.declared.ClientId.{ClientId}
 use Rattle.host_types.specs.Configuration.{client_ids_of}
-use Rattle.service_core.specs.Encoding.{encoded_reply}
+use Rattle.service_model.specs.Encoding.{encoded_reply}
 use Rattle.service_core.specs.Readings.{in_turn}
-use Rattle.service_core.proofs.PrefixFree.{free_list}
+use Rattle.service_model.proofs.PrefixFree.{free_list}
 use Rattle.service_core.proofs.Replies.{IsFit, free_fit}
 use Rattle.service_core.proofs.reader.read_replies.Goals as goal
 

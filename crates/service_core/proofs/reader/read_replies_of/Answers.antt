@@ -1,7 +1,7 @@
 use Rattle.std.proofs.Common.{◌<◌, ◌^◌, arith}
 use Rattle.std.specs.Prelude.{flat_map}
 use Rattle.std.proofs.lemmas.Result.{err_from_is_err_and}
-use Rattle.service_core.specs.Encoding.{encoded_reply}
+use Rattle.service_model.specs.Encoding.{encoded_reply}
 use Rattle.service_core.proofs.Replies.{IsFit, free_fit}
 use Rattle.service_core.proofs.Encoded.{failed, passes, SoMany, begun, continued, ended, next_begins}
 use Rattle.service_core.proofs.reader.read_replies_of.Goals as goal

@@ -1,5 +1,5 @@
-use Rattle.service_core.specs.Encoding.{encoded_reply}
-use Rattle.service_core.specs.Bounded.{IsBoundedReply}
+use Rattle.service_model.specs.Encoding.{encoded_reply}
+use Rattle.service_model.specs.Bounded.{IsBoundedReply}
 use Rattle.service_core.proofs.Encoded.{HasRead}
 use Rattle.service_core.proofs.reader.read_replies_of.Given as goal
 

@@ -1,7 +1,7 @@
 use Rattle.std.proofs.Common.{◌<◌, ◌≤◌, ◌^◌, ◌++◌, length, arith, inl, inr}
 use Rattle.std.proofs.lemmas.Result.{err_from_is_err_and}
-use Rattle.service_core.specs.Words.{u64_bytes}
-use Rattle.service_core.specs.Encoding.{length_prefixed, encoded_reply}
+use Rattle.service_model.specs.Words.{u64_bytes}
+use Rattle.service_model.specs.Encoding.{length_prefixed, encoded_reply}
 use Rattle.service_core.specs.Readings.{Begins}
 use Rattle.service_core.proofs.Replies.{IsFit, behind_client, behind_time, behind_number}
 use Rattle.service_core.proofs.Encoded.{failed, passes}

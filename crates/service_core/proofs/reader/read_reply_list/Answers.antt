@@ -1,5 +1,5 @@
 use Rattle.std.proofs.Common.{arith}
-use Rattle.service_core.specs.Encoding.{encoded_reply}
+use Rattle.service_model.specs.Encoding.{encoded_reply}
 use Rattle.service_core.proofs.Replies.{IsFit}
 use Rattle.service_core.proofs.Encoded.{length_prefixed_list}
 use Rattle.service_core.proofs.reader.read_reply_list.Goals as goal

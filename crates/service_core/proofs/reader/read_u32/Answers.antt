@@ -1,7 +1,7 @@
 use Rattle.std.proofs.Common.{◌∙◌, ◌++◌, ap, sym, arith, ℕ, ◌<◌, ◌^◌, List}
 use Rattle.std.specs.Int.{w32, from_be_bytes}
-use Rattle.service_core.specs.Words.{u32_bytes}
-use Rattle.service_core.proofs.Bounds.{four_short}
+use Rattle.service_model.specs.Words.{u32_bytes}
+use Rattle.service_model.proofs.Bounds.{four_short}
 use Rattle.service_core.proofs.Encoded.{too_few, four_read}
 use Rattle.service_core.proofs.reader.read_u32.Goals as goal
 

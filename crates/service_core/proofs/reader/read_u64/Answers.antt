@@ -1,7 +1,7 @@
 use Rattle.std.proofs.Common.{◌∙◌, ◌++◌, ap, sym, arith, ℕ, ◌<◌, ◌^◌, List}
 use Rattle.std.specs.Int.{w64, from_be_bytes}
-use Rattle.service_core.specs.Words.{u64_bytes}
-use Rattle.service_core.proofs.Bounds.{eight_short}
+use Rattle.service_model.specs.Words.{u64_bytes}
+use Rattle.service_model.proofs.Bounds.{eight_short}
 use Rattle.service_core.proofs.Encoded.{too_few, eight_read}
 use Rattle.service_core.proofs.reader.read_u64.Goals as goal
 

@@ -1,7 +1,7 @@
 use Rattle.std.proofs.Common.{length, sym}
 use Rattle.std.proofs.lemmas.List.{append-nil}
-use Rattle.service_core.specs.Words.{u32_bytes}
-use Rattle.service_core.specs.Encoding.{encoded_tenant}
+use Rattle.service_model.specs.Words.{u32_bytes}
+use Rattle.service_model.specs.Encoding.{encoded_tenant}
 use Rattle.service_core.proofs.Fed.{fed_same, fed_more, fed_all}
 use Rattle.service_core.proofs.state.put_tenants.Goals as goal
 

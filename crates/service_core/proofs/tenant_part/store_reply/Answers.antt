@@ -1,6 +1,6 @@
 use Rattle.std.proofs.Common.{sym, ap, ◌∙◌}
 use Rattle.std.specs.Prelude.{position}
-use Rattle.service_core.specs.TenantStates.{replies_of}
+use Rattle.service_model.specs.TenantStates.{replies_of}
 use Rattle.service_core.proofs.LastReplies.{to, replies_of-set, replies_of-push}
 use Rattle.service_core.proofs.tenant_part.store_reply.Goals as goal
 

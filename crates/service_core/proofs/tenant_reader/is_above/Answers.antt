@@ -1,4 +1,4 @@
-use Rattle.service_core.proofs.Doing.{match_false}
+use Rattle.service_model.proofs.Matches.{match_false}
 use Rattle.service_core.proofs.KeysInOrder.{not_above_found, above_or_not}
 use Rattle.service_core.proofs.tenant_reader.is_above.Goals as goal
 

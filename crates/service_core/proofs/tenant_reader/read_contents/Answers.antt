@@ -1,7 +1,7 @@
 use Rattle.std.proofs.Common.{arith}
 use Rattle.std.proofs.lemmas.Result.{err_from_is_err_and}
-use Rattle.service_core.specs.Encoding.{encoded_procedures, encoded_entries}
-use Rattle.service_core.specs.Bounded.{IsSizedMap}
+use Rattle.service_model.specs.Encoding.{encoded_procedures, encoded_entries}
+use Rattle.service_model.specs.Bounded.{IsSizedMap}
 use Rattle.service_core.specs.Readings.{AreProcedures, AreContents, encoded_contents}
 use Rattle.service_core.proofs.Parts.{behind_id, begins_procedures, begins_entries}
 use Rattle.service_core.proofs.Encoded.{failed, passes}

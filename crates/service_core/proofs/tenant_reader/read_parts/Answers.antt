@@ -1,8 +1,8 @@
 use Rattle.std.proofs.Common.{ℕ, ◌∙◌, ap, sym}
 use Rattle.std.specs.Prelude.{flat_map}
 use Rattle.std.proofs.lemmas.Result.{err_from_is_err_and}
-use Rattle.service_core.specs.TenantStates.{replies_of}
-use Rattle.service_core.specs.Encoding.{encoded_tenant}
+use Rattle.service_model.specs.TenantStates.{replies_of}
+use Rattle.service_model.specs.Encoding.{encoded_tenant}
 use Rattle.service_core.specs.Readings.{AreContents, ArePartsOf, replies_to_tenant}
 use Rattle.service_core.proofs.Parts.{parts_none, parts_more, parts_begin, parts_all}
 use Rattle.service_core.proofs.Encoded.{failed, passes}

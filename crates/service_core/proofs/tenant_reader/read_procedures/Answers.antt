@@ -1,5 +1,5 @@
 use Rattle.std.proofs.Common.{arith}
-use Rattle.service_core.specs.Encoding.{length_prefixed}
+use Rattle.service_model.specs.Encoding.{length_prefixed}
 use Rattle.service_core.proofs.ShortCodes.{IsShortCode}
 use Rattle.service_core.proofs.Encoded.{length_prefixed_list}
 use Rattle.service_core.proofs.tenant_reader.read_procedures.Goals as goal

@@ -3,7 +3,7 @@ use Rattle.std.specs.Prelude.{flat_map}
 use Rattle.std.proofs.lemmas.List.{map-append}
 use Rattle.std.proofs.lemmas.Result.{err_from_is_err_and}
 use Rattle.bpf_verifier.specs.Verified.{Verified}
-use Rattle.service_core.specs.Encoding.{length_prefixed}
+use Rattle.service_model.specs.Encoding.{length_prefixed}
 use Rattle.service_core.proofs.ShortCodes.{IsShortCode, free_code}
 use Rattle.service_core.proofs.Encoded.{failed, passes, SoMany, begun, continued, ended, next_begins}
 use Rattle.service_core.proofs.tenant_reader.read_procedures_of.Goals as goal

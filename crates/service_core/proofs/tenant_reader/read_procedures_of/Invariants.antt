@@ -1,5 +1,5 @@
 use Rattle.std.proofs.Common.{map}
-use Rattle.service_core.specs.Encoding.{length_prefixed}
+use Rattle.service_model.specs.Encoding.{length_prefixed}
 use Rattle.service_core.proofs.ShortCodes.{IsShortCode}
 use Rattle.service_core.proofs.Encoded.{HasRead}
 use Rattle.service_core.proofs.tenant_reader.read_procedures_of.Given as goal

@@ -2,7 +2,7 @@ use Rattle.std.proofs.Common.{◌≡◌, ◌∙◌, List, length, ap, sym, subst
 use Rattle.std.specs.Prelude.{flat_map}
 use Rattle.host_types.specs.declared.TenantId.{TenantId}
 use Rattle.host_types.specs.Configuration.{tenants_of}
-use Rattle.service_core.specs.Encoding.{encoded_tenant}
+use Rattle.service_model.specs.Encoding.{encoded_tenant}
 use Rattle.service_core.specs.Readings.{Reads, ArePartsOf}
 use Rattle.service_core.proofs.Parts.{length_prefixed_parts, other_count}
 use Rattle.service_core.proofs.tenant_reader.read_tenants.Goals as goal

@@ -4,9 +4,9 @@ use Rattle.std.specs.Option.{option_copied}
 use Rattle.std.specs.Arc.{arc_value}
 use Rattle.host_types.specs.declared.SeqNo.{SeqNo}
 use Rattle.host_types.specs.Configuration.{entry_of}
-use Rattle.service_core.specs.TenantStates.{Service, client_index}
-use Rattle.service_core.specs.Steps.{IsStep}
-use Rattle.service_core.proofs.TenantIndexes.{listed_has_index, tenants-set}
+use Rattle.service_model.specs.TenantStates.{Service, client_index}
+use Rattle.service_model.specs.Steps.{IsStep}
+use Rattle.service_model.proofs.TenantIndexes.{listed_has_index, tenants-set}
 use Rattle.service_core.proofs.Taking.{taken}
 use Rattle.service_core.proofs.state.State.apply.Goals as goal
 

@@ -6,9 +6,9 @@ use Rattle.std.proofs.lemmas.List.{nil_from_length}
 use Rattle.std.proofs.lemmas.Result.{err_from_is_err_and}
 use Rattle.host_types.specs.declared.request.Reply.{Reply}
 use Rattle.host_types.specs.Configuration.{Configuration, IsConfiguration, tenants_of}
-use Rattle.service_core.specs.Words.{u32_bytes}
-use Rattle.service_core.specs.TenantStates.{TenantState}
-use Rattle.service_core.specs.Encoding.{encoded_replies, encoded_tenant}
+use Rattle.service_model.specs.Words.{u32_bytes}
+use Rattle.service_model.specs.TenantStates.{TenantState}
+use Rattle.service_model.specs.Encoding.{encoded_replies, encoded_tenant}
 use Rattle.service_core.specs.Readings.{Fails, AreLastReplies, ArePartsOf, HaveReplies}
 use Rattle.service_core.proofs.Encoded.{none_encoded}
 use Rattle.service_core.proofs.StateRead.{begins_replies, begins_parts, ends, is_encoded}

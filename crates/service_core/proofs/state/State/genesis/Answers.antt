@@ -2,8 +2,8 @@ use Rattle.std.proofs.Common.{◌∙◌, ap, map, take}
 use Rattle.host_types.specs.declared.TenantId.{TenantId}
 use Rattle.host_types.specs.Configuration.{Configuration, tenants_of}
 use Rattle.std.proofs.lemmas.List.{take_all}
-use Rattle.service_core.specs.TenantStates.{TenantState}
-use Rattle.service_core.proofs.TenantIndexes.{empty_tenants}
+use Rattle.service_model.specs.TenantStates.{TenantState}
+use Rattle.service_model.proofs.TenantIndexes.{empty_tenants}
 use Rattle.service_core.proofs.state.State.genesis.Goals as goal
 
 pub invariant_of-result : goal.invariant_of-result

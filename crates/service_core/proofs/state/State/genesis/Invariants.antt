@@ -1,5 +1,5 @@
 use Rattle.std.proofs.Common.{◌≡◌, map, take}
-use Rattle.service_core.specs.TenantStates.{empty_tenant}
+use Rattle.service_model.specs.TenantStates.{empty_tenant}
 use Rattle.service_core.proofs.state.State.genesis.Given as goal
 
 abbrev pub invariant-loop-tenant : goal.invariant-loop-tenant

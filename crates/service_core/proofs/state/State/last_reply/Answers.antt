@@ -1,8 +1,8 @@
 use Rattle.std.proofs.Common.{sym, ap, ◌∙◌}
 use Rattle.host_types.specs.Configuration.{entry_of}
 use Rattle.std.specs.Arc.{arc_value}
-use Rattle.service_core.specs.TenantStates.{Service, last_reply_of, client_index}
-use Rattle.service_core.proofs.TenantIndexes.{last_reply_at, no_last_reply}
+use Rattle.service_model.specs.TenantStates.{Service, last_reply_of, client_index}
+use Rattle.service_model.proofs.TenantIndexes.{last_reply_at, no_last_reply}
 use Rattle.service_core.proofs.state.State.last_reply.Goals as goal
 
 pub returns-in-Some-clause-value : goal.returns-in-Some-clause-value

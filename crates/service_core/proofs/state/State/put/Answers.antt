@@ -2,9 +2,9 @@ use Rattle.std.proofs.Common.{◌++◌, ◌∷◌, [], ◌∙◌, ap, List, ℕ,
 use Rattle.std.specs.Prelude.{flat_map}
 use Rattle.std.proofs.lemmas.Result.{on_ok_weaker}
 use Rattle.host_types.specs.Configuration.{Configuration, client_ids_of}
-use Rattle.service_core.specs.Words.{u32_bytes, u64_bytes}
-use Rattle.service_core.specs.TenantStates.{Service}
-use Rattle.service_core.specs.Encoding.{encoded, encoded_tenant}
+use Rattle.service_model.specs.Words.{u32_bytes, u64_bytes}
+use Rattle.service_model.specs.TenantStates.{Service}
+use Rattle.service_model.specs.Encoding.{encoded, encoded_tenant}
 use Rattle.service_core.proofs.Fed.{fed_same, fed_then}
 use Rattle.service_core.proofs.Whole.{pieces, replies_to}
 use Rattle.service_core.proofs.state.State.put.Goals as goal

@@ -4,9 +4,9 @@ use Rattle.std.specs.List.{filter_map}
 use Rattle.std.specs.Option.{option_copied}
 use Rattle.std.proofs.lemmas.List.{take_all}
 use Rattle.host_types.specs.declared.ClientId.{ClientId}
-use Rattle.service_core.specs.TenantStates.{last_reply_of}
+use Rattle.service_model.specs.TenantStates.{last_reply_of}
 use Rattle.service_core.specs.Sinks.{Feeds}
-use Rattle.service_core.specs.Encoding.{encoded_reply}
+use Rattle.service_model.specs.Encoding.{encoded_reply}
 use Rattle.service_core.proofs.Counting.{pieces_found, more_missed}
 use Rattle.service_core.proofs.Fed.{fed_none, fed_same, fed_then}
 use Rattle.service_core.proofs.state.State.put_replies.Goals as goal

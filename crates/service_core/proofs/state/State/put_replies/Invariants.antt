@@ -1,9 +1,9 @@
 use Rattle.std.proofs.Common.{take}
 use Rattle.std.specs.Prelude.{flat_map}
 use Rattle.std.specs.List.{filter_map}
-use Rattle.service_core.specs.TenantStates.{last_reply_of}
+use Rattle.service_model.specs.TenantStates.{last_reply_of}
 use Rattle.service_core.specs.Sinks.{Feeds}
-use Rattle.service_core.specs.Encoding.{encoded_reply}
+use Rattle.service_model.specs.Encoding.{encoded_reply}
 use Rattle.service_core.proofs.state.State.put_replies.Given as goal
 
 abbrev pub invariant-loop-id : goal.invariant-loop-id

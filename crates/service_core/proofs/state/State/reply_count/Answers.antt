@@ -1,7 +1,7 @@
 use Rattle.std.proofs.Common.{◌∙◌, sym}
 use Rattle.std.specs.Option.{option_copied}
 use Rattle.host_types.specs.declared.ClientId.{ClientId}
-use Rattle.service_core.specs.TenantStates.{last_reply_of}
+use Rattle.service_model.specs.TenantStates.{last_reply_of}
 use Rattle.service_core.proofs.Counting.{counted_some, counted_not, counted_all, copied}
 use Rattle.service_core.proofs.state.State.reply_count.Goals as goal
 use Rattle.service_core.proofs.state.State.reply_count.Goals.{then-is_some, else-is_some}

@@ -1,4 +1,4 @@
-use Rattle.service_core.specs.TenantStates.{last_reply_of}
+use Rattle.service_model.specs.TenantStates.{last_reply_of}
 use Rattle.service_core.proofs.Counting.{Counted}
 use Rattle.service_core.proofs.state.State.reply_count.Given as goal
 

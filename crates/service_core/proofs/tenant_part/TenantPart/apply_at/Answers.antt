@@ -2,7 +2,7 @@ use Rattle.std.proofs.Common.{sym, ap, ◌∙◌, refl, find, Some, None, true, 
 use Rattle.std.specs.Option.{option_copied}
 use Rattle.std.specs.FinMap as finite
 use Rattle.std.proofs.lemmas.Result.{IfOk-weaker}
-use Rattle.service_core.specs.TenantStates.{TenantState}
+use Rattle.service_model.specs.TenantStates.{TenantState}
 use Rattle.service_core.proofs.LastReplies.{to, get-replies_of}
 use Rattle.service_core.proofs.Taking.{step_first, step_older, step_again, step_later}
 use Rattle.service_core.proofs.tenant_part.TenantPart.apply_at.Goals as goal

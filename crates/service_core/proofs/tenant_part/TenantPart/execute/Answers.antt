@@ -1,8 +1,8 @@
 use Rattle.std.proofs.Common.{refl, subst, ap, ◌∙◌, Some, false}
-use Rattle.service_core.specs.TenantStates.{TenantState, replies_of}
-use Rattle.service_core.specs.Operations.{operation_of}
+use Rattle.service_model.specs.TenantStates.{TenantState, replies_of}
+use Rattle.service_model.specs.Operations.{operation_of}
 use Rattle.service_core.specs.ReadOperations.{meaning_of}
-use Rattle.service_core.specs.Steps.{Executes}
+use Rattle.service_model.specs.Steps.{Executes}
 use Rattle.service_core.proofs.Doing.{codes_of}
 use Rattle.service_core.proofs.Taking.{executed}
 use Rattle.service_core.proofs.tenant_part.TenantPart.execute.Goals as goal

@@ -2,7 +2,7 @@ use Rattle.std.proofs.Common.{◌≤◌, sym, ap, ◌∙◌, subst, find, length
 use Rattle.std.specs.Prelude.{IfSome, All}
 use Rattle.std.specs.FinMap as finite
 use Rattle.host_types.specs.declared.request.Reply.{Reply}
-use Rattle.service_core.specs.TenantStates.{TenantState}
+use Rattle.service_model.specs.TenantStates.{TenantState}
 use Rattle.service_core.proofs.LastReplies.{to, get-replies_of, found_short}
 use Rattle.service_core.proofs.tenant_part.TenantPart.last_reply.Goals as goal
 

@@ -1,0 +1,52 @@
+//! Who takes part: the signers of replicas and clients, and the configuration that lists them.
+
+use anyhow::Result;
+use host_types::{ClientEntry, ClientId, Config, TenantId};
+use lms_tree::{Height, Signer};
+use std::alloc::{AllocError, Global};
+use std::sync::Arc;
+
+/// The id of the first client.
+pub(crate) const FIRST_CLIENT: u8 = 16;
+
+/// The signers with the ids from `first` on. Each call gives the same ones.
+pub(crate) fn signers(
+    alloc: Global,
+    height: Height,
+    first: u8,
+    count: u8,
+) -> Result<Vec<Signer>, AllocError> {
+    let mut signers = Vec::new(alloc);
+    for index in 0..count {
+        let id = first.saturating_add(index);
+        signers.push(Signer::from_seed(alloc, height, [id; 16], [2; 32])?)?;
+    }
+    Ok(signers)
+}
+
+/// The configuration of replicas, of which so many may be faulty, and of clients. All clients are of one
+/// tenant.
+pub(crate) fn config(
+    alloc: Global,
+    faulty: u8,
+    interval: u8,
+    replicas: &[Signer],
+    clients: &[Signer],
+) -> Result<Arc<Config>> {
+    let mut keys = Vec::new(alloc);
+    for signer in replicas {
+        keys.push(signer.public_key())?;
+    }
+    let mut entries = Vec::new(alloc);
+    let mut id = u32::from(FIRST_CLIENT);
+    for signer in clients {
+        entries.push(ClientEntry {
+            id: ClientId(id),
+            tenant: TenantId(1),
+            key: signer.public_key(),
+        })?;
+        id = id.saturating_add(1);
+    }
+    let config = Config::new(faulty, interval, keys, entries)?;
+    Ok(Arc::new(alloc, config)?)
+}

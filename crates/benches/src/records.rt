@@ -1,0 +1,53 @@
+//! What a replica records, and states. The part records the votes of ten replicas for one number, and the
+//! Checkpoints in a NewView. For `time` it prints what recording costs against the verification of
+//! signatures, and what reading a largest state costs against one hash of its bytes.
+
+use anyhow::{Result, anyhow};
+use checkpoints::Checkpoints;
+use quorum_log::QuorumLog;
+
+mod entries;
+mod largest_state;
+mod replicas;
+mod times;
+mod votes;
+
+/// Records a number's votes and a NewView's Checkpoints, or does what a word names.
+pub(crate) fn run(rt: &HostRuntime, work: Option<&str>) -> Result<()> {
+    match work {
+        None => {
+            print_votes(rt)?;
+            print_checkpoints(rt)
+        }
+        Some("time") => times::print_times(rt),
+        Some(_) => Err(anyhow!("the word behind records is not time")),
+    }
+}
+
+fn print_votes(rt: &HostRuntime) -> Result<()> {
+    let alloc = rt.alloc();
+    let mut signers = replicas::signers(alloc)?;
+    let config = replicas::config(alloc, &signers)?;
+    let votes = votes::votes(alloc, &config, &mut signers, 1)?;
+    let mut log = QuorumLog::new(alloc, &config)?;
+    let committed = votes::record(&mut log, &votes)?;
+    println!(rt;
+        "{} votes are recorded, and after {committed} of them the number is committed",
+        votes.len()
+    )?;
+    Ok(())
+}
+
+fn print_checkpoints(rt: &HostRuntime) -> Result<()> {
+    let alloc = rt.alloc();
+    let mut signers = replicas::signers(alloc)?;
+    let config = replicas::config(alloc, &signers)?;
+    let entry = entries::new_view(alloc, &config, &mut signers)?;
+    let mut table = Checkpoints::new(alloc, &config)?;
+    let recorded = entries::record(alloc, &mut table, &entry)?;
+    let stable = entries::stable_numbers(&table);
+    println!(rt;
+        "{recorded} Checkpoints of a NewView are recorded, and {stable} numbers are stable"
+    )?;
+    Ok(())
+}

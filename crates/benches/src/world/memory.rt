@@ -1,0 +1,67 @@
+//! The memory that a script takes.
+
+use crate::world::floor::commit;
+use crate::world::scripts::{DELIVERY, VAIN_DELIVERY, followed, output_of, queued};
+use anyhow::{Result, anyhow};
+use std::fs;
+
+/// What a script with the most deliveries of a step may take, in KiB.
+const QUEUE: u64 = 256 * 1024;
+
+/// What a delivery that a replica takes may keep, in bytes.
+const ROW: u64 = 16 * 1024;
+
+/// The most memory that this process has had in use, in KiB, as Linux reports it.
+fn peak(rt: &HostRuntime) -> Result<u64> {
+    let text = fs::read_to_string(rt, "/proc/self/status")?;
+    for line in text.lines() {
+        if let Some(rest) = line.strip_prefix("VmHWM:") {
+            let number = rest.trim().trim_end_matches(" kB");
+            return Ok(number.parse::<u64>()?);
+        }
+    }
+    Err(anyhow!("the system reports no peak"))
+}
+
+/// Prints a size, and says whether it is within its limit.
+fn print_within(rt: &HostRuntime, work: &str, size: u64, unit: &str, limit: u64) -> Result<()> {
+    println!(rt; "{work}: {size} {unit}, limit {limit} {unit}")?;
+    if size <= limit {
+        Ok(())
+    } else {
+        Err(anyhow!("the limit is passed"))
+    }
+}
+
+/// Prints what a script takes whose last step has 1,000,000 deliveries, all to a faulty replica.
+pub(crate) fn print_queue(rt: &HostRuntime) -> Result<()> {
+    let alloc = rt.alloc();
+    let queued = queued(alloc, 3, "01", 15_625, 6)?;
+    let script = followed(alloc, &followed(alloc, &queued, VAIN_DELIVERY)?, DELIVERY)?;
+    output_of(alloc, &script)?;
+    print_within(
+        rt,
+        "1,000,000 messages on their way, at most",
+        peak(rt)?,
+        "KiB",
+        QUEUE,
+    )
+}
+
+/// Prints what a delivery that a replica takes keeps: 20,000 of one vote, against none.
+pub(crate) fn print_rows(rt: &HostRuntime) -> Result<()> {
+    let alloc = rt.alloc();
+    let vote = hex::encode(alloc, commit(alloc)?.bytes.as_slice())?;
+    let script = queued(alloc, 1, &vote, 1250, 4)?;
+    output_of(alloc, &script)?;
+    let before = peak(rt)?;
+    output_of(alloc, &followed(alloc, &script, DELIVERY)?)?;
+    let kept = peak(rt)?.saturating_sub(before).saturating_mul(1024) / 20_000;
+    print_within(
+        rt,
+        "a delivery that a replica takes keeps",
+        kept,
+        "bytes",
+        ROW,
+    )
+}

@@ -1,0 +1,72 @@
+//! A row of runs: `words | input | status | output`.
+
+use std::alloc::{AllocError, Global};
+
+/// What stands between two fields.
+const SEPARATOR: &str = " | ";
+
+/// What ends a line, in an input or an output of a row.
+const LINE_END: &str = "/";
+
+/// The word that stands for an empty one.
+const EMPTY: &str = "-";
+
+/// The greatest status.
+const MAX_STATUS: u8 = 4;
+
+/// A run of the program, and what is to come of it.
+#[derive(Drop)]
+pub(crate) struct Row<'a> {
+    /// The words of the command line behind the program's name, with a blank between each two.
+    words: &'a str,
+    pub(crate) input: String,
+    pub(crate) status: u8,
+    pub(crate) output: String,
+}
+
+impl<'a> Row<'a> {
+    /// Reads a line. None where it is no row.
+    pub(crate) fn read(alloc: Global, line: &'a str) -> Result<Option<Row<'a>>, AllocError> {
+        let Some((words, input, status, output)) = fields_of(line) else {
+            return Ok(None);
+        };
+        match status.parse::<u8>() {
+            Ok(status) if status <= MAX_STATUS => Ok(Some(Row {
+                words,
+                input: input.replace(alloc, LINE_END, "\n")?,
+                status,
+                output: output.replace(alloc, LINE_END, "\n")?,
+            })),
+            _ => Ok(None),
+        }
+    }
+
+    /// The words of the command line, the program's name the first of them.
+    pub(crate) fn words(&self, alloc: Global) -> Result<Vec<&'a str>, AllocError> {
+        let mut words = Vec::new(alloc);
+        words.push("bpf_host")?;
+        for word in self.words.split(' ') {
+            if word == EMPTY {
+                words.push("")?;
+            } else if !word.is_empty() {
+                words.push(word)?;
+            }
+        }
+        Ok(words)
+    }
+}
+
+/// The four fields of a row. The last may be left out where it is empty.
+fn fields_of(line: &str) -> Option<(&str, &str, &str, &str)> {
+    let (words, rest) = line.split_once(SEPARATOR)?;
+    let (input, rest) = rest.split_once(SEPARATOR)?;
+    match rest.split_once(SEPARATOR) {
+        Some((status, output)) => Some((words, input, status, output)),
+        None => Some((words, input, rest.strip_suffix(" |")?, "")),
+    }
+}
+
+/// Whether a line of a file of rows is one: blank lines and those that begin with `#` are not.
+pub(crate) fn is_row(line: &str) -> bool {
+    !line.is_empty() && !line.starts_with('#')
+}

@@ -1,0 +1,186 @@
+//! `verify --explain`: the verdict, then what the verifier knows at each visit, then why code was refused.
+
+use crate::commands::{write_line, write_verdict};
+use crate::failure::CodeFailure;
+use crate::numbers::{Base, Numbers};
+use crate::reason::reason;
+use bpf_asm::print;
+use bpf_decode::Insn;
+use bpf_model::layout::{FRAME_SIZE, FRAMES, REGISTERS};
+use bpf_verifier::{AbstractState, Observer, Slots, VerifyFault, verify_observed};
+use std::alloc::{AllocError, Global};
+use std::io::Write;
+
+/// A visit of the verifier, and what it knows there.
+#[derive(Clone, Copy)]
+pub(crate) struct Reached {
+    /// The depth of the frame, from 0 on.
+    pub(crate) depth: u32,
+    pub(crate) slot: usize,
+    pub(crate) insn: Insn,
+    pub(crate) state: AbstractState,
+}
+
+/// Writes each visit, and keeps the last one.
+#[derive(Drop)]
+struct Explainer<O: Write + Drop> {
+    alloc: Global,
+    writer: O,
+    /// The slot that was visited last at each depth: for the depths below a visit's, the calls that lead
+    /// to it.
+    slots: [usize; FRAMES],
+    last: Option<Reached>,
+    failure: Option<CodeFailure>,
+}
+
+impl<O: Write + Drop> Observer for Explainer<O> {
+    fn visit(
+        &mut self,
+        _code: &Slots,
+        depth: u32,
+        slot: usize,
+        insn: &Insn,
+        state: &AbstractState,
+    ) {
+        if self.failure.is_some() {
+            return;
+        }
+        let reached = Reached {
+            depth,
+            slot,
+            insn: *insn,
+            state: *state,
+        };
+        if let Err(failure) = self.write_visit(&reached) {
+            self.failure = Some(failure);
+        }
+        self.last = Some(reached);
+    }
+}
+
+impl<O: Write + Drop> Explainer<O> {
+    /// Writes the lines of a visit.
+    fn write_visit(&mut self, reached: &Reached) -> Result<(), CodeFailure> {
+        let mut text = String::new(self.alloc);
+        text.push_str("at ")?;
+        for (depth, slot) in self.slots.iter_mut().enumerate() {
+            if depth < reached.depth as usize {
+                write!(text, "{slot}>")?;
+            } else if depth == reached.depth as usize {
+                *slot = reached.slot;
+            }
+        }
+        let slot = reached.slot;
+        let insn = print(self.alloc, &[reached.insn])?;
+        write!(text, "{slot}: {insn}  registers    ")?;
+        push_registers(&mut text, &reached.state)?;
+        text.push_str("\n  initialized  ")?;
+        push_initialized(&mut text, &reached.state)?;
+        text.push('\n')?;
+        write_line(&mut self.writer, text)
+    }
+}
+
+/// Writes the registers that hold a number for certain, with what they may hold.
+fn push_registers(text: &mut String, state: &AbstractState) -> Result<(), AllocError> {
+    let mut separator = "";
+    for register in 0..REGISTERS as u8 {
+        if let Some(range) = state.range_of(register) {
+            let numbers = Numbers::of(range);
+            write!(text, "{separator}r{register} = {numbers}")?;
+            separator = ", ";
+        }
+    }
+    Ok(())
+}
+
+/// Writes which bytes of the frames are initialized, as offsets from each frame's pointer: from one on and
+/// before another.
+fn push_initialized(text: &mut String, state: &AbstractState) -> Result<(), AllocError> {
+    let mut separator = "";
+    for depth in 0..FRAMES as u64 {
+        let frame = Base::Frame(depth);
+        let end = frame.address();
+        if next_interval(state, end.wrapping_sub(FRAME_SIZE as u64), end).is_some() {
+            write!(text, "{separator}{frame}")?;
+            push_intervals(text, state, frame)?;
+            separator = ", ";
+        }
+    }
+    if separator.is_empty() {
+        text.push('-')?;
+    }
+    Ok(())
+}
+
+/// Writes which bytes of a frame are initialized.
+fn push_intervals(text: &mut String, state: &AbstractState, frame: Base) -> Result<(), AllocError> {
+    let end = frame.address();
+    let mut from = end.wrapping_sub(FRAME_SIZE as u64);
+    for _ in 0..FRAME_SIZE {
+        let Some((first, behind)) = next_interval(state, from, end) else {
+            break;
+        };
+        let low = frame.offset_of(first);
+        let high = frame.offset_of(behind);
+        write!(text, " [{low}, {high})")?;
+        from = behind;
+    }
+    Ok(())
+}
+
+/// The next initialized bytes from an address on and before another: the first of them, and the address
+/// behind the last.
+fn next_interval(state: &AbstractState, from: u64, end: u64) -> Option<(u64, u64)> {
+    let first = (from..end).find(|address| state.has_byte_at(*address))?;
+    let behind = (first..end).find(|address| !state.has_byte_at(*address));
+    Some((first, behind.unwrap_or(end)))
+}
+
+/// Writes each visit of the verifier over the code, and returns the last one.
+fn write_visits<O: Write + Drop>(
+    alloc: Global,
+    code: &[u8],
+    writer: O,
+) -> Result<Option<Reached>, CodeFailure> {
+    let mut explainer = Explainer {
+        alloc,
+        writer,
+        slots: [0; FRAMES],
+        last: None,
+        failure: None,
+    };
+    let verdict = verify_observed(alloc, code, &mut explainer);
+    let Explainer { last, failure, .. } = explainer;
+    if let Some(failure) = failure {
+        return Err(failure);
+    }
+    match verdict {
+        Err(refusal) if refusal.fault == VerifyFault::Memory => Err(CodeFailure::Memory),
+        _ => Ok(last),
+    }
+}
+
+/// Writes the verdict on the code, then each visit of the verifier and what it knows there, then why the
+/// code was refused.
+pub(crate) fn explain<O: Write>(
+    alloc: Global,
+    code: &[u8],
+    writer: &mut O,
+) -> Result<(), CodeFailure> {
+    let refusal = match write_verdict(alloc, code, writer) {
+        Ok(_) => None,
+        Err(CodeFailure::Refused(refusal)) => Some(refusal),
+        Err(failure) => return Err(failure),
+    };
+    let Some(refusal) = refusal else {
+        write_visits(alloc, code, &mut *writer)?;
+        return Ok(());
+    };
+    let failure = CodeFailure::Refused(refusal);
+    write_line(writer, format!(in alloc; "{failure}\n")?)?;
+    let last = write_visits(alloc, code, &mut *writer)?;
+    let reason = reason(alloc, code, refusal, last.as_ref())?;
+    write_line(writer, format!(in alloc; "why: {reason}\n")?)?;
+    Err(CodeFailure::Explained(refusal))
+}

@@ -1,0 +1,119 @@
+//! Why a command over code ends early, and with which status.
+
+use bpf_asm::{AsmFault, AsmKind};
+use bpf_decode::DecodeFault;
+use bpf_verifier::{Refusal, VerifyFault};
+use std::alloc::{AllocError, AllocFailed};
+use std::io;
+use thiserror::Error;
+
+/// Why a command over code ended early. Its text is the line to write, where one is to be written
+/// (`is_reported`).
+#[derive(Debug, Drop, Error)]
+pub enum CodeFailure {
+    /// The input is longer than the commands read.
+    #[error("input too long")]
+    InputTooLong,
+    /// The input or the arguments are no hex.
+    #[error("input not hex")]
+    NotHex,
+    /// There are more argument bytes than a call has.
+    #[error("args too long")]
+    ArgsTooLong,
+    /// The code was refused.
+    #[error("refused {} {} at {}", .0.fault.number(), .0.fault, .0.slot)]
+    Refused(Refusal),
+    /// The code was refused; the line that says so is written already.
+    #[error("{0}")]
+    Explained(Refusal),
+    /// The bytes are no code.
+    #[error("refused {} {} at {}", .0.fault.number(), .0.fault, .0.slot)]
+    NoCode(bpf_decode::Refusal),
+    /// The assembler text has a fault.
+    #[error("{0}")]
+    Assembler(AsmFault),
+    /// Memory ran out.
+    #[error("out of memory")]
+    Memory,
+    /// A read or a write failed.
+    #[error("{0}")]
+    Stream(io::Error),
+}
+
+impl CodeFailure {
+    ghost use Rattle.std.specs.Prelude.{◌≤◌};
+
+    /// The status with which a program ends: 1 for a refusal, 3 where memory ran out, 4 where a stream failed.
+    pub fn status(&self) -> u8
+        ensures { (1 ≤ result) × (result ≤ 4) }
+    {
+        match self {
+            CodeFailure::Memory => 3,
+            CodeFailure::Stream(_) => 4,
+            _ => 1,
+        }
+    }
+
+    /// Whether its text is still to be written: nothing is said where memory ran out or a stream failed, and an
+    /// explanation says it itself.
+    pub fn is_reported(&self) -> bool {
+        !matches!(
+            self,
+            CodeFailure::Explained(_) | CodeFailure::Memory | CodeFailure::Stream(_)
+        )
+    }
+}
+
+impl From<AllocError> for CodeFailure {
+    fn from(_: AllocError) -> CodeFailure {
+        CodeFailure::Memory
+    }
+}
+
+impl<T: Drop> From<AllocFailed<T>> for CodeFailure {
+    fn from(_: AllocFailed<T>) -> CodeFailure {
+        CodeFailure::Memory
+    }
+}
+
+impl From<io::Error> for CodeFailure {
+    fn from(error: io::Error) -> CodeFailure {
+        CodeFailure::Stream(error)
+    }
+}
+
+impl From<Refusal> for CodeFailure {
+    fn from(refusal: Refusal) -> CodeFailure {
+        match refusal.fault {
+            VerifyFault::Memory => CodeFailure::Memory,
+            _ => CodeFailure::Refused(refusal),
+        }
+    }
+}
+
+impl From<bpf_decode::Refusal> for CodeFailure {
+    fn from(refusal: bpf_decode::Refusal) -> CodeFailure {
+        match refusal.fault {
+            DecodeFault::Memory => CodeFailure::Memory,
+            _ => CodeFailure::NoCode(refusal),
+        }
+    }
+}
+
+impl From<AsmFault> for CodeFailure {
+    fn from(fault: AsmFault) -> CodeFailure {
+        match fault.kind {
+            AsmKind::Memory => CodeFailure::Memory,
+            _ => CodeFailure::Assembler(fault),
+        }
+    }
+}
+
+impl From<hex::FromHexError> for CodeFailure {
+    fn from(error: hex::FromHexError) -> CodeFailure {
+        match error {
+            hex::FromHexError::OutOfMemory => CodeFailure::Memory,
+            _ => CodeFailure::NotHex,
+        }
+    }
+}

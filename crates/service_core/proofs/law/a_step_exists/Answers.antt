@@ -1,5 +1,0 @@
-use Rattle.service_core.proofs.Existing.{step_exists, serves_exist}
-use Rattle.service_core.proofs.law.a_step_exists.Goals as goal
-
-pub returns : goal.returns
-returns c = record { one = λ state request bounded. step_exists state request bounded.same_tenants; all = serves_exist }

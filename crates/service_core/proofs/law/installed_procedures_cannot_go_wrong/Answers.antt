@@ -1,5 +1,0 @@
-use Rattle.service_core.proofs.Soundness.{none_goes_wrong}
-use Rattle.service_core.proofs.law.installed_procedures_cannot_go_wrong.Goals as goal
-
-pub returns : goal.returns
-returns c = λ config requests after outcomes h. none_goes_wrong config requests after outcomes h

@@ -1,6 +1,0 @@
-use Rattle.service_core.proofs.Existing.{genesis_maps, step_maps}
-use Rattle.service_core.proofs.Reading.{read_maps}
-use Rattle.service_core.proofs.law.maps_stay_maps.Goals as goal
-
-pub returns : goal.returns
-returns c = record { first = genesis_maps; next = step_maps; read = read_maps }

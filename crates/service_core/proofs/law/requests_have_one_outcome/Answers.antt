@@ -1,6 +1,0 @@
-use Rattle.service_core.specs.TenantStates.{genesis_of}
-use Rattle.service_core.proofs.Determined.{same_follows, follows_more}
-use Rattle.service_core.proofs.law.requests_have_one_outcome.Goals as goal
-
-pub returns : goal.returns
-returns c = record { one = λ config. same_follows (genesis_of config); more = λ config. follows_more (genesis_of config) }

@@ -1,0 +1,13 @@
+pub mod Matches
+pub mod Found
+pub mod TenantIndexes
+pub mod Determined
+pub mod Soundness
+pub mod PrefixFree
+pub mod Clients
+pub mod Injective
+pub mod Bounds
+pub mod Lengths
+pub mod Bytes
+pub mod Existing
+pub mod Reading

@@ -1,0 +1,10 @@
+pub mod Words
+pub mod Operations
+pub mod TenantStates
+pub mod Equality
+pub mod Steps
+pub mod Encoding
+pub mod Sound
+pub mod Bounded
+pub mod Asked
+pub mod Decoding

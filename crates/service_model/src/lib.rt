@@ -1,0 +1,13 @@
+//! The service that every replica runs, as definitions (`specs/`) and their laws, each the contract of a function
+//! with an empty body: what a state is, what a request makes of it and answers, and a state's bytes.
+#![tactic(auto)]
+
+mod law;
+mod outcome;
+
+pub use law::{
+    a_step_exists, a_step_has_one_outcome, equal_bytes_are_equal_states,
+    installed_procedures_cannot_go_wrong, maps_stay_maps, requests_have_one_outcome,
+    states_are_bounded, states_are_sound,
+};
+pub use outcome::Outcome;

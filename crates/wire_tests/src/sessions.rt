@@ -1,0 +1,159 @@
+//! A session of client 16: its requests, and the replies that it accepts.
+
+ghost use Rattle.std.specs.Prelude.{◌≡◌, ◌<◌, IfOk};
+
+use crate::replies::{config, fields_of, reply, signer, signers};
+use host_client::{Session, SessionFault};
+use host_types::{Bytes, ClientId, Config};
+use lms_tree::Signer;
+use pbft_codec::{Body, Role};
+use seal::Checked;
+use std::alloc::Global;
+use std::process::Abort;
+use std::sync::Arc;
+use std::test::Fail;
+
+/// The session of client 16 before its first request, after what the caller of `new` owes was tested.
+fn session(
+    rt: &impl Abort,
+    alloc: Global,
+    config: &Arc<Config>,
+    signer: Signer,
+) -> Result<Session, Fail>
+    ensures { IfOk result (λ s. s.config ≡ config.now.value) }
+{
+    let Some(entry) = config.client(ClientId(16)) else {
+        return Err("no entry")?;
+    };
+    assert!(rt; entry.key == signer.public_key());
+    Ok(Session::new(alloc, config, ClientId(16), signer)?)
+}
+
+/// The request of the operation 9.
+fn ask(alloc: Global, session: &mut Session) -> Result<Result<Checked, SessionFault>, Fail>
+    ensures { session.new.config ≡ session.old.config }
+{
+    let op = Bytes::from_vec(Vec::from_slice(alloc, &[9])?);
+    Ok(session.request(op))
+}
+
+/// Whether it is client 16's request of the operation 9 at this time.
+fn is_request(message: &Checked, time: u64) -> bool {
+    let is_body = match message.body() {
+        Body::Request(body) => body.time == time && body.op.as_slice() == [9].as_slice(),
+        _ => false,
+    };
+    is_body && message.signer() == (Role::Client, 16)
+}
+
+/// Makes requests up to the one of this time, and returns whether they are of the times from 1 on.
+fn ask_up_to(alloc: Global, session: &mut Session, last: u64) -> Result<bool, Fail>
+    requires { last < 100 }
+    ensures { session.new.config ≡ session.old.config }
+{
+    let mut right = true;
+    for time in 1..last + 1 {
+        let request = ask(alloc, session)??;
+        right = right && is_request(&request, time);
+    }
+    Ok(right)
+}
+
+/// None where no reply is accepted; else whether it is the one of this time, with number 5 and result 7.
+fn accepts(session: &Session, time: u64) -> Option<bool> {
+    session.accepted().map(|reply| {
+        reply.client == ClientId(16)
+            && reply.time == time
+            && reply.number.0 == 5
+            && reply.result.as_slice() == [7].as_slice()
+    })
+}
+
+fn offer(session: &mut Session, message: &Checked) -> Result<(), SessionFault>
+    requires { message.now.config ≡ session.old.config }
+    ensures { session.new.config ≡ session.old.config }
+{
+    session.offer(message)
+}
+
+/// Offers the replies one after another, and returns whether what is accepted after each is what its line
+/// says.
+fn answers(
+    alloc: Global,
+    config: &Arc<Config>,
+    replicas: &mut [Signer],
+    session: &mut Session,
+    table: &str,
+) -> Result<bool, Fail>
+    requires { session.old.config ≡ config.now.value }
+    ensures { session.new.config ≡ config.now.value }
+{
+    let mut right = true;
+    for line in table.lines() {
+        let (text, wanted) = line.split_once(" => ").ok_or("no answer")?;
+        let fields = fields_of(text)?;
+        let message = reply(alloc, config, replicas, &fields)?;
+        offer(session, &message)?;
+        let accepted = accepts(session, fields.time);
+        right = right && accepted == (wanted == "accepted").then_some(true);
+    }
+    Ok(right)
+}
+
+/// Replies at time 0, which no request has.
+const EARLY: &str = "\
+0 0 16 0 5 7 => -\n\
+1 0 16 0 5 7 => -\n\
+";
+
+/// Replica, view, client, time, number and result of a Reply; what is accepted then.
+const LATER: &str = "\
+0 0 17 2 5 7 => -\n\
+3 0 16 1 5 7 => -\n\
+1 0 16 2 5 7 => -\n\
+1 3 16 2 5 7 => -\n\
+2 0 16 2 6 7 => -\n\
+3 0 16 2 5 8 => -\n\
+0 4 16 2 5 7 => accepted\n\
+3 0 16 2 6 7 => accepted\n\
+2 0 16 2 5 8 => accepted\n\
+";
+
+#[test]
+fn what_2_replicas_reply_is_accepted(rt: HostRuntime) -> Result<(), Fail> {
+    let alloc = rt.alloc();
+    let mut replicas = signers(alloc)?;
+    let signer = signer(alloc, 16)?;
+    let config = config(alloc, &replicas, signer.public_key())?;
+    let mut session = session(&rt, alloc, &config, signer)?;
+    assert!(rt; session.client() == ClientId(16));
+    assert!(rt; answers(alloc, &config, &mut replicas, &mut session, &EARLY)?);
+    assert!(rt; ask_up_to(alloc, &mut session, 2)?);
+    assert!(rt; answers(alloc, &config, &mut replicas, &mut session, &LATER)?);
+    let request = ask(alloc, &mut session)??;
+    assert!(rt; is_request(&request, 3) && session.accepted().is_none());
+    Ok(())
+}
+
+const FIRST: &str = "\
+2 0 16 32 5 7 => -\n\
+";
+
+const SECOND: &str = "\
+3 0 16 32 5 7 => accepted\n\
+";
+
+#[test]
+fn a_refused_request_leaves_the_open_one(rt: HostRuntime) -> Result<(), Fail> {
+    let alloc = rt.alloc();
+    let mut replicas = signers(alloc)?;
+    let signer = signer(alloc, 16)?;
+    let config = config(alloc, &replicas, signer.public_key())?;
+    let mut session = session(&rt, alloc, &config, signer)?;
+    assert!(rt; ask_up_to(alloc, &mut session, 32)?);
+    assert!(rt; answers(alloc, &config, &mut replicas, &mut session, &FIRST)?);
+    let refused = ask(alloc, &mut session)?;
+    assert!(rt; refused.err() == Some(SessionFault::Exhausted));
+    assert!(rt; answers(alloc, &config, &mut replicas, &mut session, &SECOND)?);
+    Ok(())
+}

@@ -1,5 +1,0 @@
-use Rattle.std.proofs.Common.{◌≡◌}
-use Rattle.world_bench.proofs.replies.offer_again.Given as goal
-
-abbrev pub invariant-loop : goal.invariant-loop
-invariant-loop l = l.session.config ≡ l.reply.config
