@@ -27,6 +27,14 @@ pub(crate) struct Cost {
     pub(crate) backup: u32,
 }
 
+/// Whether a reply says that a procedure was installed, with whatever number.
+fn says_installed(message: &Checked) -> bool {
+    match message.body() {
+        Body::Reply(reply) => reply.result.as_slice().first() == Some(&0),
+        _ => false,
+    }
+}
+
 /// Whether it is a reply that the operation was done.
 fn says_done(message: &Checked) -> bool {
     match message.body() {
@@ -82,7 +90,7 @@ impl Bench {
         self.group.ask(0, self.installed, op)?;
         let traffic = self.group.run()?;
         self.floor.nanoseconds(rt, self.group.config(), &traffic)?;
-        require_done(&traffic, 1)
+        require_installed(&traffic)
     }
 
     /// Executes the requests that are on their way, and adds what they cost.
@@ -118,6 +126,17 @@ impl Bench {
             }
         }
         Ok(())
+    }
+}
+
+/// Whether each replica replied that it installed.
+fn require_installed(traffic: &Traffic) -> Result<()> {
+    if traffic.replies.len() as u64 == u64::from(REPLICAS)
+        && traffic.replies.iter().all(says_installed)
+    {
+        Ok(())
+    } else {
+        Err(anyhow!("a procedure is not installed"))
     }
 }
 
