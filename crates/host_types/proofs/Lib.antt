@@ -1,4 +1,5 @@
 pub mod BitLemmas
 pub mod ClientLemmas
+mod EntryLemmas
 pub mod InsertSorted
 pub mod AscendingLemmas

@@ -1,6 +1,6 @@
 //! The configuration: who takes part, with what limits.
 
-ghost use Rattle.std.specs.Prelude.{◌≡◌, ◌≢◌, ℕ, ◌+◌, ◌*◌, ◌%◌, ◌==◌, ◌<◌, None, Some, MatchResult, MatchOption, MatchBool, length, slice_get, slice_index_or, take_while, nat_lt};
+ghost use Rattle.std.specs.Prelude.{◌≡◌, ◌≢◌, ◌↔◌, IsTrue, ℕ, ◌+◌, ◌*◌, ◌%◌, ◌==◌, ◌<◌, None, Some, MatchResult, MatchOption, MatchBool, length, slice_get, slice_index_or, take_while, nat_lt};
 ghost use Rattle.std.specs.List.{list_any};
 ghost use Rattle.std.specs.Option.{option_copied};
 ghost use Rattle.arrayvec.specs.ArrayVec.{array_vec_len};
@@ -21,7 +21,7 @@ const MIN_CLIENT: u32 = 16;
 
 /// A client: its name, the tenant whose procedures it calls, and the key that its requests verify
 /// under.
-#[derive(Clone, Copy, Debug)]
+#[derive(Clone, Copy, Debug, PartialEq, Eq)]
 pub struct ClientEntry {
     pub id: ClientId,
     pub tenant: TenantId,
@@ -168,6 +168,16 @@ impl Config {
         &self.clients
     }
 
+    /// Whether the other configuration is equal to this one. It takes no memory.
+    pub fn is_same(&self, other: &Config) -> bool
+        ensures { IsTrue result ↔ (self.now ≡ other.now) }
+    {
+        self.f == other.f
+            && self.k == other.k
+            && same_keys(&self.keys, &other.keys)
+            && same_clients(&self.clients, &other.clients)
+    }
+
     /// The different tenants of the clients, ascending. A tenant is there only by a client.
     pub fn tenant_ids(&self) -> ArrayVec<TenantId, 8>
         ensures value { result.items ≡ tenants_of self.now.clients }
@@ -190,6 +200,20 @@ impl Config {
             None => unreachable!(),
         }
     }
+}
+
+// Whether two lists of keys are equal.
+fn same_keys(left: &[[u8; 56]], right: &[[u8; 56]]) -> bool
+    ensures { IsTrue result ↔ (left.now ≡ right.now) }
+{
+    left == right
+}
+
+// Whether two lists of clients are equal.
+fn same_clients(left: &[ClientEntry], right: &[ClientEntry]) -> bool
+    ensures { IsTrue result ↔ (left.now ≡ right.now) }
+{
+    left == right
 }
 
 // Whether there are more clients or tenants than may be, or a client's id that is none.

@@ -8,6 +8,7 @@
 mod ascending;
 mod bytes;
 mod config;
+mod gate;
 pub mod limits;
 pub mod operation;
 mod replica_set;
@@ -15,6 +16,7 @@ mod request;
 
 pub use bytes::Bytes;
 pub use config::{ClientEntry, Config, ConfigFault};
+pub use gate::Gate;
 pub use replica_set::ReplicaSet;
 pub use request::{Reply, Request};
 

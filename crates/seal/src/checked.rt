@@ -1,6 +1,6 @@
 //! Messages whose signatures were verified, as values.
 
-ghost use Rattle.std.specs.Prelude.{◌≡◌, ◌≤◌, ◌<◌, ◌^◌, length, IfOk, IfSome, IsSome};
+ghost use Rattle.std.specs.Prelude.{◌≡◌, ◌↔◌, IsTrue, ◌≤◌, ◌<◌, ◌^◌, length, IfOk, IfSome, IsSome};
 ghost use Rattle.std.specs.List.{AllByRecursion};
 ghost use Rattle.pbft_codec.specs.Bodies.{BodyWellFormed};
 ghost use Rattle.pbft_codec.specs.WellFormed.{Encodes};
@@ -94,6 +94,13 @@ impl Checked {
     {
         let inner: &Inner = &self.inner;
         &inner.config
+    }
+
+    /// Whether the message was opened or sealed under a configuration equal to this one. It takes no memory.
+    pub fn under(&self, config: &Config) -> bool
+        ensures { IsTrue result ↔ (self.now.config ≡ config.now) }
+    {
+        self.config().is_same(config)
     }
 
     /// The signer of the whole message.
