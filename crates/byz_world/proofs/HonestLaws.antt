@@ -1,4 +1,4 @@
--- What runs of a world keep, and that their report is an honest family of journals.
+-- What events at a world keep, and that its journals are an honest family.
 use Rattle.std.proofs.Common.{◌≡◌, ℕ, zero, suc, ◌+◌, ◌<◌, ◌≤◌, ◌⊎◌, inl, inr, Bool, true, false, not, cond, eqb, List, [], ◌∷◌, ◌++◌, find, map, Option, Some, None, Result, Ok, Err, refl, sym, ap, subst, ◌∙◌, arith}
 use Rattle.std.specs.Prelude.{filter, nat_lt, is_some, IsSomeAnd, MatchOption}
 use Rattle.std.specs.List.{AllByRecursion, range_with_len}
@@ -20,22 +20,25 @@ use Rattle.seal.specs.declared.fault.SealFault.{SealFault}
 use Rattle.seal.specs.Signers.{key_of}
 use Rattle.view_change.specs.Setups.{setup_of}
 use Rattle.replica_core.specs.Facts.{RowFacts, row_of}
-use Rattle.replica_core.specs.Steps.{Goes, ReplicaFacts, StopsFrom}
+use Rattle.replica_core.specs.Steps.{Goes, ReplicaFacts, StopsFrom, status_of}
 use Rattle.replica_core.specs.declared.halt.Halt.{Halt}
+use Rattle.replica_core.specs.declared.replica.Status.{Status}
 use Rattle.replica_core.specs.declared.row.Input.{Input}
 use Rattle.replica_core.specs.declared.row.Input.TheVariants as inputs
 use Rattle.replica_core.specs.declared.row.Output.{Output}
 use Rattle.byz_world.specs.declared.event.Event.{Event}
 use Rattle.byz_world.specs.declared.event.Event.TheVariants as events
 use Rattle.byz_world.specs.declared.fault.WorldFault.TheVariants as faults
-use Rattle.byz_world.specs.Worlds.{Answer, AreListed, AtReplica, Comes, Delivers, Forwards, Gives, Hands, IsHonestReport, IsReported, IsSignedBy, MemberFacts, Passes, Refuses, Runs, Where, WorldFacts, correct_ids, first_members, first_world, member_of, outcome_of, output_of, rows_in}
+use Rattle.byz_world.specs.Leading.{AreJournalsOf, IsToldOf, LeadsTo}
+use Rattle.byz_world.specs.Worlds.{Answer, AreListed, AtReplica, Comes, Delivers, Forwards, Gives, Hands, IsHonestReport, IsSignedBy, MemberFacts, Passes, Refuses, Where, WorldFacts, correct_ids, first_members, first_world, member_of, outcome_of, output_of, rows_in}
 
--- a replica's rows are lawful from its signer's first core on, up to the core that it has
+-- a replica's rows are lawful from its signer's first core on, up to the core that it has and where it stands
 pub record IsKept (c : Configuration) (by : ℕ → SigningState) (m : MemberFacts) : Type 0 where
   pub config : m.replica.config ≡ c
   pub last : Core
   pub lawful : IsLawfulFrom (setup_of c) m.replica.me (start_of (setup_of c) (by m.replica.me)) (map row_of m.rows) last
   pub has : (s : Core) → m.replica.core ≡ Some s → s ≡ last
+  pub stands : m.replica.status ≡ record (status_of last) { halted = m.replica.status.halted }
 
 abbrev AreKept : Configuration → (ℕ → SigningState) → List MemberFacts → Type 0
 AreKept c by ms = AllByRecursion (IsKept c by) ms
@@ -49,6 +52,7 @@ first_kept c (id ∷ ids) (signer ∷ signers) j signed = (
     last = start_of (setup_of c) (j.signer id);
     lawful = refl;
     has = λ s is. sym (same_Some _ _ is) ∙ ap (start_of (setup_of c)) (sym signed.0);
+    stands = ap (λ (x : SigningState). status_of (start_of (setup_of c) x)) (sym signed.0);
   },
   first_kept c ids signers j signed.1,
 )
@@ -70,6 +74,7 @@ went c by m input row after kept goes =
           (subst (λ (x : Configuration). IsNext (setup_of x) m.replica.me kept.last (row_of row) goes.next) kept.config
           (subst (λ (x : Core). IsNext (setup_of m.replica.config) m.replica.me x (row_of row) goes.next) (kept.has goes.before goes.was) goes.is_next)));
       has = λ s is. sym (same_Some _ _ is);
+      stands = refl;
     })
 
 stopped_from : (c : Configuration) (by : ℕ → SigningState) (m : MemberFacts) (input : Input) (halt : Halt) (after : ReplicaFacts) (o : Option Core) → IsKept c by m
@@ -77,7 +82,13 @@ stopped_from : (c : Configuration) (by : ℕ → SigningState) (m : MemberFacts)
 stopped_from c by m input halt after None kept stops = subst (λ (r : ReplicaFacts). IsKept c by (record { replica = r; rows = m.rows })) (sym stops.1) kept
 stopped_from c by m input halt after (Some s) kept stops =
     subst (λ (r : ReplicaFacts). IsKept c by (record { replica = r; rows = m.rows })) (sym stops.1)
-    (record { config = kept.config; last = kept.last; lawful = kept.lawful; has = λ k is. none k is }) where
+    (record {
+      config = kept.config;
+      last = kept.last;
+      lawful = kept.lawful;
+      has = λ k is. none k is;
+      stands = ap (λ (x : Status). record x { halted = Some halt }) kept.stands;
+    }) where
       none : (k : Core) → (let no : Option Core = None in no) ≡ Some k → k ≡ kept.last
       none k is = absurd (false≢true (ap is_some is))
 
@@ -142,9 +153,9 @@ gives_kept c by w (events.Forward to from output) r t all gives =
 gives_kept c by w (events.Timeout at) r t all gives =
     at_kept w at.0 r t (Comes w at.0 inputs.Timeout r t) (AreKept c by t.members) (comes_kept c by w at.0 inputs.Timeout r t all) (refused_kept c by w r t all) gives
 
-runs_kept : (c : Configuration) (by : ℕ → SigningState) (w : WorldFacts) (es : List Event) (t : WorldFacts) → AreKept c by w.members → Runs w es t → AreKept c by t.members
-runs_kept c by w [] t all runs = subst (λ (x : WorldFacts). AreKept c by x.members) (sym runs) all
-runs_kept c by w (e ∷ es) t all (row, u, gives, rest) = runs_kept c by u es t (gives_kept c by w e (Ok row) u all gives) rest
+leads_kept : (c : Configuration) (by : ℕ → SigningState) (w : WorldFacts) (es : List Event) (t : WorldFacts) → AreKept c by w.members → LeadsTo w es t → AreKept c by t.members
+leads_kept c by w [] t all leads = subst (λ (x : WorldFacts). AreKept c by x.members) (sym leads) all
+leads_kept c by w (e ∷ es) t all (answer, u, gives, rest) = leads_kept c by u es t (gives_kept c by w e answer u all gives) rest
 
 -- ---- the report
 
@@ -191,24 +202,45 @@ listed_in c (id ∷ ids) (signer ∷ signers) j i listed signed (inl here) =
     (subst (IsListed (setup_of c) id) (sym signed.0) (listed_one c id signer (key_of c roles.Replica id) refl listed.0))
 listed_in c (id ∷ ids) (signer ∷ signers) j i listed signed (inr later) = listed_in c ids signers j i listed.1 signed.1 later
 
--- The reported rows of each replica are lawful, and come to a core.
-pub report_lawful : (c : Configuration) (faulty : ℕ → Bool) (signers : List SigningState) (es : List Event) (t : WorldFacts) (j : Journals)
-    → Runs (first_world c faulty signers) es t → IsReported faulty (map outcome_of t.members) j → IsSignedBy (correct_ids c faulty) signers j
-    → (i : ℕ) → (last : Core) × ComesTo (setup_of c) j i (j.rows i) last
-report_lawful c faulty signers es t j runs as_reported signed i =
-    let all = runs_kept c j.signer (first_world c faulty signers) es t (first_kept c (correct_ids c faulty) signers j signed) runs in
-    let kept = reported c j.signer t.members i all in
-    (kept.0, subst (λ (rs : List Row). IsLawfulFrom (setup_of c) i (start_of (setup_of c) (j.signer i)) rs kept.0) (sym (as_reported.rows_are i)) kept.1)
+-- the member of an id, and its rows in the report
+found_rows : (ms : List MemberFacts) (id : ℕ) (m : MemberFacts) → find (λ x. eqb x.replica.me id) ms ≡ Some m → (m.replica.me ≡ id) × (rows_in (map outcome_of ms) id ≡ m.rows)
+found_rows [] id m is = absurd (false≢true (ap is_some is))
+found_rows (x ∷ ms) id m is = either (eqb x.replica.me id) refl is (λ later. found_rows ms id m later) where
+  either : (b : Bool) → eqb x.replica.me id ≡ b → cond b (Some x) (find (λ y. eqb y.replica.me id) ms) ≡ Some m
+      → (find (λ y. eqb y.replica.me id) ms ≡ Some m → (m.replica.me ≡ id) × (rows_in (map outcome_of ms) id ≡ m.rows))
+      → (m.replica.me ≡ id) × (cond b x.rows (rows_in (map outcome_of ms) id) ≡ m.rows)
+  either true same here later = (ap (λ (y : MemberFacts). y.replica.me) (sym (same_Some _ _ here)) ∙ eqb-true x.replica.me id same, ap (λ (y : MemberFacts). y.rows) (same_Some _ _ here))
+  either false other there later = later there
 
-pub report_agrees : (c : Configuration) (faulty : ℕ → Bool) (signers : List SigningState) (es : List Event) (t : WorldFacts) (j : Journals)
-    → IsConfiguration c → AreListed c (correct_ids c faulty) signers → Runs (first_world c faulty signers) es t
-    → IsReported faulty (map outcome_of t.members) j → IsSignedBy (correct_ids c faulty) signers j → IsHonestReport (setup_of c) j → Agrees (setup_of c) j
-report_agrees c faulty signers es t j legal listed runs as_reported signed honest = agrees_over (setup_of c) j (record {
-  configuration = legal;
-  few = honest.few;
-  listed = λ i is. listed_in c (correct_ids c faulty) signers j i listed signed
-      (among (λ (n : ℕ). not (faulty n)) i 0 (replicas_for c.f) (omega arith) (omega (arith, is.0)) (ap not (sym (ap (λ (f : ℕ → Bool). f i) as_reported.faulty_is) ∙ is.1)));
-  lawful = λ i is. report_lawful c faulty signers es t j runs as_reported signed i;
-  real = honest.real;
-  apart = honest.apart;
-})
+module _ (c : Configuration) (faulty : ℕ → Bool) (signers : List SigningState) (es : List Event) (t : WorldFacts) (leads : LeadsTo (first_world c faulty signers) es t) (j : Journals) (of : AreJournalsOf c faulty signers t j) where
+  kept : AreKept c j.signer t.members
+  kept = leads_kept c j.signer (first_world c faulty signers) es t (first_kept c (correct_ids c faulty) signers j of.signed) leads
+
+  -- The rows of each replica are lawful, and come to a core.
+  pub world_lawful : (i : ℕ) → (last : Core) × ComesTo (setup_of c) j i (j.rows i) last
+  world_lawful i =
+      let is = reported c j.signer t.members i kept in
+      (is.0, subst (λ (rs : List Row). IsLawfulFrom (setup_of c) i (start_of (setup_of c) (j.signer i)) rs is.0) (sym (of.reported.rows_are i)) is.1)
+
+  pub world_agrees : IsConfiguration c → AreListed c (correct_ids c faulty) signers → IsHonestReport (setup_of c) j → Agrees (setup_of c) j
+  world_agrees legal listed honest = agrees_over (setup_of c) j (record {
+    configuration = legal;
+    few = honest.few;
+    listed = λ i is. listed_in c (correct_ids c faulty) signers j i listed of.signed
+        (among (λ (n : ℕ). not (faulty n)) i 0 (replicas_for c.f) (omega arith) (omega (arith, is.0)) (ap not (sym (ap (λ (f : ℕ → Bool). f i) of.reported.faulty_is) ∙ is.1)));
+    lawful = λ i is. world_lawful i;
+    real = honest.real;
+    apart = honest.apart;
+  })
+
+  pub world_told : (id : ℕ) (m : MemberFacts) → member_of t id ≡ Some m → IsToldOf c j id m
+  world_told id m is =
+      let one = found_kept c j.signer (λ (x : MemberFacts). eqb x.replica.me id) t.members m kept is in
+      let found = found_rows t.members id m is in
+      let here = subst (λ (n : ℕ). IsLawfulFrom (setup_of c) n (start_of (setup_of c) (j.signer n)) (map row_of m.rows) one.last) found.0 one.lawful in
+      record {
+        last = one.last;
+        comes = subst (λ (rs : List Row). IsLawfulFrom (setup_of c) id (start_of (setup_of c) (j.signer id)) rs one.last) (sym (of.reported.rows_are id ∙ ap (map row_of) found.1)) here;
+        core_is = one.has;
+        status_is = one.stands;
+      }

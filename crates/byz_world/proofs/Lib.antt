@@ -7,4 +7,6 @@ mod OutputLaws
 mod HonestLaws
 mod FirstLaws
 mod ProcedureLaws
-mod RunLaws
+mod RecordLaws
+mod JournalLaws
+pub mod RunLaws

@@ -6,7 +6,7 @@ use Rattle.service_model.specs.TenantStates.{Service}
 use Rattle.service_model.proofs.Soundness.{accepted_safe}
 use Rattle.pbft_model.specs.Acts.{after}
 use Rattle.pbft_model.specs.Core.{Core, start_of}
-use Rattle.pbft_model.specs.Histories.{core_after}
+use Rattle.pbft_model.specs.Histories.{IsCorrect, core_after}
 use Rattle.pbft_model.specs.Journals.{ComesTo, Journals}
 use Rattle.pbft_model.specs.Rows.{Follows, IsLawfulFrom, Row}
 use Rattle.pbft_model.specs.Setup.{Setup}
@@ -35,8 +35,8 @@ module _ (c : Setup) (me : ℕ) (signer : SigningState) (legal : IsConfiguration
   point_safe rows s t lawful (inl same) = subst (λ (x : Core). NoneGoesWrong x.service) (sym same) (led_safe s (journal_is_history c me signer rows s lawful))
   point_safe rows s t lawful (inr way) = led_safe t (way_leads s t (journal_is_history c me signer rows s lawful) way)
 
-pub lawful_safe : (c : Setup) (j : Journals) → IsConfiguration c.config → ((i : ℕ) → (last : Core) × ComesTo c j i (j.rows i) last) → StaysSafe c j
+pub lawful_safe : (c : Setup) (j : Journals) → IsConfiguration c.config → ((i : ℕ) → IsCorrect c j.faulty i → (last : Core) × ComesTo c j i (j.rows i) last) → StaysSafe c j
 lawful_safe c j legal lawful = record {
-  lawful = λ i correct. lawful i;
+  lawful = lawful;
   safe = λ i correct s has. point_safe c i (j.signer i) legal has.rows has.core s has.comes has.there;
 }

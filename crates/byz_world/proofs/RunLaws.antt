@@ -1,12 +1,15 @@
 -- Runs of a world, event by event, and what a run answers.
-use Rattle.std.proofs.Common.{◌≡◌, ℕ, suc, ◌+◌, ◌<◌, ◌≤◌, inl, inr, Bool, List, [], ◌∷◌, ◌++◌, length, get_or, take, drop, map, Option, Some, None, Result, Ok, Err, refl, sym, ap, subst, ◌∙◌}
+use Rattle.std.proofs.Common.{◌≡◌, ℕ, suc, ◌+◌, ◌<◌, inl, inr, Bool, List, [], ◌∷◌, ◌++◌, length, get_or, take, drop, map, Option, Some, None, Result, Ok, Err, refl, sym, ap, subst, ◌∙◌}
 use Rattle.std.specs.Prelude.{MatchOption, IfErr, IfOk, IsErrAnd, is_ok}
 use Rattle.std.proofs.lemmas.Bool.{false≢true}
-use Rattle.std.proofs.lemmas.List.{take-append-drop, take_more}
+use Rattle.std.proofs.lemmas.List.{append-nil, take-append-drop, take_more}
 use Rattle.std.proofs.Math.Seq.{drop-cons}
 use Rattle.host_types.specs.Configuration.{Configuration, IsConfiguration}
-use Rattle.pbft_model.specs.Journals.{Agrees, Journals}
-use Rattle.pbft_model.specs.Words.{SigningState}
+use Rattle.pbft_model.specs.Agreement.{HoldsState}
+use Rattle.pbft_model.specs.Core.{Core}
+use Rattle.pbft_model.specs.Histories.{IsCorrect}
+use Rattle.pbft_model.specs.Journals.{Agrees, AgreesOver, Journals}
+use Rattle.pbft_model.specs.Words.{RequestBody, Signed, SigningState}
 use Rattle.replica_core.specs.Facts.{RowFacts}
 use Rattle.replica_core.specs.declared.row.Input.{Input}
 use Rattle.replica_core.specs.declared.row.Input.TheVariants as inputs
@@ -18,9 +21,10 @@ use Rattle.byz_world.specs.declared.event.Event.{Event}
 use Rattle.byz_world.specs.declared.event.Event.TheVariants as events
 use Rattle.byz_world.specs.declared.fault.WorldFault.{WorldFault}
 use Rattle.byz_world.specs.declared.fault.WorldFault.TheVariants as faults
-use Rattle.byz_world.specs.Worlds.{AreListed, AtReplica, Comes, Delivers, Forwards, Gives, Hands, Happens, IsHonestReport, IsRefused, IsReported, IsSignedBy, MemberFacts, OutcomeFacts, Passes, Runs, WorldFacts, correct_ids, first_world, member_of, outcome_of, output_of}
+use Rattle.byz_world.specs.Worlds.{Answer, AreListed, AtReplica, Comes, Delivers, Forwards, Gives, Hands, Happens, IsHonestReport, IsRefused, IsReported, IsSignedBy, MemberFacts, OutcomeFacts, Passes, Runs, WorldFacts, correct_ids, first_world, member_of, outcome_of, output_of}
 use Rattle.byz_world.specs.Procedures.{StaysSafe}
-use Rattle.byz_world.proofs.HonestLaws.{at_kept, report_agrees, report_lawful}
+use Rattle.byz_world.specs.Leading.{AreJournalsOf, IsSoundWorld, IsToldOf, LeadsTo, LeadsToSoundWorlds}
+use Rattle.byz_world.proofs.HonestLaws.{at_kept, world_agrees, world_lawful, world_told}
 use Rattle.byz_world.proofs.ProcedureLaws.{lawful_safe}
 
 runs_more : (w : WorldFacts) (es : List Event) (e : Event) (u v : WorldFacts) (row : Option RowFacts) → Runs w es u → Gives u e (Ok row) v → Runs w (es ++ e ∷ []) v
@@ -49,7 +53,7 @@ forwards_same : (w : WorldFacts) (id : ℕ) (o : Option Output) (fault : WorldFa
 forwards_same w id None fault t refuses = refuses.1
 forwards_same w id (Some output) fault t delivers = delivers_same w id _ fault t delivers
 
-gives_same : (w : WorldFacts) (event : Event) (fault : WorldFault) (t : WorldFacts) → Gives w event (Err fault) t → t ≡ w
+pub gives_same : (w : WorldFacts) (event : Event) (fault : WorldFault) (t : WorldFacts) → Gives w event (Err fault) t → t ≡ w
 gives_same w (events.Deliver to bytes) fault t gives =
     at_kept w to.0 (Err fault) t (Delivers w to.0 (opening w.config bytes) (Err fault) t) (t ≡ w) (delivers_same w to.0 (opening w.config bytes) fault t) (λ n. n.1) gives
 gives_same w (events.Forward to from output) fault t gives =
@@ -71,20 +75,54 @@ run_refused w es i e u v fault (Err x) below is runs happens err = subst (IsRefu
   by faults.NoSuchOutput gives = (take i es, drop (suc i) es, e, whole es i e below is, (u, runs, subst (Gives u e (Err faults.NoSuchOutput)) (gives_same u e faults.NoSuchOutput v gives) gives))
   by faults.Memory gives = tt
 
--- ---- agreement
+-- ---- worlds that events lead to
 
-pub run_agrees : (c : Configuration) (faulty : ℕ → Bool) (signers : List SigningState) (es : List Event) (i : ℕ) (t : WorldFacts) (r : Result (List OutcomeFacts) WorldFault) → IsConfiguration c
-    → AreListed c (correct_ids c faulty) signers → length es ≤ i → Runs (first_world c faulty signers) (take i es) t → IfOk r (λ outcomes. outcomes ≡ map outcome_of t.members)
+pub runs_lead : (w : WorldFacts) (es : List Event) (t : WorldFacts) → Runs w es t → LeadsTo w es t
+runs_lead w [] t runs = runs
+runs_lead w (e ∷ es) t (row, u, gives, rest) = (Ok row, u, gives, runs_lead u es t rest)
+
+pub leads_more : (w : WorldFacts) (es : List Event) (e : Event) (u v : WorldFacts) (answer : Answer) → LeadsTo w es u → Gives u e answer v → LeadsTo w (es ++ e ∷ []) v
+leads_more w [] e u v answer leads gives = (answer, v, subst (λ (x : WorldFacts). Gives x e answer v) leads gives, refl)
+leads_more w (x ∷ es) e u v answer (r, m, first, rest) gives = (r, m, first, leads_more m es e u v answer rest gives)
+
+-- what happened without want of memory
+pub happened : (w : WorldFacts) (event : Event) (answer : Answer) (t : WorldFacts) → (answer ≡ Err faults.Memory → ⊥) → Happens w event answer t → Gives w event answer t
+happened w event (Ok row) t remembers happens = happens
+happened w event (Err faults.NoSuchReplica) t remembers happens = happens
+happened w event (Err faults.NoSuchOutput) t remembers happens = happens
+happened w event (Err faults.Memory) t remembers happens = absurd (remembers refl)
+
+pub sound_worlds : (c : Configuration) (faulty : ℕ → Bool) (signers : List SigningState) → IsConfiguration c → AreListed c (correct_ids c faulty) signers → LeadsToSoundWorlds c faulty signers
+sound_worlds c faulty signers legal listed = λ es t leads. record {
+  agrees = λ j of honest. world_agrees c faulty signers es t leads j of legal listed honest;
+  safe = λ j of. lawful_safe (setup_of c) j legal (λ i correct. world_lawful c faulty signers es t leads j of i);
+  told = λ j of id m is. world_told c faulty signers es t leads j of id m is;
+}
+
+pub told_state : (c : Configuration) (j : Journals) (id : ℕ) (m : MemberFacts) (s : Core) (entries : List (Option (Signed RequestBody))) → IsToldOf c j id m → m.replica.core ≡ Some s
+    → IsCorrect (setup_of c) j.faulty id → AgreesOver (setup_of c) j entries → HoldsState (setup_of c) entries s
+told_state c j id m s entries told is correct over =
+    over.states id correct s (record { rows = j.rows id; rest = []; splits = sym (append-nil (j.rows id)); core = told.last; comes = told.comes; there = inl (told.core_is s is) })
+
+-- ---- what a run reports
+
+of_report : (c : Configuration) (faulty : ℕ → Bool) (signers : List SigningState) (t : WorldFacts) (outcomes : List OutcomeFacts) (j : Journals) → outcomes ≡ map outcome_of t.members
+    → IsReported faulty outcomes j → IsSignedBy (correct_ids c faulty) signers j → AreJournalsOf c faulty signers t j
+of_report c faulty signers t outcomes j is as_reported signed =
+    record { reported = subst (λ (os : List OutcomeFacts). IsReported faulty os j) is as_reported; signed = signed }
+
+pub run_sound : (c : Configuration) (faulty : ℕ → Bool) (signers : List SigningState) (es : List Event) (i : ℕ) (t : WorldFacts) → IsConfiguration c → AreListed c (correct_ids c faulty) signers
+    → Runs (first_world c faulty signers) (take i es) t → IsSoundWorld c faulty signers t
+run_sound c faulty signers es i t legal listed runs = sound_worlds c faulty signers legal listed (take i es) t (runs_lead (first_world c faulty signers) (take i es) t runs)
+
+pub run_agrees : (c : Configuration) (faulty : ℕ → Bool) (signers : List SigningState) (t : WorldFacts) (r : Result (List OutcomeFacts) WorldFault) → IsSoundWorld c faulty signers t
+    → IfOk r (λ outcomes. outcomes ≡ map outcome_of t.members)
     → IfOk r (λ outcomes. (j : Journals) → IsReported faulty outcomes j → IsSignedBy (correct_ids c faulty) signers j → IsHonestReport (setup_of c) j → Agrees (setup_of c) j)
-run_agrees c faulty signers es i t (Ok outcomes) legal listed past runs is = λ j as_reported signed honest.
-    report_agrees c faulty signers (take i es) t j legal listed runs (subst (λ (os : List OutcomeFacts). IsReported faulty os j) is as_reported) signed honest
-run_agrees c faulty signers es i t (Err fault) legal listed past runs is = tt
+run_agrees c faulty signers t (Ok outcomes) sound is = λ j as_reported signed honest. sound.agrees j (of_report c faulty signers t outcomes j is as_reported signed) honest
+run_agrees c faulty signers t (Err fault) sound is = tt
 
--- ---- procedures
-
-pub run_safe : (c : Configuration) (faulty : ℕ → Bool) (signers : List SigningState) (es : List Event) (i : ℕ) (t : WorldFacts) (r : Result (List OutcomeFacts) WorldFault) → IsConfiguration c
-    → length es ≤ i → Runs (first_world c faulty signers) (take i es) t → IfOk r (λ outcomes. outcomes ≡ map outcome_of t.members)
+pub run_safe : (c : Configuration) (faulty : ℕ → Bool) (signers : List SigningState) (t : WorldFacts) (r : Result (List OutcomeFacts) WorldFault) → IsSoundWorld c faulty signers t
+    → IfOk r (λ outcomes. outcomes ≡ map outcome_of t.members)
     → IfOk r (λ outcomes. (j : Journals) → IsReported faulty outcomes j → IsSignedBy (correct_ids c faulty) signers j → StaysSafe (setup_of c) j)
-run_safe c faulty signers es i t (Ok outcomes) legal past runs is = λ j as_reported signed.
-    lawful_safe (setup_of c) j legal (report_lawful c faulty signers (take i es) t j runs (subst (λ (os : List OutcomeFacts). IsReported faulty os j) is as_reported) signed)
-run_safe c faulty signers es i t (Err fault) legal past runs is = tt
+run_safe c faulty signers t (Ok outcomes) sound is = λ j as_reported signed. sound.safe j (of_report c faulty signers t outcomes j is as_reported signed)
+run_safe c faulty signers t (Err fault) sound is = tt

@@ -1,7 +1,9 @@
 pub mod Audits
 pub mod Faults
 pub mod Handing
+pub mod Leading
 pub mod Noting
 pub mod Procedures
+pub mod Records
 pub mod WorldFaults
 pub mod Worlds

@@ -10,6 +10,7 @@ mod audit_fault;
 mod event;
 mod fault;
 mod history;
+mod laws;
 mod member;
 mod noted;
 mod records;
@@ -20,6 +21,10 @@ pub use audit_fault::AuditFault;
 pub use event::Event;
 pub use fault::WorldFault;
 pub use history::History;
+pub use laws::{
+    an_honest_family_reports, events_lead_on, honest_records_pass, journals_of_all_replicas_agree,
+    told_states_agree, worlds_are_sound,
+};
 pub use records::audit;
 pub use report::{Outcome, Report};
 pub use world::{World, run_world};

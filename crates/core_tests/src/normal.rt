@@ -115,7 +115,59 @@ const MARKS: Scenario = Scenario {
     ",
 };
 
+// A backup, replica 1: as the mark rises to 2, a request that was executed is forgotten, unless a proposal above 2 names
+// it.
+const FORGOTTEN: Scenario = Scenario {
+    replica: 1,
+    leaves: 32,
+    lines: "
+        request a               => leaves 0
+        request b               => leaves 0
+        0 pre-prepare 0/1 a     => prepare 0/1 a to all; leaves 1
+        2 prepare 0/1 a         => commit 0/1 a to all; leaves 1
+        2 commit 0/1 a          => leaves 0
+        3 commit 0/1 a          => reply view 0 time 1 number 1 [1] to client 16; executed 1 a [1]; leaves 1
+        0 pre-prepare 0/2 b     => prepare 0/2 b to all; leaves 1
+        2 prepare 0/2 b         => commit 0/2 b to all; leaves 1
+        2 commit 0/2 b          => leaves 0
+        3 commit 0/2 b          => reply view 0 time 2 number 2 [1] to client 16; checkpoint 2 after-ab to all; executed 2 b [1]; leaves 2
+        0 pre-prepare 0/3 b     => prepare 0/3 b to all; leaves 1
+        0 checkpoint 2 after-ab => leaves 0
+        3 fetch request a       => relay request a to replica 3; leaves 0
+        2 checkpoint 2 after-ab => leaves 0
+        3 fetch request a       => leaves 0
+        3 fetch request b       => relay request b to replica 3; leaves 0
+        stands                  => view 0 active low 2 executed 2 left 24 state after-ab
+    ",
+};
+
+// Of two signatures of one request the first that comes is kept: `other-a` says what `a` says.
+const SIGNED_TWICE: Scenario = Scenario {
+    replica: 1,
+    leaves: 32,
+    lines: "
+        request a         => leaves 0
+        request other-a   => leaves 0
+        3 fetch request a => relay request a to replica 3; leaves 0
+    ",
+};
+
+const SIGNED_TWICE_BEFORE: Scenario = Scenario {
+    replica: 1,
+    leaves: 32,
+    lines: "
+        request other-a   => leaves 0
+        request a         => leaves 0
+        3 fetch request a => relay request other-a to replica 3; leaves 0
+    ",
+};
+
 #[test]
 fn a_request_in_one_view(rt: HostRuntime) -> Result<(), Fail> {
     play_all(rt.alloc(), &[PRIMARY, BACKUP, CHECKPOINT, MARKS])
+}
+
+#[test]
+fn requests_that_are_held(rt: HostRuntime) -> Result<(), Fail> {
+    play_all(rt.alloc(), &[FORGOTTEN, SIGNED_TWICE, SIGNED_TWICE_BEFORE])
 }

@@ -18,8 +18,8 @@ use view_change::null_digest;
 pub const CLIENT: u32 = 16;
 
 /// The client's requests: name and time. The operation is none that the service knows, so that the
-/// result is the one byte 1.
-static REQUESTS: [(&str, u64); 7] = [
+/// result is the one byte 1. `other-a` is `a`, signed once more: its digest is called `a`.
+static REQUESTS: [(&str, u64); 8] = [
     ("a", 1),
     ("b", 2),
     ("c", 3),
@@ -27,6 +27,7 @@ static REQUESTS: [(&str, u64); 7] = [
     ("e", 5),
     ("f", 6),
     ("g", 7),
+    ("other-a", 1),
 ];
 
 /// States by the times of the requests that were executed before them, 0 for a null request.
@@ -188,7 +189,8 @@ impl Scene {
             op: Bytes::from_vec(Vec::new(self.alloc)),
         });
         let message = checked(self.alloc, &self.config, client, Role::Client, CLIENT, body)?;
-        self.words.add(name, request_digest(&message), &[])?;
+        self.words
+            .add(name, request_digest(&message), message.bytes())?;
         self.requests.push((name, message))?;
         Ok(())
     }

@@ -130,11 +130,13 @@ const FLOOR: Scenario = Scenario {
 };
 
 // The primary of view 1 lags: its NewView goes up to 6, its high mark is 4, and it proposes nothing
-// between. With the state of 4 the high mark is 8, and the next number 7.
+// between. With the state of 4 the high mark is 8, and the next number 7. The request that its NewView
+// names above the high mark isn't proposed again.
 const LAGGING: Scenario = Scenario {
     replica: 1,
     leaves: 32,
     lines: "
+        request a             => leaves 0
         request b             => leaves 0
         2 view-change 1 low 2 s2 by 0 2 3, 0/6 a by 2 3 => fetch state 2 to all; leaves 1
         3 view-change 1 low 0 => view-change 1 low 0 to all; new-view 1 of 1 2 3, 1/3 null, 1/4 null, 1/5 null, 1/6 a to all; leaves 6
@@ -146,6 +148,85 @@ const LAGGING: Scenario = Scenario {
         stands                => view 1 active low 4 executed 4 left 23 state s4
     ",
 };
+
+// The primary of view 1: of two ViewChanges of one signer for a view the first counts.
+const FIRST_CHANGE: Scenario = Scenario {
+    replica: 1,
+    leaves: 32,
+    lines: "
+        timeout               => view-change 1 low 0 to all; leaves 1
+        2 view-change 1 low 0 => leaves 0
+        2 view-change 1 low 0, 0/2 a by 2 3 => leaves 0
+        3 view-change 1 low 0 => new-view 1 of 1 2 3 to all; leaves 1
+        stands                => view 1 active low 0 executed 0 left 30 state s0
+    ",
+};
+
+// Replica 3 leaves view 1 without having entered it: what is prepared in it is reported all the same.
+const NEVER_ACTIVE: Scenario = Scenario {
+    replica: 3,
+    leaves: 32,
+    lines: "
+        timeout                => view-change 1 low 0 to all; leaves 1
+        1 pre-prepare 1/1 null => leaves 0
+        0 prepare 1/1 null     => leaves 0
+        2 prepare 1/1 null     => leaves 0
+        timeout                => view-change 2 low 0, 1/1 null by 0 2 to all; leaves 1
+    ",
+};
+
+// Replica 1 has executed 2. A NewView proves 2 and goes up to 5: it is entered before the mark rises to 2, while the high
+// mark is 4, so the proposal for 5 is lost.
+const ENTERED_FIRST: Scenario = Scenario {
+    replica: 1,
+    leaves: 32,
+    lines: "
+        2 prepare 0/1 null     => leaves 0
+        2 commit 0/1 null      => leaves 0
+        3 commit 0/1 null      => leaves 0
+        0 pre-prepare 0/1 null => prepare 0/1 null to all; commit 0/1 null to all; executed 1 null []; leaves 2
+        2 prepare 0/2 null     => leaves 0
+        2 commit 0/2 null      => leaves 0
+        3 commit 0/2 null      => leaves 0
+        0 pre-prepare 0/2 null => prepare 0/2 null to all; commit 0/2 null to all; checkpoint 2 s2 to all; executed 2 null []; leaves 3
+        2 new-view 2 of 0 low 2 s2 by 0 2 3, 0/5 null by 2 3; 2 low 0; 3 low 0 with 2/3 null, 2/4 null, 2/5 null => prepare 2/3 null to all; prepare 2/4 null to all; leaves 2
+        stands                 => view 2 active low 2 executed 2 left 25 state s2
+    ",
+};
+
+// Replica 3 records votes of any later view, not of the next alone.
+const LATER_VIEW: Scenario = Scenario {
+    replica: 3,
+    leaves: 32,
+    lines: "
+        0 pre-prepare 4/1 null => leaves 0
+        0 new-view 4 of 0 low 0; 1 low 0; 2 low 0 => prepare 4/1 null to all; leaves 1
+    ",
+};
+
+// Replica 3 asks for a request that it lacks once more in the next view.
+const ASKED_AGAIN: Scenario = Scenario {
+    replica: 3,
+    leaves: 32,
+    lines: "
+        0 pre-prepare 0/1 a => fetch request a to all; leaves 1
+        1 new-view 1 of 0 low 0, 0/1 a by 1 2; 1 low 0; 2 low 0 with 1/1 a => fetch request a to all; leaves 1
+    ",
+};
+
+#[test]
+fn what_a_view_leaves(rt: HostRuntime) -> Result<(), Fail> {
+    play_all(
+        rt.alloc(),
+        &[
+            FIRST_CHANGE,
+            NEVER_ACTIVE,
+            ENTERED_FIRST,
+            LATER_VIEW,
+            ASKED_AGAIN,
+        ],
+    )
+}
 
 #[test]
 fn leaving_and_opening(rt: HostRuntime) -> Result<(), Fail> {

@@ -3,16 +3,16 @@
 use host_types::{Bytes, ClientId, Digest, ReplicaId};
 use pbft_codec::{Body, Certificate, Fetch, NewView, PrePrepare, Signed, ViewChange};
 use replica_core::{Dest, Done, Output, Row};
-use seal::{Checked, request_digest};
+use seal::Checked;
 use std::alloc::{AllocError, Global};
 use std::test::Fail;
 
-/// A digest under a name, with the bytes of the state whose digest it is, or none.
+/// A digest under a name, with the bytes of the state whose digest it is, or of the request's message, or none.
 #[derive(Drop)]
 pub struct Name {
     name: &'static str,
     pub digest: Digest,
-    state: Vec<u8>,
+    bytes: Vec<u8>,
 }
 
 /// The names that a test gives to digests and states.
@@ -30,18 +30,18 @@ impl Words {
         }
     }
 
-    /// Names a digest, and the state whose bytes these are.
+    /// Names a digest, and the state or the request's message whose bytes these are.
     pub fn add(
         &mut self,
         name: &'static str,
         digest: Digest,
-        state: &[u8],
+        bytes: &[u8],
     ) -> Result<(), AllocError> {
-        let state = Vec::from_slice(self.alloc, state)?;
+        let bytes = Vec::from_slice(self.alloc, bytes)?;
         self.names.push(Name {
             name,
             digest,
-            state,
+            bytes,
         })?;
         Ok(())
     }
@@ -56,7 +56,7 @@ impl Words {
 
     /// The bytes of the state of this name.
     pub fn state(&self, name: &str) -> Result<Bytes, Fail> {
-        let bytes = &self.named(name)?.state;
+        let bytes = &self.named(name)?.bytes;
         Ok(Bytes::from_vec(Vec::from_slice(self.alloc, bytes)?))
     }
 
@@ -68,11 +68,12 @@ impl Words {
         }
     }
 
-    fn of_state(&self, bytes: &[u8]) -> &'static str {
+    // The name of a state or of a request.
+    fn of_bytes(&self, bytes: &[u8]) -> &'static str {
         match self
             .names
             .iter()
-            .find(|named| named.state.as_slice() == bytes)
+            .find(|named| named.bytes.as_slice() == bytes)
         {
             Some(named) => named.name,
             None => "?",
@@ -131,7 +132,7 @@ impl Words {
     fn message(&self, message: &Checked) -> Result<String, AllocError> {
         match message.body() {
             Body::Request(_) => {
-                let name = self.of(&request_digest(message));
+                let name = self.of_bytes(message.bytes());
                 format!(in self.alloc; "request {name}")
             }
             Body::PrePrepare(said) => self.vote(
@@ -152,7 +153,7 @@ impl Words {
                 format!(in self.alloc; "checkpoint {number} {name}")
             }
             Body::Snapshot(said) => {
-                let (number, name) = (said.number.0, self.of_state(said.state.as_slice()));
+                let (number, name) = (said.number.0, self.of_bytes(said.state.as_slice()));
                 format!(in self.alloc; "snapshot {number} {name}")
             }
             Body::Fetch(said) => self.fetch(said),

@@ -1,2 +1,5 @@
+mod Accepting
 mod Heights
+mod LastReplies
+mod Rising
 mod Vouched

@@ -10,7 +10,11 @@
 
 mod answer;
 mod fault;
+mod laws;
 mod session;
 
 pub use fault::SessionFault;
+pub use laws::{
+    accepted_replies_are_answers, answered_requests_are_the_clients, numbers_rise_with_times,
+};
 pub use session::Session;

@@ -60,7 +60,7 @@ same_fault f k keys es long =
     ∙ ap (λ (b : Bool). fault_by f k (length (replicate (replicas_for f) no_key)) b (some_client_twice es)) (same_many es (map unkeyed es) a)
     ∙ ap (λ (b : Bool). fault_by f k (length (replicate (replicas_for f) no_key)) (too_many (map unkeyed es)) b) a.twice
 
-no_fault : (f k : ℕ) (cs : List Client) (keys : List (List ℕ)) (es : List ClientEntry) → IsLegal f k cs → length keys ≡ replicas_for f → map unkeyed es ≡ map keyless cs
+pub no_fault : (f k : ℕ) (cs : List Client) (keys : List (List ℕ)) (es : List ClientEntry) → IsLegal f k cs → length keys ≡ replicas_for f → map unkeyed es ≡ map keyless cs
     → fault_of (record { f = f; k = k; keys = keys; clients = es }) ≡ None
 no_fault f k cs keys es legal long same =
     same_fault f k keys es long

@@ -1,7 +1,10 @@
 mod Deliveries
 mod Delivering
 mod Entries
+mod Events
+mod Hearing
 mod Legal
+mod LegalHeads
 mod Listed
 mod Lists
 mod Parties

@@ -4,6 +4,7 @@ pub mod Keys
 pub mod Letters
 pub mod Lines
 pub mod Parts
+pub mod Passing
 pub mod Running
 pub mod Scripts
 pub mod Stages

@@ -11,6 +11,7 @@ mod fault;
 mod forging;
 mod input;
 mod keys;
+mod laws;
 mod lines;
 mod made;
 mod play;
@@ -19,5 +20,6 @@ mod sessions;
 mod stage;
 mod writing;
 
+pub use laws::scripts_run_sound_worlds;
 pub use play::run_script;
 pub use script_text::{Script, ScriptFault, ScriptKind, read_script};

@@ -19,7 +19,7 @@ use Rattle.pbft_model.specs.Core.{Core, held_with, is_named, is_known, is_prepar
 use Rattle.pbft_model.specs.Acts.{Act, Destination, Send, Execute, Install}
 use Rattle.pbft_model.specs.Rules.{MayExecute, MaySay, reply_in}
 use Rattle.pbft_model.specs.Histories.{Family, IsCorrect, IsUnforged, IsEarlier, IsIn, HasExecuted, HasTaken, IsHistory}
-use Rattle.pbft_model.specs.Agreement.{IsHonest, entry_digest, IsAsked, requests_in, reached_by, greatest_reached, HoldsState, IsServed, IsLastReplyAt, AgreesByNumber}
+use Rattle.pbft_model.specs.Agreement.{IsHonest, IsTaken, entry_digest, IsAsked, requests_in, reached_by, greatest_reached, HoldsState, IsServed, IsLastReplyAt, AgreesByNumber}
 use Rattle.pbft_model.proofs.Counting.{quorum_has}
 use Rattle.pbft_model.proofs.Stages.{by_is}
 use Rattle.pbft_model.proofs.Found.{no_some}
@@ -96,6 +96,19 @@ all_behind P (y ∷ xs) x h p = (h.0, all_behind P xs x h.1 p)
 all_listed : {X : Type 0} (P : X → Type 0) (f : ℕ → X) (m : ℕ) → ((n : ℕ) → n < m → P (f n)) → AllByRecursion P (listed f m)
 all_listed P f zero h = tt
 all_listed P f (suc m) h = all_behind P (listed f m) (f m) (all_listed P f m (λ n lt. h n (omega (arith, lt)))) (h m (omega arith))
+
+in_behind : {X : Type 0} (x : X) (xs : List X) (y : X) → IsIn x (xs ++ y ∷ []) → IsIn x xs ⊎ (x ≡ y)
+in_behind x [] y (inl same) = inr same
+in_behind x [] y (inr none) = absurd none
+in_behind x (z ∷ xs) y (inl here) = inl (inl here)
+in_behind x (z ∷ xs) y (inr later) = elim (in_behind x xs y later) [ inl first ↦ inl (inr first) | inr last ↦ inr last ]
+
+in_listed : {X : Type 0} (x : X) (f : ℕ → X) (m : ℕ) → IsIn x (listed f m) → (n : ℕ) × (n < m) × (x ≡ f n)
+in_listed x f zero at = absurd at
+in_listed x f (suc m) at = elim (in_behind x (listed f m) (f m) at) [
+  | inl first ↦ let w = in_listed x f m first in (w.0, omega (arith, w.1), w.2)
+  | inr last ↦ (m, omega arith, last)
+]
 
 map_behind : {X Y : Type 0} (g : X → Y) (xs : List X) (x : X) → map g (xs ++ x ∷ []) ≡ map g xs ++ g x ∷ []
 map_behind g [] x = refl
@@ -211,6 +224,14 @@ module _ (c : Setup) (family : Family) (h : IsHonest c family) where
         let a = found_digest c (core_before number w) w.digest m e in
         asked_of w.replica w.done.correct m (held_then w.replica w.done.correct w.done.early (point_before number w) m a.0)
 
+  entry_taken : (number : ℕ) (w : Executor number) (m : Signed RequestBody) → entry_by number w ≡ Some m → IsTaken c family (as_message bodies.Request m)
+  entry_taken number w m is = split (bytes_eq w.digest (null_digest c)) (held_with c (core_before number w).held w.digest) refl is where
+    split : (b : Bool) (o : Option (Signed RequestBody)) → held_with c (core_before number w).held w.digest ≡ o → cond b None o ≡ Some m → IsTaken c family (as_message bodies.Request m)
+    split true o e f = no_some m f
+    split false o e f =
+        let a = found_digest c (core_before number w) w.digest m (e ∙ f) in
+        (w.replica, w.done.correct, held_then w.replica w.done.correct w.done.early (point_before number w) m a.0)
+
   -- ---- a stable number was executed by a correct replica, to the state whose digest it has
 
   checkpoint_at : (i : ℕ) (digest : List ℕ) (number : ℕ) (o : Option (Signed Checkpoint)) → some_by i (is_checkpoint_of number digest) o ≡ true
@@ -254,7 +275,7 @@ module _ (c : Setup) (family : Family) (h : IsHonest c family) where
       let real = (real_core c family i correct u acts point).3 (checkpoint_key number w.0) m.0 m.1 in
       let signed = signed_real c family u bodies.Checkpoint w.0 (is_checkpoint_of number digest) m.0 m.2 real right in
       let by = by_is w.0 (is_checkpoint_of number digest) m.0 m.2 in
-      let said = checkpoint_said c family u w.0 m.0.body right signed in
+      let said = checkpoint_said c family (IsCorrect c family.faulty) u.histories w.0 m.0.body right signed in
       let w' = executed_by w.0 right m.0.body said in
       let parts = and_parts (eqb m.0.body.number.0 number) (bytes_eq m.0.body.digest.0 digest) by.2 in
       subst (λ (d : List ℕ). ExecutedTo number d) ((bytes_eq-Decides m.0.body.digest.0 digest).0 parts.1)
@@ -369,7 +390,7 @@ module _ (c : Setup) (family : Family) (h : IsHonest c family) where
       | inr less ↦ let same : greatest_reached c family (suc n) ≡ greatest_reached c family n = omega arith in inr (subst Reached (sym same) w)
     ]
 
-  executor : (n : ℕ) → n < greatest → Executor (suc n)
+  pub executor : (n : ℕ) → n < greatest → Executor (suc n)
   executor n lt = elim (reached_most (replicas c) (omega arith)) [
     | inl none ↦ absurd (none_below greatest none lt)
     | inr w ↦ executor_of n (suc n) refl (reached_down (greatest - suc n) (suc n) greatest (rest_is greatest lt) w)
@@ -559,6 +580,10 @@ module _ (c : Setup) (family : Family) (h : IsHonest c family) where
     record {
       as_long = length_listed entry greatest;
       asked = all_listed (IsAsked c) entry greatest (λ n lt. let chosen = (choose n).1 lt in subst (IsAsked c) (sym chosen.1) (entry_asked (suc n) chosen.0));
+      taken = λ m at.
+          let w = in_listed (Some m) entry greatest at in
+          let chosen = (choose w.0).1 w.1 in
+          entry_taken (suc w.0) chosen.0 m (sym chosen.1 ∙ sym w.2);
       states = holds_state;
       executed = is_served;
       replies = sent_reply_is_last;

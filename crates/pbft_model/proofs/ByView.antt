@@ -72,7 +72,7 @@ module _ (c : Setup) (family : Family) (u : IsUnforged c family) where
   pub record Certain (x : Fields) : Type 0 where
     pub voters : ℕ → Bool
     pub many : quorum c ≤ count voters (replicas c)
-    pub vouch : (i : ℕ) → IsCorrect c family.faulty i → voters i ≡ true → Vouched c family u i x
+    pub vouch : (i : ℕ) → IsCorrect c family.faulty i → voters i ≡ true → Vouched c family (IsCorrect c family.faulty) u.histories i x
 
   pub certain_of : (x : Fields) (pre prep : ℕ → Bool) → certified c pre prep x.view ≡ true
       → (pre (primary c x.view) ≡ true → (m : Signed PrePrepare) × (is_by (primary c x.view) (λ b. same_fields (of_pre_prepare b) x) m ≡ true) × RealAs c family bodies.PrePrepare m)
@@ -84,17 +84,17 @@ module _ (c : Setup) (family : Family) (u : IsUnforged c family) where
       let below : p < replicas c = omega arith in
       let with_one = count_with p (pre p) prep (replicas c) parts.0 below in
       record { voters = λ i. cond (i == p) (pre p) (prep i); many = omega arith; vouch = λ i correct t. cases i correct (i == p) refl t } where
-        cases : (i : ℕ) → IsCorrect c family.faulty i → (b : Bool) → (i == primary c x.view) ≡ b → cond b (pre (primary c x.view)) (prep i) ≡ true → Vouched c family u i x
+        cases : (i : ℕ) → IsCorrect c family.faulty i → (b : Bool) → (i == primary c x.view) ≡ b → cond b (pre (primary c x.view)) (prep i) ≡ true → Vouched c family (IsCorrect c family.faulty) u.histories i x
         cases i correct true same t =
             let w = real_pre t in
             let is_i : primary c x.view ≡ i = sym (eqb-true i (primary c x.view) same) in
             let by = subst (λ (j : ℕ). is_by j (λ b. same_fields (of_pre_prepare b) x) w.0 ≡ true) is_i w.1 in
             let fields = fields_are (of_pre_prepare w.0.body) x ((by_is i (λ b. same_fields (of_pre_prepare b) x) w.0 by).2) in
-            inl (subst (λ (y : Fields). Led c family u i y) fields (led_from c family u i w.0.body correct (signed_real bodies.PrePrepare i (λ b. same_fields (of_pre_prepare b) x) w.0 by w.2 correct)))
+            inl (subst (λ (y : Fields). Led c family (IsCorrect c family.faulty) u.histories i y) fields (led_from c family (IsCorrect c family.faulty) u.histories i w.0.body correct (signed_real bodies.PrePrepare i (λ b. same_fields (of_pre_prepare b) x) w.0 by w.2 correct)))
         cases i correct false other t =
             let w = real_prep i t in
             let fields = fields_are (of_prepare w.0.body) x ((by_is i (λ b. same_fields (of_prepare b) x) w.0 w.1).2) in
-            inr (w.0.body, prepare_said c family u i w.0.body correct (signed_real bodies.Prepare i (λ b. same_fields (of_prepare b) x) w.0 w.1 w.2 correct), fields)
+            inr (w.0.body, prepare_said c family (IsCorrect c family.faulty) u.histories i w.0.body correct (signed_real bodies.Prepare i (λ b. same_fields (of_prepare b) x) w.0 w.1 w.2 correct), fields)
 
   -- what is certified at a correct replica is real
   pub certain_at : (i : ℕ) → IsCorrect c family.faulty i → (acts : List Act) → IsEarlier acts (family.acts i) → (x : Fields) → is_certified c (core_at c family i acts) x ≡ true → Certain x
@@ -120,12 +120,12 @@ module _ (c : Setup) (family : Family) (u : IsUnforged c family) where
   one_certain x y a b view number =
       let w = quorums_meet c.config.f (replicas c) a.voters b.voters family.faulty refl a.many b.many u.few in
       let correct : IsCorrect c family.faulty w.0 = (w.1, w.4) in
-      vouched_one c family u w.0 x y correct (a.vouch w.0 correct w.2) (b.vouch w.0 correct w.3) view number
+      vouched_one c family (IsCorrect c family.faulty) u.histories w.0 x y correct (a.vouch w.0 correct w.2) (b.vouch w.0 correct w.3) view number
 
   pub record Committing (x : Fields) : Type 0 where
     pub voters : ℕ → Bool
     pub many : quorum c ≤ count voters (replicas c)
-    pub commit : (i : ℕ) → IsCorrect c family.faulty i → voters i ≡ true → CommittedTo c family u i x
+    pub commit : (i : ℕ) → IsCorrect c family.faulty i → voters i ≡ true → CommittedTo c family (IsCorrect c family.faulty) u.histories i x
 
   pub committing_at : (i : ℕ) → IsCorrect c family.faulty i → (acts : List Act) → IsEarlier acts (family.acts i) → (x : Fields) → has_quorum c (voted of_commit (core_at c family i acts).commits x) ≡ true → Committing x
   committing_at i correct acts h x e =
@@ -137,14 +137,14 @@ module _ (c : Setup) (family : Family) (u : IsUnforged c family) where
         commit = λ j right t.
             let w = voted_is of_commit s.commits x j t in
             let fields = fields_are (of_commit w.0.body) x ((by_is j (λ b. same_fields (of_commit b) x) w.0 w.2).2) in
-            (w.0.body, commit_said c family u j w.0.body right (signed_real bodies.Commit j (λ b. same_fields (of_commit b) x) w.0 w.2 (real.2 (vote_key x.number x.view j) w.0 w.1) right), fields);
+            (w.0.body, commit_said c family (IsCorrect c family.faulty) u.histories j w.0.body right (signed_real bodies.Commit j (λ b. same_fields (of_commit b) x) w.0 w.2 (real.2 (vote_key x.number x.view j) w.0 w.1) right), fields);
       }
 
   -- ---- what is remembered of a Commit
 
   commit_remembered : (i : ℕ) (x : Fields) (b : Commit) (w : Said c family i (bodies.Commit b)) → of_commit b ≡ x → Remembers c x (core_at c family i (Send w.to w.message ∷ w.early))
   commit_remembered i x b w is =
-      subst (λ (s : Core). Remembers c x s) (sym (core_then c family u i (bodies.Commit b) w))
+      subst (λ (s : Core). Remembers c x s) (sym (core_then c family (IsCorrect c family.faulty) u.histories i (bodies.Commit b) w))
       (subst (λ (y : Fields). Remembers c y (acted (signed_once_more (said c (core_at c family i w.early) w.message (bodies.Commit b)) (bodies.Commit b)))) is
       (let inside = w.says.inside in
       let parts = and_parts (is_certified c (core_at c family i w.early) (of_commit b)) (is_known c (core_at c family i w.early) b.digest.0) w.says.prepared in
@@ -164,9 +164,9 @@ module _ (c : Setup) (family : Family) (u : IsUnforged c family) where
       holds_on c i (family.signer i) (λ s. low ≤ s.low) (λ s a reached ok is. let up = low_up c i s a reached ok in omega arith) x y h (history_at c i (family.signer i) y (family.acts i) k (u.histories i correct)) below
 
   -- A ViewChange for a higher view was said after the Commit, and shows it.
-  shows_commit : (i : ℕ) (x : Fields) (v : ViewChange) → IsCorrect c family.faulty i → CommittedTo c family u i x → Said c family i (bodies.ViewChange v) → x.view < v.view.0
+  shows_commit : (i : ℕ) (x : Fields) (v : ViewChange) → IsCorrect c family.faulty i → CommittedTo c family (IsCorrect c family.faulty) u.histories i x → Said c family i (bodies.ViewChange v) → x.view < v.view.0
       → (x.number ≤ v.low.0) ⊎ ((y : Certificate) × IsIn y v.certificates × (y.pre_prepare.body.number.0 ≡ x.number) × (x.view ≤ y.pre_prepare.body.view.0))
-  shows_commit i x v correct (b, w, is) w' higher = elim (two_said c family u i (bodies.Commit b) (bodies.ViewChange v) w w') [
+  shows_commit i x v correct (b, w, is) w' higher = elim (two_said c family (IsCorrect c family.faulty) u.histories i (bodies.Commit b) (bodies.ViewChange v) w w') [
     | inl same ↦ absurd cc
     | inr (inl h) ↦
         let s = core_at c family i w'.early in
@@ -176,7 +176,7 @@ module _ (c : Setup) (family : Family) (u : IsUnforged c family) where
           | inr k ↦ inr (k.0, subst (λ (xs : List Certificate). IsIn k.0 xs) (sym (ap (λ (z : ViewChange). z.certificates) complete)) (at_in (kept_on_leaving c s) (x.number ∷ []) k.0 k.1), k.2, k.3)
         ]
     | inr (inr h) ↦
-        let left : v.view.0 ≤ (core_at c family i (Send w'.to w'.message ∷ w'.early)).view = subst (λ (s : Core). v.view.0 ≤ s.view) (sym (core_then c family u i (bodies.ViewChange v) w')) (omega arith) in
+        let left : v.view.0 ≤ (core_at c family i (Send w'.to w'.message ∷ w'.early)).view = subst (λ (s : Core). v.view.0 ≤ s.view) (sym (core_then c family (IsCorrect c family.faulty) u.histories i (bodies.ViewChange v) w')) (omega arith) in
         let at_commit = above_at i v.view.0 correct (Send w'.to w'.message ∷ w'.early) w.early h (before (Send w.to w.message) w.early (family.acts i) w.point) left in
         let view_is : b.view.0 ≡ (core_at c family i w.early).view = w.says.inside.view_is in
         let same : b.view.0 ≡ x.view = ap (λ (f : Fields). f.view) is in
@@ -219,7 +219,7 @@ module _ (c : Setup) (family : Family) (u : IsUnforged c family) where
       let correct : IsCorrect c family.faulty w.0 = (w.1, w.4) in
       let v = in_any (is_by w.0 (λ v. true)) n.changes w.3 in
       let view = (for_view n v.0 valid v.1).1 in
-      let said_it = change_said c family u w.0 v.0.body correct (signed_real bodies.ViewChange w.0 (λ v. true) v.0 v.2 ((real v.0 v.1).own) correct) in
+      let said_it = change_said c family (IsCorrect c family.faulty) u.histories w.0 v.0.body correct (signed_real bodies.ViewChange w.0 (λ v. true) v.0 v.2 ((real v.0 v.1).own) correct) in
       elim (shows_commit w.0 x v.0.body correct (k.commit w.0 correct w.2) said_it (omega arith)) [
         | inl below ↦
             let low = greatest_above v.0.body.low.0 (map (λ (m : Signed ViewChange). m.body.low.0) n.changes) (in_map (λ (m : Signed ViewChange). m.body.low.0) n.changes v.0 v.1) in
@@ -278,7 +278,7 @@ module _ (c : Setup) (family : Family) (u : IsUnforged c family) where
   pub record Enters (i : ℕ) (n : NewView) (early : List Act) (s : Core) : Type 0 where
     pub valid : is_valid_new_view c n ≡ true
     pub changes : (m : Signed ViewChange) → IsIn m n.changes → RealChange c family m
-    pub leads : (q : Signed PrePrepare) → IsIn q n.pre_prepares → q.id ≡ i → q.role ≡ Replica → Led c family u i (of_pre_prepare q.body)
+    pub leads : (q : Signed PrePrepare) → IsIn q n.pre_prepares → q.id ≡ i → q.role ≡ Replica → Led c family (IsCorrect c family.faulty) u.histories i (of_pre_prepare q.body)
     pub basis : Stage n.view.0 (EnteredBy n.changes) s
     pub view_now : s.view ≡ n.view.0
     pub low_is : s.low ≡ (core_at c family i early).low
@@ -311,13 +311,13 @@ module _ (c : Setup) (family : Family) (u : IsUnforged c family) where
           changes = λ v within. real_change c family v (changes_in c family m.body m.role m.id m.sig message v within);
           leads = λ q within id role.
               let own = list_in c family m.body m.role m.id m.sig message q within role (subst (λ (j : ℕ). IsCorrect c family.faulty j) (sym id) correct) in
-              led_from c family u i q.body correct
+              led_from c family (IsCorrect c family.faulty) u.histories i q.body correct
               (subst (λ (r : Role). HasSigned (record { role = r; id = i; body = bodies.PrePrepare q.body }) (family.acts i)) role
               (subst (λ (j : ℕ). HasSigned (record { role = q.role; id = j; body = bodies.PrePrepare q.body }) (family.acts j)) id own));
           basis = inl (refl, refl, refl);
           view_now = refl;
           low_is = same_low s m.body.view.0;
-          holds = λ j floor top low high. inl (refl, refl, entered_holds c s m.body (primary c m.body.view.0) j (valid_list c family u m.body ok.valid) floor top low high);
+          holds = λ j floor top low high. inl (refl, refl, entered_holds c s m.body (primary c m.body.view.0) j (valid_list c family (IsCorrect c family.faulty) u.histories m.body ok.valid) floor top low high);
         }))
 
     by_send : (to : Destination) (m : Signed Body) → IsEarlier (Send to m ∷ o.early) (family.acts i) → (n : NewView) → m.body ≡ bodies.NewView n → (t : Core) → t ≡ core_at c family i (Send to m ∷ o.early) → Enters i n o.early t
@@ -325,7 +325,7 @@ module _ (c : Setup) (family : Family) (u : IsUnforged c family) where
         let ok = (history_at c i (family.signer i) (Send to m ∷ o.early) (family.acts i) k (u.histories i correct)).1 in
         let says : MaySay c i s (bodies.NewView n) = subst (λ (b : Body). MaySay c i s b) e ok.says in
         let w : Said c family i (bodies.NewView n) = record { early = o.early; to = to; message = m; point = k; body_is = e; says = says } in
-        subst (λ (t : Core). Enters i n o.early t) (sym (is ∙ core_then c family u i (bodies.NewView n) w))
+        subst (λ (t : Core). Enters i n o.early t) (sym (is ∙ core_then c family (IsCorrect c family.faulty) u.histories i (bodies.NewView n) w))
         (record {
           valid = says.valid;
           changes = λ v within.
@@ -335,7 +335,7 @@ module _ (c : Setup) (family : Family) (u : IsUnforged c family) where
           basis = inl (refl, refl, refl);
           view_now = refl;
           low_is = same_low s n.view.0;
-          holds = λ j floor top low high. inl (refl, refl, entered_holds c s n (primary c n.view.0) j (valid_list c family u n says.valid) floor top low high);
+          holds = λ j floor top low high. inl (refl, refl, entered_holds c s n (primary c n.view.0) j (valid_list c family (IsCorrect c family.faulty) u.histories n says.valid) floor top low high);
         })
 
   -- ---- after a Commit
@@ -399,7 +399,7 @@ module _ (c : Setup) (family : Family) (u : IsUnforged c family) where
       let s = core_at c family i acts in
       let o = entry_of i correct acts h inside.active (subst (λ (v : ℕ). 0 < v) inside.view_is above) in
       let enter = enters i s.view acts correct h o in
-      let basis = stage_is o.n.view.0 (EnteredBy o.n.changes) s (sym o.view_is) (later c family u i o.n.view.0 (EnteredBy o.n.changes) (basis_keeps c o.n.changes) correct (o.act ∷ o.early) acts o.point h enter.basis) in
+      let basis = stage_is o.n.view.0 (EnteredBy o.n.changes) s (sym o.view_is) (later c family (IsCorrect c family.faulty) u.histories i o.n.view.0 (EnteredBy o.n.changes) (basis_keeps c o.n.changes) correct (o.act ∷ o.early) acts o.point h enter.basis) in
       record { o = o; enter = enter; floor = subst (λ (ms : List (Signed ViewChange)). floor_of ms < number) basis inside.above_floor }
 
   -- a Prepare follows what is recorded
@@ -413,7 +413,7 @@ module _ (c : Setup) (family : Family) (u : IsUnforged c family) where
       let fields = fields_are (of_pre_prepare w.0.body) (of_prepare p) ((by_is (primary c p.view.0) (λ b. same_fields (of_pre_prepare b) (of_prepare p)) w.0 w.2).2) in
       ap (λ (f : Fields). f.digest) (sym fields) ∙ ap (λ (x : Signed PrePrepare). x.body.digest.0) same ∙ digest
 
-  followed_after : (i : ℕ) (x : Fields) (p : Prepare) → IsCorrect c family.faulty i → CommittedTo c family u i x → Said c family i (bodies.Prepare p) → x.view < p.view.0 → x.number ≡ p.number.0 → Opening (of_prepare p)
+  followed_after : (i : ℕ) (x : Fields) (p : Prepare) → IsCorrect c family.faulty i → CommittedTo c family (IsCorrect c family.faulty) u.histories i x → Said c family i (bodies.Prepare p) → x.view < p.view.0 → x.number ≡ p.number.0 → Opening (of_prepare p)
   followed_after i x p correct (b, w, is) v higher number =
       let s = core_at c family i v.early in
       let inside = v.says.inside in
@@ -436,19 +436,19 @@ module _ (c : Setup) (family : Family) (u : IsUnforged c family) where
         above = floor;
         bound = λ top. bound_by i s o.n p v.says (o.view_is ∙ sym view_is)
             (stage_is o.n.view.0 (Holds p.number.0 o.n.view.0 (primary c o.n.view.0) (given_digest c o.n.changes p.number.0)) s (sym o.view_is)
-            (later c family u i o.n.view.0 (Holds p.number.0 o.n.view.0 (primary c o.n.view.0) (given_digest c o.n.changes p.number.0)) (holds_keeps c p.number.0 o.n.view.0 (primary c o.n.view.0) (given_digest c o.n.changes p.number.0)) correct
+            (later c family (IsCorrect c family.faulty) u.histories i o.n.view.0 (Holds p.number.0 o.n.view.0 (primary c o.n.view.0) (given_digest c o.n.changes p.number.0)) (holds_keeps c p.number.0 o.n.view.0 (primary c o.n.view.0) (given_digest c o.n.changes p.number.0)) correct
             (o.act ∷ o.early) v.early o.point early (enter.holds p.number.0 floor top (omega arith) (omega arith))));
       }
 
   -- what the list of an entered NewView has at a number, its primary signed
   list_led : (i view : ℕ) (acts : List Act) (o : Entry i view acts) → Enters i o.n o.early (core_at c family i (o.act ∷ o.early)) → (primary c view == i) ≡ true → (n : ℕ) → floor_of o.n.changes < n → n ≤ top_of o.n.changes
-      → Led c family u i (record { view = o.n.view.0; number = n; digest = given_digest c o.n.changes n })
+      → Led c family (IsCorrect c family.faulty) u.histories i (record { view = o.n.view.0; number = n; digest = given_digest c o.n.changes n })
   list_led i view acts o enter leads n floor top =
       let w = one_given (primary c o.n.view.0) (given c o.n.view.0 o.n.changes) o.n.pre_prepares (record { view = o.n.view.0; number = n; digest = given_digest c o.n.changes n })
-      (valid_list c family u o.n enter.valid) (given_at c o.n.view.0 o.n.changes n floor top) in
-      let g = given_role (primary c o.n.view.0) (given c o.n.view.0 o.n.changes) o.n.pre_prepares w.0 (valid_list c family u o.n enter.valid) w.1 in
+      (valid_list c family (IsCorrect c family.faulty) u.histories o.n enter.valid) (given_at c o.n.view.0 o.n.changes n floor top) in
+      let g = given_role (primary c o.n.view.0) (given c o.n.view.0 o.n.changes) o.n.pre_prepares w.0 (valid_list c family (IsCorrect c family.faulty) u.histories o.n enter.valid) w.1 in
       let me : primary c o.n.view.0 ≡ i = ap (primary c) o.view_is ∙ eqb-true _ _ leads in
-      subst (λ (f : Fields). Led c family u i f) w.2 (enter.leads w.0 w.1 (g.1 ∙ me) g.0)
+      subst (λ (f : Fields). Led c family (IsCorrect c family.faulty) u.histories i f) w.2 (enter.leads w.0 w.1 (g.1 ∙ me) g.0)
 
   proposed_after : (i : ℕ) (x : Fields) (p : PrePrepare) → IsCorrect c family.faulty i → Said c family i (bodies.PrePrepare p) → x.view < p.view.0 → x.number ≡ p.number.0 → Opening (of_pre_prepare p)
   proposed_after i x p correct v higher number =
@@ -466,7 +466,7 @@ module _ (c : Setup) (family : Family) (u : IsUnforged c family) where
         changes = k.enter.changes;
         above = floor;
         bound = λ top.
-            let one = led_one c family u i (of_pre_prepare p) (record { view = o.n.view.0; number = p.number.0; digest = given_digest c o.n.changes p.number.0 }) correct
+            let one = led_one c family (IsCorrect c family.faulty) u.histories i (of_pre_prepare p) (record { view = o.n.view.0; number = p.number.0; digest = given_digest c o.n.changes p.number.0 }) correct
             (bodies.PrePrepare p, v, inl (p, refl, refl)) (list_led i s.view v.early o k.enter v.says.leads p.number.0 floor top) (sym view_is) refl in
             ap (λ (f : Fields). f.digest) one;
       }
@@ -474,8 +474,8 @@ module _ (c : Setup) (family : Family) (u : IsUnforged c family) where
   listed_after : (i : ℕ) (y : Fields) (n : NewView) (q : Signed PrePrepare) → IsCorrect c family.faulty i → Said c family i (bodies.NewView n) → IsIn q n.pre_prepares → of_pre_prepare q.body ≡ y → Opening y
   listed_after i y n q correct w within is =
       let s = core_at c family i w.early in
-      let f = listed_fields c family u n q y w.says.valid within is in
-      let g = given_one (primary c n.view.0) (given c n.view.0 n.changes) n.pre_prepares q (valid_list c family u n w.says.valid) within in
+      let f = listed_fields c family (IsCorrect c family.faulty) u.histories n q y w.says.valid within is in
+      let g = given_one (primary c n.view.0) (given c n.view.0 n.changes) n.pre_prepares q (valid_list c family (IsCorrect c family.faulty) u.histories n w.says.valid) within in
       let above = given_above n.view.0 n.changes g.0 g.1 in
       let number : g.0.number ≡ y.number = ap (λ (z : Fields). z.number) (sym g.2 ∙ is) in
       record {
@@ -489,7 +489,7 @@ module _ (c : Setup) (family : Family) (u : IsUnforged c family) where
             (real_core c family i correct u w.early (before (Send w.to w.message) w.early (family.acts i) w.point)).5 (change_key s.view k.0) v k.1;
       }
 
-  pub after_commit : (i : ℕ) (x y : Fields) → IsCorrect c family.faulty i → CommittedTo c family u i x → Vouched c family u i y → x.view < y.view → x.number ≡ y.number → Opening y
+  pub after_commit : (i : ℕ) (x y : Fields) → IsCorrect c family.faulty i → CommittedTo c family (IsCorrect c family.faulty) u.histories i x → Vouched c family (IsCorrect c family.faulty) u.histories i y → x.view < y.view → x.number ≡ y.number → Opening y
   after_commit i x y correct k (inr (p, v, is)) higher number =
       subst (λ (f : Fields). Opening f) is (followed_after i x p correct k v (subst (λ (f : Fields). x.view < f.view) (sym is) higher) (number ∙ ap (λ (f : Fields). f.number) (sym is)))
   after_commit i x y correct k (inl (body, v, inl (p, e, is))) higher number =

@@ -83,15 +83,15 @@ module _ (c : Setup) (me : ℕ) (s : Core) where
   fulfilled_fresh (Some (Executing n d)) a h (t, o, step, is) = subst IsFresh (sym is) tt
   fulfilled_fresh (Some WornOut) a h does = absurd does
 
-  due_fresh : (a : Act) → Fulfils c s (due c me s) a → IsFresh a
+  pub due_fresh : (a : Act) → Fulfils c s (due c me s) a → IsFresh a
   due_fresh a does = fulfilled_fresh (due c me s) a (due_reacting FreshDuty own_fresh tt c me s (λ fresh to m. fresh) (λ n d. tt)) does
 
   -- ---- the end
 
-  leaves_left : (a : Act) → leaf_count (after c s a).signer - (after c s a).signer.next_leaf ≡ leaf_count s.signer - (s.signer.next_leaf + leaves_for a)
+  pub leaves_left : (a : Act) → leaf_count (after c s a).signer - (after c s a).signer.next_leaf ≡ leaf_count s.signer - (s.signer.next_leaf + leaves_for a)
   leaves_left a = ap (λ (x : SigningState). leaf_count x - x.next_leaf) (signer_by c s a)
 
-  one_leaf : (b : Body) → 1 ≤ leaves_of b
+  pub one_leaf : (b : Body) → 1 ≤ leaves_of b
   one_leaf (bodies.Request b) = omega arith
   one_leaf (bodies.PrePrepare b) = omega arith
   one_leaf (bodies.Prepare b) = omega arith

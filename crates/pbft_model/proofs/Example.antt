@@ -10,7 +10,9 @@ use Rattle.lms_tree.specs.Signature.{signature_at, signature_fault}
 use Rattle.lms_tree.proofs.SignatureLemmas.{signature-valid}
 use Rattle.pbft_codec.specs.declared.body.Body.TheVariants as bodies
 use Rattle.pbft_codec.specs.Bodies.{BodyWellFormed, BodyFieldsInRange, encoded_length_of}
-use Rattle.pbft_codec.specs.Encoding.{signed_text}
+use Rattle.pbft_codec.specs.Encoding.{body, signed_text}
+use Rattle.pbft_codec.specs.Layouts.{request, length_prefixed}
+use Rattle.sha2.specs.Sha256.{sha256}
 use Rattle.pbft_codec.proofs.LengthLaws.{length_body, length_encoding}
 use Rattle.seal.specs.Parts.{nested_in, messages_in}
 use Rattle.seal.specs.Signers.{may_sign, IsAuthentic}
@@ -25,7 +27,8 @@ use Rattle.pbft_model.specs.Histories.{IsReal, IsIn, IsEarlier, IsHistory, HasTa
 use Rattle.pbft_model.specs.Agreement.{IsHashed, IsHonest}
 use Rattle.pbft_model.specs.Worked.{the_client, the_request, the_outcome, after_request, a_pre_prepare, a_prepare, a_commit}
 use Rattle.pbft_model.proofs.Working.{request_serves}
-use Rattle.pbft_model.specs.Example.{tree_id, signer_of, key_of, first_byte_hash, the_setup, a_request, the_digest, message_of, acts_of_primary, acts_of_backup, the_family}
+use Rattle.pbft_model.proofs.Digests.{digest_of_nothing, digest_of_state, request_encoded, state_encoded, hashed_nothing, hashed_request, hashed_state, by_table, table_is}
+use Rattle.pbft_model.specs.Example.{tree_id, signer_of, key_of, the_setup, a_request, the_digest, message_of, acts_of_primary, acts_of_backup, the_family}
 
 -- the messages that acts take, and the states that they execute to
 abbrev takes : List Act → List (Signed Body)
@@ -84,7 +87,7 @@ from_states t (a ∷ acts) n d o early (inr h) = in_append_right t (state_in a) 
 
 module _ (secrets : ℕ → List ℕ) where
   abbrev c : Setup
-  c = the_setup secrets
+  c = the_setup by_table secrets
 
   abbrev family : Family
   family = the_family secrets
@@ -150,6 +153,7 @@ module _ (secrets : ℕ → List ℕ) where
   taking m h reads = record { opened = h; reads = reads }
 
   primary_history : IsHistory c 0 (signer_of secrets 0) (acts_of_primary secrets)
+  unfolding body request length_prefixed
   primary_history = (
     (
       (
@@ -165,6 +169,7 @@ module _ (secrets : ℕ → List ℕ) where
   )
 
   backup_history : IsHistory c 1 (signer_of secrets 1) (acts_of_backup secrets)
+  unfolding body request length_prefixed
   backup_history = (
     (
       (
@@ -296,38 +301,46 @@ module _ (secrets : ℕ → List ℕ) where
   known x (inr (inr (inl (m, (i, correct, taken), is)))) = absurd (no_snapshot i m taken)
   known x (inr (inr (inr (i, number, digest, w, is)))) = inr (inr (is ∙ ap encoded (state_text i number digest w)))
 
-  abbrev pub hash : List ℕ → List ℕ
-  hash = first_byte_hash
+  text_hashed : sha256 text ≡ the_digest
+  text_hashed = ap sha256 (request_encoded secrets) ∙ hashed_request
 
-  pub apart : (x y : List ℕ) → Known x → Known y → hash x ≡ hash y → x ≡ y
-  apart x y (inl a) (inl b) e = a ∙ sym b
-  apart x y (inl a) (inr (inl b)) e = absurd (different (sym (ap hash a) ∙ e ∙ ap hash b)) where
-    different : hash [] ≡ hash text → ⊥
-    different e = cc
-  apart x y (inl a) (inr (inr b)) e = absurd (different (sym (ap hash a) ∙ e ∙ ap hash b)) where
-    different : hash [] ≡ hash bytes → ⊥
-    different e = cc
-  apart x y (inr (inl a)) (inl b) e = absurd (different (sym (ap hash a) ∙ e ∙ ap hash b)) where
-    different : hash text ≡ hash [] → ⊥
-    different e = cc
-  apart x y (inr (inl a)) (inr (inl b)) e = a ∙ sym b
-  apart x y (inr (inl a)) (inr (inr b)) e = absurd (different (sym (ap hash a) ∙ e ∙ ap hash b)) where
-    different : hash text ≡ hash bytes → ⊥
-    different e = cc
-  apart x y (inr (inr a)) (inl b) e = absurd (different (sym (ap hash a) ∙ e ∙ ap hash b)) where
-    different : hash bytes ≡ hash [] → ⊥
-    different e = cc
-  apart x y (inr (inr a)) (inr (inl b)) e = absurd (different (sym (ap hash a) ∙ e ∙ ap hash b)) where
-    different : hash bytes ≡ hash text → ⊥
-    different e = cc
-  apart x y (inr (inr a)) (inr (inr b)) e = a ∙ sym b
+  bytes_hashed : sha256 bytes ≡ digest_of_state
+  bytes_hashed = ap sha256 (state_encoded secrets) ∙ hashed_state
 
-  pub is_honest : IsHonest c family
-  is_honest = record {
+  -- what is hashed has another digest than the rest
+  abbrev digest_at : (x : List ℕ) → Known x → List ℕ
+  digest_at x (inl a) = digest_of_nothing
+  digest_at x (inr (inl a)) = the_digest
+  digest_at x (inr (inr a)) = digest_of_state
+
+  digest_is : (x : List ℕ) (known : Known x) → sha256 x ≡ digest_at x known
+  digest_is x (inl a) = ap sha256 a ∙ hashed_nothing
+  digest_is x (inr (inl a)) = ap sha256 a ∙ text_hashed
+  digest_is x (inr (inr a)) = ap sha256 a ∙ bytes_hashed
+
+  one_string : (x y : List ℕ) (a : Known x) (b : Known y) → digest_at x a ≡ digest_at y b → x ≡ y
+  one_string x y (inl a) (inl b) e = a ∙ sym b
+  one_string x y (inl a) (inr (inl b)) e = absurd cc
+  one_string x y (inl a) (inr (inr b)) e = absurd cc
+  one_string x y (inr (inl a)) (inl b) e = absurd cc
+  one_string x y (inr (inl a)) (inr (inl b)) e = a ∙ sym b
+  one_string x y (inr (inl a)) (inr (inr b)) e = absurd cc
+  one_string x y (inr (inr a)) (inl b) e = absurd cc
+  one_string x y (inr (inr a)) (inr (inl b)) e = absurd cc
+  one_string x y (inr (inr a)) (inr (inr b)) e = a ∙ sym b
+
+  pub apart : (x y : List ℕ) → Known x → Known y → by_table x ≡ by_table y → x ≡ y
+  apart x y a b e = one_string x y a b (sym (digest_is x a) ∙ sym (table_is x) ∙ e ∙ table_is y ∙ digest_is y b)
+
+  honest_by_table : IsHonest c family
+  honest_by_table = record {
     configuration = configuration;
     unforged = record { few = omega arith; histories = histories; real = real };
     apart = λ x y a b e. apart x y (known x a) (known y b) e;
   }
 
-  pub has_executed : HasExecuted c family 1 1 the_digest
+  pub is_honest : IsHonest (the_setup sha256 secrets) family
+  is_honest = subst (λ (hash : List ℕ → List ℕ). IsHonest (the_setup hash secrets) family) (λ k text. table_is text k) honest_by_table
+
+  pub has_executed : HasExecuted (the_setup sha256 secrets) family 1 1 the_digest
   has_executed = record { correct = (omega arith, refl); service = after_request c.config; outcome = the_outcome; early = _; point = inl refl }

@@ -3,6 +3,10 @@ use Rattle.std.proofs.Common.{◌≡◌, ◌⊎◌, ℕ, zero, suc, List, [], �
 use Rattle.std.specs.FinMap.{get-empty}
 use Rattle.std.proofs.lemmas.Bool.{true≢false}
 use Rattle.pbft_codec.specs.declared.body.Body.TheVariants as bodies
+use Rattle.pbft_codec.specs.Encoding.{body}
+use Rattle.pbft_codec.specs.Layouts.{length_prefixed}
+use Rattle.pbft_codec.specs.Layouts as layouts
+use Rattle.sha2.specs.Sha256.{sha256}
 use Rattle.seal.specs.Parts.{messages_in}
 use Rattle.pbft_model.specs.Words.{Signed, Body, RequestBody, Snapshot, Replica, as_message, part_of, signed_text}
 use Rattle.pbft_model.specs.Sequential.{Service, encoded}
@@ -16,6 +20,7 @@ use Rattle.pbft_model.specs.Journals.{Journals, HasReceived, HasGiven, HasDone, 
 use Rattle.pbft_model.specs.Worked.{through, the_outcome, after_request, a_pre_prepare, a_prepare, a_commit, reply_in_view_0}
 use Rattle.pbft_model.specs.Example.{signer_of, key_of, the_setup, a_request, the_digest, message_of, Reaction, row_of, rows_of, reactions_of_primary, reactions_of_backup, reactions_by, the_journals}
 use Rattle.pbft_model.proofs.Found.{in_append_left, in_append_right}
+use Rattle.pbft_model.proofs.Digests.{by_table, table_is}
 use Rattle.pbft_model.proofs.Unique.{same_acts}
 use Rattle.pbft_model.proofs.Example.{state_in, states_in, request_opened, proposal_opened, prepare_opened, commit_opened, step, configuration, text, Known, apart}
 
@@ -71,10 +76,10 @@ ran_to c me s (r ∷ rs) state (may, reacts, rest) (u, next, inr later) =
 
 module _ (secrets : ℕ → List ℕ) where
   abbrev c : Setup
-  c = the_setup secrets
+  c = the_setup by_table secrets
 
   abbrev journals : Journals
-  journals = the_journals secrets
+  journals = the_journals by_table secrets
 
   abbrev request : Signed Body
   request = as_message bodies.Request (a_request secrets)
@@ -97,6 +102,7 @@ module _ (secrets : ℕ → List ℕ) where
   proposal_taken = record { opened = proposal_opened secrets; reads = refl }
 
   primary_arises : Arises c 0 (start_of c (signer_of secrets 0)) (reactions_of_primary secrets)
+  unfolding body layouts.request length_prefixed
   primary_arises = (
     request_taken,
     record { follows = (rw get-empty, omega arith, refl); rests = rw get-empty },
@@ -112,6 +118,7 @@ module _ (secrets : ℕ → List ℕ) where
   )
 
   backup_arises : Arises c 1 (start_of c (signer_of secrets 1)) (reactions_of_backup secrets)
+  unfolding body layouts.request length_prefixed
   backup_arises = (
     request_taken,
     record { follows = refl; rests = rw get-empty },
@@ -227,8 +234,8 @@ module _ (secrets : ℕ → List ℕ) where
   known x (inr (inr (inr (i, state, correct, runs, is)))) =
       inr (inr (is ∙ ap encoded (state_is i state (ran_to c i (start_of c (signer_of secrets i)) (reactions_by secrets i) state (arises i) runs))))
 
-  pub is_honest_family : IsHonestFamily c journals
-  is_honest_family = record {
+  honest_by_table : IsHonestFamily c journals
+  honest_by_table = record {
     configuration = configuration secrets;
     few = omega arith;
     listed = listed;
@@ -237,8 +244,11 @@ module _ (secrets : ℕ → List ℕ) where
     apart = λ x y a b e. apart secrets x y (known x a) (known y b) e;
   }
 
-  pub one_executes : IsCorrect c journals.faulty 1 × HasDone (Executed 1 the_digest (1 ∷ [])) (journals.rows 1)
+  pub is_honest_family : IsHonestFamily (the_setup sha256 secrets) (the_journals sha256 secrets)
+  is_honest_family = subst (λ (hash : List ℕ → List ℕ). IsHonestFamily (the_setup hash secrets) (the_journals hash secrets)) (λ k text. table_is text k) honest_by_table
+
+  pub one_executes : IsCorrect (the_setup sha256 secrets) (the_journals sha256 secrets).faulty 1 × HasDone (Executed 1 the_digest (1 ∷ [])) ((the_journals sha256 secrets).rows 1)
   one_executes = ((omega arith, refl), (_, inr (inr (inr (inr (inl refl)))), inl refl))
 
-  pub one_replies : HasGiven (part_of (message_of secrets 1 2 reply_in_view_0)) (journals.rows 1)
+  pub one_replies : HasGiven (part_of (message_of secrets 1 2 reply_in_view_0)) ((the_journals sha256 secrets).rows 1)
   one_replies = (_, _, inr (inr (inr (inr (inl refl)))), inl refl, refl, inl refl)

@@ -149,7 +149,7 @@ when_none false d e = refl
 none_when : (b : Bool) (d : Duty) → b ≡ false → when b d ≡ None
 none_when b d e = ap (λ (x : Bool). when x d) e
 
-or_none : (o p : Option Duty) → or_else o p ≡ None → (o ≡ None) × (p ≡ None)
+pub or_none : (o p : Option Duty) → or_else o p ≡ None → (o ≡ None) × (p ≡ None)
 or_none None p e = (refl, e)
 or_none (Some d) p e = no_some d (sym e)
 

@@ -10,7 +10,7 @@ use Rattle.pbft_model.proofs.Unique.{one_act, one_beginning}
 module _ (c : Setup) (me : ℕ) where
   -- ---- what comes next
 
-  follows_more : (acts : List Act) (s t : Core) (a : Act) → Follows c me s acts t → Fulfils c t (due c me t) a → HasLeaves t a → Follows c me s (acts ++ a ∷ []) (after c t a)
+  pub follows_more : (acts : List Act) (s t : Core) (a : Act) → Follows c me s acts t → Fulfils c t (due c me t) a → HasLeaves t a → Follows c me s (acts ++ a ∷ []) (after c t a)
   follows_more [] s t a is does leaves = (subst (λ u. Fulfils c u (due c me u) a) is does, subst (λ u. HasLeaves u a) is leaves, ap (λ u. after c u a) is)
   follows_more (b ∷ acts) s t a (first, enough, rest) does leaves = (first, enough, follows_more acts (after c s b) t a rest does leaves)
 

@@ -25,12 +25,17 @@ pub mod Stepping
 pub mod ByNumber
 pub mod Reactions
 pub mod Reporting
+pub mod Rising
+pub mod Within
 pub mod OverJournals
 pub mod Leaves
 pub mod Steady
+pub mod Digests
 pub mod Example
 pub mod ExampleRows
 pub mod Later
 pub mod Following
 pub mod Halting
 pub mod Ending
+pub mod RowRules
+pub mod Giving

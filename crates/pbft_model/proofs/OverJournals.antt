@@ -1,21 +1,23 @@
 -- Agreement over journals: their acts are an honest family of histories.
-use Rattle.std.proofs.Common.{◌≡◌, ℕ, zero, suc, ◌<◌, ◌≤◌, Bool, true, false, cond, List, [], ◌∷◌, ◌++◌, max, Option, refl, sym, ap, subst, ◌∙◌, arith, inl, inr}
+use Rattle.std.proofs.Common.{◌≡◌, ℕ, zero, suc, ◌+◌, ◌<◌, ◌≤◌, Bool, true, false, cond, List, [], ◌∷◌, ◌++◌, max, Option, refl, sym, ap, subst, ◌∙◌, arith, inl, inr}
 use Rattle.std.specs.Prelude.{nat_lt}
+use Rattle.std.specs.List.{flat_map}
 use Rattle.std.proofs.lemmas.Bool.{true≢false, ltb-true, lt-ltb}
 use Rattle.pbft_model.specs.Words.{Signed, Body, RequestBody, ReplyBody, as_message, part_of}
 use Rattle.pbft_codec.specs.declared.body.Body.TheVariants as bodies
 use Rattle.pbft_model.specs.Sequential.{Service, Outcome}
 use Rattle.pbft_model.specs.Setup.{Setup, replicas}
 use Rattle.pbft_model.specs.Core.{Core, start_of}
-use Rattle.pbft_model.specs.Acts.{Act, Take, Timeout, Send, Relay, Enter, Rise, Execute, Install}
-use Rattle.pbft_model.specs.Rows.{Row, Output, Executed, Installed, IsLawfulFrom, done_of, result_of}
-use Rattle.pbft_model.specs.Histories.{core_after, IsHistory, IsEarlier, IsIn, HasTaken, HasSigned, Family, IsCorrect, IsUnforged}
-use Rattle.pbft_model.specs.Agreement.{IsTaken, IsHashed, IsHonest, reached_by, greatest_reached, HoldsState, IsLastReplyAt, AgreesOn}
-use Rattle.pbft_model.specs.Journals.{Journals, HasReceived, HasDone, greatest_in, ComesTo, IsReceived, IsHashedIn, IsHonestFamily, reached_in, greatest_among, IsAccountedFor, IsInstalledFrom, AgreesOver, Agrees}
-use Rattle.pbft_model.proofs.Events.{now, earlier_trans, history_at, holds_on}
-use Rattle.pbft_model.proofs.Origins.{executed_up}
-use Rattle.pbft_model.proofs.ByNumber.{agrees}
-use Rattle.pbft_model.proofs.Reporting.{pushed, acts_from, earlier_from, core_from, history_from, taken_from, given_act, sends, given_from, done_from, executed_from, parted, one_core, number_from, one_row_more}
+use Rattle.pbft_model.specs.Acts.{Act, Take, Timeout, Send, Relay, Enter, Rise, Execute, Install, after}
+use Rattle.pbft_model.specs.Rows.{Row, Output, Done, Executed, Installed, Follows, IsNext, IsLawfulFrom, outputs_of, all_outputs, done_of, all_done, result_of}
+use Rattle.pbft_model.specs.Histories.{core_after, IsHistory, IsEarlier, IsIn, HasTaken, HasSigned, Family, IsCorrect, IsUnforged, HasExecuted}
+use Rattle.pbft_model.specs.Agreement.{IsTaken, IsHashed, IsHonest, reached_by, greatest_reached, HoldsState, AgreesOn}
+use Rattle.pbft_model.specs.Journals.{Journals, HasReceived, HasDone, greatest_in, ComesTo, IsWithin, IsWithinFirst, HadCore, HasReached, IsReceived, IsHashedIn, IsHonestFamily, reached_in, greatest_among, ExecutesEach, IsAccountedFor, IsInstalledFrom, IsLastReply, AgreesOver, Agrees}
+use Rattle.pbft_model.proofs.Events.{earlier_trans, history_at}
+use Rattle.pbft_model.proofs.ByNumber.{agrees, executor}
+use Rattle.pbft_model.proofs.Unique.{one_beginning, same_acts}
+use Rattle.pbft_model.proofs.Reporting.{pushed, earlier_pushed, acts_from, earlier_from, core_from, core_follows, history_from, taken_from, sends, given_from, done_from, executed_from, execution_reported, parted, one_core, number_from}
+use Rattle.pbft_model.proofs.Within.{follows_first, pushed_append, earlier_first, giving, IsReachedFrom, reached_more, reached_within, reached_rows, one_acts}
 
 module _ (c : Setup) (j : Journals) (h : IsHonestFamily c j) where
   -- ---- the family of histories
@@ -115,33 +117,105 @@ module _ (c : Setup) (j : Journals) (h : IsHonestFamily c j) where
       let rest = same_greatest n (omega (arith, le)) in
       λ k. max (one k) (rest k)
 
+  executed_in : (i number : ℕ) (digest : List ℕ) (w : HasExecuted c family i number digest) → HasDone (Executed number digest (result_of w.outcome.reply)) (j.rows i)
+  executed_in i number digest w =
+      let r = reported i w.correct in
+      elim (execution_reported c i (j.signer i) number digest w.service w.outcome w.early [] (j.rows i) (start i) r.last r.lawful
+      (subst (λ (acts : List Act). IsEarlier (Execute number digest w.service w.outcome ∷ w.early) acts) r.is w.point)) [
+        | inl none ↦ absurd (nothing w.early none)
+        | inr done ↦ done
+      ] where
+        nothing : (early : List Act) → Execute number digest w.service w.outcome ∷ early ≡ [] → ⊥
+        nothing early e = cc
+
+  pub each_executed : ExecutesEach c j
+  each_executed n lt =
+      let same : greatest_reached c family (replicas c) ≡ greatest_among j (replicas c) = same_greatest (replicas c) (omega arith) in
+      let w = executor c family honest n (omega (arith, lt, same)) in
+      let next : suc n ≡ n + 1 = omega arith in (
+        w.replica,
+        w.digest,
+        result_of w.done.outcome.reply,
+        w.done.correct,
+        subst (λ (k : ℕ). HasDone (Executed k w.digest (result_of w.done.outcome.reply)) (j.rows w.replica)) next (executed_in w.replica (suc n) w.digest w.done),
+      )
+
   -- ---- what the list accounts for
 
   module _ (entries : List (Option (Signed RequestBody))) (on : AgreesOn c family entries) where
-    -- a point of the history at which rows end
-    record Ending (i : ℕ) (rows : List Row) (s : Core) : Type 0 where
-      acts : List Act
-      point : IsEarlier acts (family.acts i)
-      core_is : core_after c (j.signer i) acts ≡ s
+    -- the acts of a journal in two parts, where it has these rows up to this core
+    record Parts (i : ℕ) (early : List Act) (s : Core) (rest : List Row) : Type 0 where
+      last : Core
+      lawful : IsLawfulFrom c i s rest last
+      is : family.acts i ≡ acts_from c i (j.signer i) early rest s last lawful
 
-    ending : (i : ℕ) → IsCorrect c j.faulty i → (rows rest : List Row) → j.rows i ≡ rows ++ rest → (s : Core) → ComesTo c j i rows s → Ending i rows s
-    ending i correct rows rest is s comes = at (reported i correct).last (reported i correct).lawful (reported i correct).is (j.rows i) is where
-      at : (last : Core) (w : ComesTo c j i (j.rows i) last) → family.acts i ≡ acts_from c i (j.signer i) [] (j.rows i) (start i) last w → (all : List Row) → all ≡ rows ++ rest → Ending i rows s
-      at last w same all e =
-          let P : List Row → Type 0 = λ rs. (v : IsLawfulFrom c i (start i) rs last) → family.acts i ≡ acts_from c i (j.signer i) [] rs (start i) last v → Ending i rows s in
-          let here : P (rows ++ rest) = λ v same'.
-          let p = parted c i (j.signer i) [] rows rest (start i) last v in
-          let acts = acts_from c i (j.signer i) [] rows (start i) p.mid p.first in
-          let at_end = earlier_from c i (j.signer i) acts rest p.mid last p.second in
-          record {
-            acts = acts;
-            point = subst (λ (xs : List Act). IsEarlier acts xs) (sym (same' ∙ p.same)) at_end;
-            core_is = core_from c i (j.signer i) [] rows (start i) p.mid p.first refl ∙ one_core c i (j.signer i) rows (start i) p.mid s p.first comes;
-          } in
-          subst P (sym is) here w same
+    abbrev acts_to : (i : ℕ) (rows : List Row) (s : Core) → ComesTo c j i rows s → List Act
+    acts_to i rows s comes = acts_from c i (j.signer i) [] rows (start i) s comes
 
-    states : (i : ℕ) → IsCorrect c j.faulty i → (rows rest : List Row) → j.rows i ≡ rows ++ rest → (s : Core) → ComesTo c j i rows s → HoldsState c entries s
-    states i correct rows rest is s comes = let w = ending i correct rows rest is s comes in subst (λ (t : Core). HoldsState c entries t) w.core_is (on.states i correct w.acts w.point)
+    parts_of : (i : ℕ) → IsCorrect c j.faulty i → (rows rest : List Row) → j.rows i ≡ rows ++ rest → (s : Core) (comes : ComesTo c j i rows s) → Parts i (acts_to i rows s comes) s rest
+    parts_of i correct rows rest is s comes = subst P (sym is) whole (reported i correct).last (reported i correct).lawful (reported i correct).is where
+      P : List Row → Type 0
+      P all = (last : Core) (w : IsLawfulFrom c i (start i) all last) → family.acts i ≡ acts_from c i (j.signer i) [] all (start i) last w → Parts i (acts_to i rows s comes) s rest
+
+      whole : P (rows ++ rest)
+      whole last w same =
+          let p = parted c i (j.signer i) [] rows rest (start i) last w in
+          let first : acts_to i rows p.mid p.first ≡ acts_to i rows s comes = one_acts c i (j.signer i) rows [] (start i) p.mid s p.first comes in
+          let acts = same ∙ p.same ∙ ap (λ (early : List Act). acts_from c i (j.signer i) early rest p.mid last p.second) first in
+          let Q : Core → Type 0 = λ (mid : Core). (second : IsLawfulFrom c i mid rest last) → family.acts i ≡ acts_from c i (j.signer i) (acts_to i rows s comes) rest mid last second → Parts i (acts_to i rows s comes) s rest in
+          let here : Q s = λ second e. record { last = last; lawful = second; is = e } in
+          subst Q (sym (one_core c i (j.signer i) rows (start i) p.mid s p.first comes)) here p.second acts
+
+    lawful_to : (i : ℕ) → IsCorrect c j.faulty i → (rows rest : List Row) → j.rows i ≡ rows ++ rest → (s : Core) × ComesTo c j i rows s
+    lawful_to i correct rows rest is =
+        let w = reported i correct in
+        let p = parted c i (j.signer i) [] rows rest (start i) w.last (subst (λ (rs : List Row). IsLawfulFrom c i (start i) rs w.last) is w.lawful) in
+        (p.mid, p.first)
+
+    core_to : (i : ℕ) (rows : List Row) (s : Core) (comes : ComesTo c j i rows s) → core_after c (j.signer i) (acts_to i rows s comes) ≡ s
+    core_to i rows s comes = core_from c i (j.signer i) [] rows (start i) s comes refl
+
+    -- behind rows
+    behind : (i : ℕ) → IsCorrect c j.faulty i → (rows rest : List Row) → j.rows i ≡ rows ++ rest → (s : Core) → ComesTo c j i rows s → HoldsState c entries s
+    behind i correct rows rest is s comes =
+        let w = parts_of i correct rows rest is s comes in
+        let acts = acts_to i rows s comes in
+        let point = subst (λ (xs : List Act). IsEarlier acts xs) (sym w.is) (earlier_from c i (j.signer i) acts rest s w.last w.lawful) in
+        subst (λ (t : Core). HoldsState c entries t) (core_to i rows s comes) (on.states i correct acts point)
+
+    -- the acts of a row are in the history
+    row_earlier : (i : ℕ) (early : List Act) (s : Core) (row : Row) (rest : List Row) (w : Parts i early s (row ∷ rest)) (last : Core) (next : IsNext c i s row last)
+        → IsEarlier (pushed (next.first ∷ next.acts) early) (family.acts i)
+    row_earlier i early s row rest w last next = at w.last w.lawful w.is where
+      at : (end : Core) (lawful : IsLawfulFrom c i s (row ∷ rest) end) → family.acts i ≡ acts_from c i (j.signer i) early (row ∷ rest) s end lawful → IsEarlier (pushed (next.first ∷ next.acts) early) (family.acts i)
+      at end (u, next', others) same =
+          let first = one_beginning c i row.input next'.first next.first next'.begins next.begins in
+          let alike = same_acts c i s u last row row refl next' next in
+          let acts : pushed (next'.first ∷ next'.acts) early ≡ pushed (next.first ∷ next.acts) early = λ k. pushed (first k ∷ alike.0 k) early in
+          let done : List Act = pushed (next'.first ∷ next'.acts) early in
+          subst (λ (xs : List Act). IsEarlier xs (family.acts i)) acts
+          (subst (λ (xs : List Act). IsEarlier done xs) (sym same) (earlier_from c i (j.signer i) done rest u end others))
+
+    -- within a row
+    within_row : (i : ℕ) → IsCorrect c j.faulty i → (rows rest : List Row) (row : Row) → j.rows i ≡ rows ++ row ∷ rest → (s t : Core) → ComesTo c j i rows s → IsWithin c i s row t → HoldsState c entries t
+    within_row i correct rows rest row is s t comes w =
+        let early = acts_to i rows s comes in
+        let acts = pushed (w.next.first ∷ w.acts) early in
+        let whole = row_earlier i early s row rest (parts_of i correct rows (row ∷ rest) is s comes) w.last w.next in
+        let point = earlier_trans acts (pushed (w.next.first ∷ w.next.acts) early) (family.acts i) (earlier_first w.next.acts w.acts w.later (w.next.first ∷ early) w.splits) whole in
+        let follows = subst (λ (x : Core). Follows c i (after c x w.next.first) w.acts t) (sym (core_to i rows s comes)) w.follows in
+        let core_is = core_follows c i (j.signer i) w.acts (w.next.first ∷ early) t follows in
+        subst (λ (x : Core). HoldsState c entries x) core_is (on.states i correct acts point)
+
+    within_first : (i : ℕ) → IsCorrect c j.faulty i → (rows rest : List Row) → j.rows i ≡ rows ++ rest → (s t : Core) → ComesTo c j i rows s → IsWithinFirst c i s rest t → HoldsState c entries t
+    within_first i correct rows [] is s t comes none = absurd none
+    within_first i correct rows (row ∷ rest) is s t comes w = within_row i correct rows rest row is s t comes w
+
+    states : (i : ℕ) → IsCorrect c j.faulty i → (s : Core) → HadCore c j i s → HoldsState c entries s
+    states i correct s w = elim w.there [
+      | inl same ↦ subst (λ (t : Core). HoldsState c entries t) (sym same) (behind i correct w.rows w.rest w.splits w.core w.comes)
+      | inr within ↦ within_first i correct w.rows w.rest w.splits w.core s w.comes within
+    ]
 
     executed_act : (number : ℕ) (digest result : List ℕ) (a : Act) → IsIn (Executed number digest result) (done_of c a)
         → (t : Service) × (o : Outcome) × (a ≡ Execute number digest t o) × (result ≡ result_of o.reply)
@@ -218,47 +292,51 @@ module _ (c : Setup) (j : Journals) (h : IsHonestFamily c j) where
           digest_is = e.3 ∙ ap c.hash (sym ok.reads.encodes);
         }
 
+    -- a number that isn't 0 was reached
+    reached_one : (i : ℕ) (t : Core) (items : List Done) → 1 ≤ t.executed → IsReachedFrom (start i) t items → HasReached t.executed items
+    reached_one i t items above (inl none) = absurd (omega (arith, above, none))
+    reached_one i t items above (inr reached) = reached
+
     replied : (i : ℕ) (rows rest : List Row) (row : Row) (output : Output) (b : ReplyBody) → IsCorrect c j.faulty i → j.rows i ≡ rows ++ row ∷ rest
-        → IsIn output row.outputs → output.own ≡ true → output.message.body ≡ bodies.Reply b
-        → (number : ℕ) × (number ≤ greatest_in (rows ++ row ∷ [])) × IsLastReplyAt c entries number b
-    replied i rows rest row output b correct is within own body_is = at (reported i correct).last (reported i correct).lawful (reported i correct).is where
-      Goal : Type 0
-      Goal = (number : ℕ) × (number ≤ greatest_in (rows ++ row ∷ [])) × IsLastReplyAt c entries number b
+        → IsIn output row.outputs → output.own ≡ true → output.message.body ≡ bodies.Reply b → IsLastReply c j entries i rows row output b
+    replied i rows rest row output b correct is within own body_is =
+        let lawful = lawful_to i correct rows (row ∷ rest) is in
+        let whole = parts_of i correct rows (row ∷ rest) is lawful.0 lawful.1 in
+        at lawful.0 lawful.1 whole whole.last whole.lawful where
+          earlier_sent : (acts xs ys : List Act) (first : Act) (early : List Act) → acts ≡ xs ++ Send output.to output.message ∷ ys
+              → IsEarlier (Send output.to output.message ∷ pushed (first ∷ xs) early) (pushed (first ∷ acts) early)
+          earlier_sent acts xs ys first early e =
+              subst (λ (zs : List Act). IsEarlier (Send output.to output.message ∷ pushed (first ∷ xs) early) zs)
+              (sym (ap (λ (zs : List Act). pushed zs (first ∷ early)) e ∙ pushed_append xs (Send output.to output.message ∷ ys) (first ∷ early)))
+              (earlier_pushed ys (Send output.to output.message ∷ pushed (first ∷ xs) early))
 
-      here : (last : Core) (v : IsLawfulFrom c i (start i) (rows ++ row ∷ rest) last) → family.acts i ≡ acts_from c i (j.signer i) [] (rows ++ row ∷ rest) (start i) last v → Goal
-      here last v same =
-          let p = parted c i (j.signer i) [] rows (row ∷ rest) (start i) last v in
-          row_here p.mid p.first p.second (same ∙ p.same) where
-            row_here : (mid : Core) (first : IsLawfulFrom c i (start i) rows mid) (second : IsLawfulFrom c i mid (row ∷ rest) last)
-                → family.acts i ≡ acts_from c i (j.signer i) (acts_from c i (j.signer i) [] rows (start i) mid first) (row ∷ rest) mid last second → Goal
-            row_here mid first (u, next, others) same' =
-                let early = acts_from c i (j.signer i) [] rows (start i) mid first in
-                let done = pushed (next.first ∷ next.acts) early in
-                let a = given_act c i (j.signer i) output row early mid u next within in
-                let a_is = sends c i (j.signer i) output a.0 a.3 own in
-                let up_to : IsEarlier done (family.acts i) = subst (λ (xs : List Act). IsEarlier done xs) (sym same') (earlier_from c i (j.signer i) done rest u last others) in
-                let sent : IsEarlier (Send output.to output.message ∷ a.1) done = subst (λ (x : Act). IsEarlier (x ∷ a.1) done) a_is a.2 in
-                let point = earlier_trans (Send output.to output.message ∷ a.1) done (family.acts i) sent up_to in
-                let kept = on.replies i output.to output.message b a.1 correct point body_is in
-                let is_done = history_at c i (j.signer i) done (family.acts i) up_to (histories i correct) in
-                let before_it : IsEarlier a.1 done = earlier_trans a.1 (Send output.to output.message ∷ a.1) done (inr (now a.1)) sent in
-                let up = holds_on c i (j.signer i) (λ s. (core_after c (j.signer i) a.1).executed ≤ s.executed)
-                (λ s x low ok le. let more = executed_up c i s x ok in omega arith) a.1 done before_it is_done (omega arith) in
-                let whole : IsLawfulFrom c i (start i) (rows ++ row ∷ []) u = one_row_more c i (j.signer i) rows row (start i) mid u first next in
-                let number = number_from c i (j.signer i) [] (rows ++ row ∷ []) (start i) u whole refl tt in
-                let ends : core_after c (j.signer i) done ≡ u = core_from c i (j.signer i) early (row ∷ []) mid u (u, next, refl) (core_from c i (j.signer i) [] rows (start i) mid first refl) in
-                let ends_number : (core_after c (j.signer i) done).executed ≡ u.executed = ap (λ (s : Core). s.executed) ends in
-                ((core_after c (j.signer i) a.1).executed, omega arith, kept)
-
-      at : (last : Core) (w : ComesTo c j i (j.rows i) last) → family.acts i ≡ acts_from c i (j.signer i) [] (j.rows i) (start i) last w → Goal
-      at last w same =
-          let P : List Row → Type 0 = λ rs. (v : IsLawfulFrom c i (start i) rs last) → family.acts i ≡ acts_from c i (j.signer i) [] rs (start i) last v → Goal in
-          subst P (sym is) (here last) w same
+          at : (s : Core) (comes : ComesTo c j i rows s) (whole : Parts i (acts_to i rows s comes) s (row ∷ rest)) (end : Core) → IsLawfulFrom c i s (row ∷ rest) end → IsLastReply c j entries i rows row output b
+          at s comes whole end (u, next, others) =
+              let early = acts_to i rows s comes in
+              let w = giving outputs_of all_outputs refl (λ a later. refl) output next.acts (subst (λ (os : List Output). IsIn output os) next.outputs within) in
+              let send = sends c i (j.signer i) output w.act w.gives own in
+              let splits : next.acts ≡ w.earlier ++ Send output.to output.message ∷ w.later = w.splits ∙ ap (λ (a : Act). w.earlier ++ a ∷ w.later) send in
+              let acts = pushed (next.first ∷ w.earlier) early in
+              let from = follows_first c i w.earlier (Send output.to output.message ∷ w.later) (after c s next.first) u (subst (λ (zs : List Act). Follows c i (after c s next.first) zs u) splits next.reacts.follows) in
+              let point = earlier_trans (Send output.to output.message ∷ acts) (pushed (next.first ∷ next.acts) early) (family.acts i) (earlier_sent next.acts w.earlier w.later next.first early splits)
+              (row_earlier i early s row rest whole u next) in
+              let kept = on.replies i output.to output.message b acts correct point body_is in
+              let reached = reached_more (start i) (core_after c (j.signer i) early) (core_after c (j.signer i) acts) (flat_map (λ row. row.done) rows) (all_done c w.earlier)
+              (reached_rows c i (j.signer i) rows [] (start i) s comes) (reached_within c i (j.signer i) early w.earlier s u row next) in
+              record {
+                core = s;
+                comes = comes;
+                sent = record { last = u; next = next; earlier = w.earlier; later = w.later; splits = splits; from = from.0; follows = from.1 };
+                number = (core_after c (j.signer i) acts).executed;
+                reached = reached_one i (core_after c (j.signer i) acts) (flat_map (λ row. row.done) rows ++ all_done c w.earlier) kept.not_zero reached;
+                kept = kept;
+              }
 
     over : AgreesOver c j entries
     over = record {
       as_long = on.as_long ∙ same_greatest (replicas c) (omega arith);
       asked = on.asked;
+      received = λ m at. received_by (as_message bodies.Request m) (on.taken m at);
       states = states;
       executed = accounted;
       installed = installed_from;

@@ -9,10 +9,11 @@ use Rattle.pbft_model.specs.Validity.{greatest_of}
 use Rattle.pbft_model.specs.Core.{Core}
 use Rattle.pbft_model.specs.Acts.{Act, Take, Timeout, Send, Relay, Enter, Rise, Execute, Install, after}
 use Rattle.pbft_model.specs.Rules.{Allowed}
-use Rattle.pbft_model.specs.Rows.{Row, Input, Received, TimedOut, Output, Done, Follows, Begins, IsNext, IsLawfulFrom, outputs_of, done_of, all_outputs, all_done}
+use Rattle.pbft_model.specs.Rows.{Row, Input, Received, TimedOut, Output, Done, Follows, Begins, IsNext, IsLawfulFrom, Executed, outputs_of, done_of, all_outputs, all_done, result_of}
 use Rattle.pbft_model.specs.Histories.{core_after, IsHistory, IsEarlier, IsIn, HasSigned, HasTaken, signed_by_act}
 use Rattle.pbft_model.specs.Journals.{HasReceived, HasGiven, HasDone, RunsTo, number_in, greatest_in}
 use Rattle.pbft_model.proofs.Entries.{from_append}
+use Rattle.pbft_model.proofs.Found.{in_append_left, in_append_right}
 use Rattle.pbft_model.proofs.Events.{now, earlier_trans, signed_at}
 use Rattle.pbft_model.proofs.Origins.{recorded_keeps, said_keeps, left_keeps}
 use Rattle.pbft_model.proofs.Reactions.{IsReaction, is_reaction}
@@ -90,13 +91,13 @@ module _ (c : Setup) (me : ℕ) (signer : SigningState) where
   reactions [] s t same = tt
   reactions (a ∷ acts) s t (does, leaves, rest) = (is_reaction c me s a does, reactions acts (after c s a) t rest)
 
-  row_follows : (early : List Act) (s u : Core) (row : Row) (next : IsNext c me s row u) → core_after c signer early ≡ s → Follows c me (core_after c signer (next.first ∷ early)) next.acts u
+  pub row_follows : (early : List Act) (s u : Core) (row : Row) (next : IsNext c me s row u) → core_after c signer early ≡ s → Follows c me (core_after c signer (next.first ∷ early)) next.acts u
   row_follows early s u row next same = subst (λ (x : Core). Follows c me (after c x next.first) next.acts u) (sym same) next.reacts.follows
 
-  row_core : (early : List Act) (s u : Core) (row : Row) (next : IsNext c me s row u) → core_after c signer early ≡ s → core_after c signer (pushed (next.first ∷ next.acts) early) ≡ u
+  pub row_core : (early : List Act) (s u : Core) (row : Row) (next : IsNext c me s row u) → core_after c signer early ≡ s → core_after c signer (pushed (next.first ∷ next.acts) early) ≡ u
   row_core early s u row next same = core_follows next.acts (next.first ∷ early) u (row_follows early s u row next same)
 
-  row_history : (early : List Act) (s u : Core) (row : Row) (next : IsNext c me s row u) → core_after c signer early ≡ s → IsHistory c me signer early → IsHistory c me signer (pushed (next.first ∷ next.acts) early)
+  pub row_history : (early : List Act) (s u : Core) (row : Row) (next : IsNext c me s row u) → core_after c signer early ≡ s → IsHistory c me signer early → IsHistory c me signer (pushed (next.first ∷ next.acts) early)
   row_history early s u row next same is =
       history_follows next.acts (next.first ∷ early) u (is, begun c me signer (core_after c signer early) row.input next.first next.begins) (row_follows early s u row next same)
 
@@ -200,6 +201,26 @@ module _ (c : Setup) (me : ℕ) (signer : SigningState) where
     | inr later ↦ inr (u, next, inr later)
   ]
 
+  in_all_done : (a : Act) (done : Done) (acts : List Act) → IsIn a acts → IsIn done (done_of c a) → IsIn done (all_done c acts)
+  in_all_done a done [] none h = absurd none
+  in_all_done a done (b ∷ acts) (inl same) h = in_append_left done (done_of c b) (all_done c acts) (subst (λ (x : Act). IsIn done (done_of c x)) same h)
+  in_all_done a done (b ∷ acts) (inr later) h = in_append_right done (done_of c b) (all_done c acts) (in_all_done a done acts later h)
+
+  -- an execution is reported
+  pub execution_reported : (n : ℕ) (d : List ℕ) (x : Service) (o : Outcome) (before early : List Act) (rows : List Row) (s t : Core) (w : IsLawfulFrom c me s rows t)
+      → IsEarlier (Execute n d x o ∷ before) (acts_from early rows s t w) → IsEarlier (Execute n d x o ∷ before) early ⊎ HasDone (Executed n d (result_of o.reply)) rows
+  execution_reported n d x o before early [] s t w h = inl h
+  execution_reported n d x o before early (row ∷ rows) s t (u, next, rest) h = elim (execution_reported n d x o before (pushed (next.first ∷ next.acts) early) rows u t rest h) [
+    | inl here ↦ elim (from_pushed (Execute n d x o) before (next.first ∷ next.acts) early here) [
+      | inl older ↦ inl older
+      | inr (inl first) ↦ absurd (no_execution row.input next.first n d x o next.begins first)
+      | inr (inr within) ↦
+          let done : IsIn (Executed n d (result_of o.reply)) (all_done c next.acts) = in_all_done (Execute n d x o) (Executed n d (result_of o.reply)) next.acts within (inl refl) in
+          inr (row, inl refl, subst (λ (ds : List Done). IsIn (Executed n d (result_of o.reply)) ds) (sym next.done) done)
+    ]
+    | inr (row', later, done) ↦ inr (row', inr later, done)
+  ]
+
   -- ---- rows in two parts
 
   pub record Parted (early : List Act) (rows rest : List Row) (s t : Core) (w : IsLawfulFrom c me s (rows ++ rest) t) : Type 0 where
@@ -249,7 +270,7 @@ module _ (c : Setup) (me : ℕ) (signer : SigningState) where
       = ap greatest_of (map_append number_in (done_of c a) (all_done c acts)) ∙ greatest_append (map number_in (done_of c a)) (map number_in (all_done c acts)) in
       omega arith
 
-  first_number : (input : Input) (s : Core) (a : Act) → Begins c input a → (after c s a).executed ≡ s.executed
+  pub first_number : (input : Input) (s : Core) (a : Act) → Begins c input a → (after c s a).executed ≡ s.executed
   first_number (Received m) s a (reading, may, is) = ap (λ (x : Act). (after c s x).executed) is ∙ (recorded_keeps c s m m.body).number
   first_number TimedOut s a is = ap (λ (x : Act). (after c s x).executed) is
 

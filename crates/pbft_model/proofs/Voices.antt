@@ -1,4 +1,4 @@
--- What a correct replica signed, and that it speaks with one voice.
+-- What a replica signed, and that it speaks with one voice.
 use Rattle.std.proofs.Common.{◌≡◌, ℕ, ◌<◌, true, ◌&&◌, List, ◌∷◌, map, refl, sym, ap, subst, ◌∙◌, arith, inl, inr, ◌⊎◌}
 use Rattle.std.specs.Prelude.{◌==◌}
 use Rattle.std.specs.List.{list_all}
@@ -12,7 +12,7 @@ use Rattle.pbft_model.specs.Core.{Core, next_number}
 use Rattle.pbft_model.specs.Acts.{Act, Destination, Send, said, acted, signed_once_more}
 use Rattle.pbft_model.specs.Rules.{MaySay}
 use Rattle.pbft_model.specs.Duties.{among}
-use Rattle.pbft_model.specs.Histories.{core_after, IsEarlier, IsIn, HasSigned, Family, IsCorrect, IsUnforged, listed_in}
+use Rattle.pbft_model.specs.Histories.{core_after, IsEarlier, IsHistory, IsIn, HasSigned, Family, listed_in}
 use Rattle.pbft_model.proofs.Found.{in_any, from_map, in_map}
 use Rattle.pbft_model.proofs.Events.{Sent, sent_of, before, in_order, history_at, holds_on}
 use Rattle.pbft_model.proofs.Calm.{any_in, has_number, Calm}
@@ -24,7 +24,7 @@ module _ (c : Setup) (family : Family) where
   abbrev pub core_at : ℕ → List Act → Core
   core_at i acts = core_after c (family.signer i) acts
 
-  -- A correct replica sent an own message with this body.
+  -- A replica sent an own message with this body.
   pub record Said (i : ℕ) (body : Body) : Type 0 where
     pub early : List Act
     pub to : Destination
@@ -33,8 +33,9 @@ module _ (c : Setup) (family : Family) where
     pub body_is : message.body ≡ body
     pub says : MaySay c i (core_at i early) body
 
-  module _ (u : IsUnforged c family) where
-    said_of : (i : ℕ) (m : Signed Body) (body : Body) → IsCorrect c family.faulty i → Sent (family.acts i) m → m.body ≡ body → Said i body
+  -- the replicas whose histories are lawful
+  module _ (IsLawful : ℕ → Type 0) (histories : (i : ℕ) → IsLawful i → IsHistory c i (family.signer i) (family.acts i)) where
+    said_of : (i : ℕ) (m : Signed Body) (body : Body) → IsLawful i → Sent (family.acts i) m → m.body ≡ body → Said i body
     said_of i m body correct w e = record {
       early = w.early;
       to = w.to;
@@ -42,7 +43,7 @@ module _ (c : Setup) (family : Family) where
       point = w.at;
       body_is = e;
       says = subst (λ (b : Body). MaySay c i (core_at i w.early) b) e
-          ((history_at c i (family.signer i) (Send w.to m ∷ w.early) (family.acts i) w.at (u.histories i correct)).1.says);
+          ((history_at c i (family.signer i) (Send w.to m ∷ w.early) (family.acts i) w.at (histories i correct)).1.says);
     }
 
     -- it is a PrePrepare with these fields, alone or in the list of an own NewView
@@ -70,28 +71,31 @@ module _ (c : Setup) (family : Family) where
         let w = from_map (λ (q : Signed PrePrepare). part_of (as_message bodies.PrePrepare q)) (listed_in body) p h in
         other w.0.body (sym e ∙ ap (λ (x : Part). x.body) w.2)
 
-    alone : (i : ℕ) (b : Body) → ((q : PrePrepare) → b ≡ bodies.PrePrepare q → ⊥) → IsCorrect c family.faulty i → HasSigned (part_by i b) (family.acts i) → Said i b
-    alone i b other correct h =
-        let w = sent_of (part_by i b) (family.acts i) h in
+    alone : (i : ℕ) (p : Part) (b : Body) → p.body ≡ b → ((q : PrePrepare) → b ≡ bodies.PrePrepare q → ⊥) → IsLawful i → HasSigned p (family.acts i) → Said i b
+    alone i p b is other correct h =
+        let w = sent_of p (family.acts i) h in
         elim w.within [
-          | inl same ↦ said_of i w.message b correct w.sent (ap (λ (x : Part). x.body) (sym same))
-          | inr listed ↦ absurd (no_list w.message.body b (part_by i b) listed refl other)
+          | inl same ↦ said_of i w.message b correct w.sent (ap (λ (x : Part). x.body) (sym same) ∙ is)
+          | inr listed ↦ absurd (no_list w.message.body b p listed is other)
         ]
 
-    pub prepare_said : (i : ℕ) (b : Prepare) → IsCorrect c family.faulty i → HasSigned (part_by i (bodies.Prepare b)) (family.acts i) → Said i (bodies.Prepare b)
-    prepare_said i b correct h = alone i (bodies.Prepare b) (λ q e. cc) correct h
+    pub prepare_part : (i : ℕ) (p : Part) (b : Prepare) → p.body ≡ bodies.Prepare b → IsLawful i → HasSigned p (family.acts i) → Said i (bodies.Prepare b)
+    prepare_part i p b is correct h = alone i p (bodies.Prepare b) is (λ q e. cc) correct h
 
-    pub commit_said : (i : ℕ) (b : Commit) → IsCorrect c family.faulty i → HasSigned (part_by i (bodies.Commit b)) (family.acts i) → Said i (bodies.Commit b)
-    commit_said i b correct h = alone i (bodies.Commit b) (λ q e. cc) correct h
+    pub prepare_said : (i : ℕ) (b : Prepare) → IsLawful i → HasSigned (part_by i (bodies.Prepare b)) (family.acts i) → Said i (bodies.Prepare b)
+    prepare_said i b correct h = alone i (part_by i (bodies.Prepare b)) (bodies.Prepare b) refl (λ q e. cc) correct h
 
-    pub change_said : (i : ℕ) (b : ViewChange) → IsCorrect c family.faulty i → HasSigned (part_by i (bodies.ViewChange b)) (family.acts i) → Said i (bodies.ViewChange b)
-    change_said i b correct h = alone i (bodies.ViewChange b) (λ q e. cc) correct h
+    pub commit_said : (i : ℕ) (b : Commit) → IsLawful i → HasSigned (part_by i (bodies.Commit b)) (family.acts i) → Said i (bodies.Commit b)
+    commit_said i b correct h = alone i (part_by i (bodies.Commit b)) (bodies.Commit b) refl (λ q e. cc) correct h
 
-    pub checkpoint_said : (i : ℕ) (b : Checkpoint) → IsCorrect c family.faulty i → HasSigned (part_by i (bodies.Checkpoint b)) (family.acts i) → Said i (bodies.Checkpoint b)
-    checkpoint_said i b correct h = alone i (bodies.Checkpoint b) (λ q e. cc) correct h
+    pub change_said : (i : ℕ) (b : ViewChange) → IsLawful i → HasSigned (part_by i (bodies.ViewChange b)) (family.acts i) → Said i (bodies.ViewChange b)
+    change_said i b correct h = alone i (part_by i (bodies.ViewChange b)) (bodies.ViewChange b) refl (λ q e. cc) correct h
 
-    pub new_view_said : (i : ℕ) (b : NewView) → IsCorrect c family.faulty i → HasSigned (part_by i (bodies.NewView b)) (family.acts i) → Said i (bodies.NewView b)
-    new_view_said i b correct h = alone i (bodies.NewView b) (λ q e. cc) correct h
+    pub checkpoint_said : (i : ℕ) (b : Checkpoint) → IsLawful i → HasSigned (part_by i (bodies.Checkpoint b)) (family.acts i) → Said i (bodies.Checkpoint b)
+    checkpoint_said i b correct h = alone i (part_by i (bodies.Checkpoint b)) (bodies.Checkpoint b) refl (λ q e. cc) correct h
+
+    pub new_view_said : (i : ℕ) (b : NewView) → IsLawful i → HasSigned (part_by i (bodies.NewView b)) (family.acts i) → Said i (bodies.NewView b)
+    new_view_said i b correct h = alone i (part_by i (bodies.NewView b)) (bodies.NewView b) refl (λ q e. cc) correct h
 
     listed_body : (body : Body) (q : Signed PrePrepare) → IsIn q (listed_in body) → (n : NewView) × (body ≡ bodies.NewView n) × IsIn q n.pre_prepares
     listed_body (bodies.Request b) q h = absurd h
@@ -105,18 +109,21 @@ module _ (c : Setup) (family : Family) where
     listed_body (bodies.Fetch b) q h = absurd h
     listed_body (bodies.Snapshot b) q h = absurd h
 
-    pub led_from : (i : ℕ) (b : PrePrepare) → IsCorrect c family.faulty i → HasSigned (part_by i (bodies.PrePrepare b)) (family.acts i) → Led i (of_pre_prepare b)
-    led_from i b correct h =
-        let w = sent_of (part_by i (bodies.PrePrepare b)) (family.acts i) h in
+    pub led_part : (i : ℕ) (p : Part) (b : PrePrepare) → p.body ≡ bodies.PrePrepare b → IsLawful i → HasSigned p (family.acts i) → Led i (of_pre_prepare b)
+    led_part i p b is correct h =
+        let w = sent_of p (family.acts i) h in
         elim w.within [
-          | inl same ↦ (bodies.PrePrepare b, said_of i w.message (bodies.PrePrepare b) correct w.sent (ap (λ (x : Part). x.body) (sym same)), inl (b, refl, refl))
+          | inl same ↦ (bodies.PrePrepare b, said_of i w.message (bodies.PrePrepare b) correct w.sent (ap (λ (x : Part). x.body) (sym same) ∙ is), inl (b, refl, refl))
           | inr listed ↦
-              let v = from_map (λ (q : Signed PrePrepare). part_of (as_message bodies.PrePrepare q)) (listed_in w.message.body) (part_by i (bodies.PrePrepare b)) listed in
-              let same : bodies.PrePrepare b ≡ bodies.PrePrepare v.0.body = ap (λ (x : Part). x.body) v.2 in
+              let v = from_map (λ (q : Signed PrePrepare). part_of (as_message bodies.PrePrepare q)) (listed_in w.message.body) p listed in
+              let same : bodies.PrePrepare b ≡ bodies.PrePrepare v.0.body = sym is ∙ ap (λ (x : Part). x.body) v.2 in
               let n = listed_body w.message.body v.0 v.1 in
               let same_body : b ≡ v.0.body = cc in
               (bodies.NewView n.0, said_of i w.message (bodies.NewView n.0) correct w.sent n.1, inr (n.0, refl, (v.0, n.2, ap of_pre_prepare (sym same_body))))
         ]
+
+    pub led_from : (i : ℕ) (b : PrePrepare) → IsLawful i → HasSigned (part_by i (bodies.PrePrepare b)) (family.acts i) → Led i (of_pre_prepare b)
+    led_from i b correct h = led_part i (part_by i (bodies.PrePrepare b)) b refl correct h
 
     -- ---- one voice
 
@@ -124,12 +131,12 @@ module _ (c : Setup) (family : Family) where
     core_then i body w = ap (λ (b : Body). acted (signed_once_more (said c (core_at i w.early) w.message b) b)) w.body_is
 
     -- what holds after a point holds at a later one
-    pub later : (i view : ℕ) (X : Core → Type 0) → ((s t : Core) → Calm c s t → X s → X t) → IsCorrect c family.faulty i → (x y : List Act) → IsEarlier x y → IsEarlier y (family.acts i) → Stage view X (core_at i x) → Stage view X (core_at i y)
+    pub later : (i view : ℕ) (X : Core → Type 0) → ((s t : Core) → Calm c s t → X s → X t) → IsLawful i → (x y : List Act) → IsEarlier x y → IsEarlier y (family.acts i) → Stage view X (core_at i x) → Stage view X (core_at i y)
     later i view X keeps correct x y h k st =
-        holds_on c i (family.signer i) (Stage view X) (stage_after c i view X keeps) x y h (history_at c i (family.signer i) y (family.acts i) k (u.histories i correct)) st
+        holds_on c i (family.signer i) (Stage view X) (stage_after c i view X keeps) x y h (history_at c i (family.signer i) y (family.acts i) k (histories i correct)) st
 
     -- a thing is done once: what was done in the view is not done again
-    clash : (i : ℕ) (b b' : Body) (w : Said i b) (w' : Said i b') (view : ℕ) (X : Core → Type 0) → ((s t : Core) → Calm c s t → X s → X t) → IsCorrect c family.faulty i
+    clash : (i : ℕ) (b b' : Body) (w : Said i b) (w' : Said i b') (view : ℕ) (X : Core → Type 0) → ((s t : Core) → Calm c s t → X s → X t) → IsLawful i
         → Stage view X (core_at i (Send w.to w.message ∷ w.early)) → ((core_at i w'.early).view ≡ view) → ((core_at i w'.early).active ≡ true → X (core_at i w'.early) → ⊥)
         → IsEarlier (Send w.to w.message ∷ w.early) w'.early → ⊥
     clash i b b' w w' view X keeps correct st same never h =
@@ -160,7 +167,7 @@ module _ (c : Setup) (family : Family) where
     prepare_new s b i n says same (inl below) = let above = says.inside.above_low in absurd (omega arith)
     prepare_new s b i n says same (inr done) = true≢false (sym (subst (λ (k : ℕ). among s.prepared_numbers k ≡ true) same done) ∙ says.once)
 
-    pub followed_one : (i : ℕ) (x y : Fields) → IsCorrect c family.faulty i → Followed i x → Followed i y → x.view ≡ y.view → x.number ≡ y.number → x ≡ y
+    pub followed_one : (i : ℕ) (x y : Fields) → IsLawful i → Followed i x → Followed i y → x.view ≡ y.view → x.number ≡ y.number → x ≡ y
     followed_one i x y correct (b, w, is) (b', w', is') view number = elim (two_said i (bodies.Prepare b) (bodies.Prepare b') w w') [
       | inl same ↦ let same_body : b ≡ b' = cc in sym is ∙ ap of_prepare same_body ∙ is'
       | inr (inl h) ↦ absurd (clash i (bodies.Prepare b) (bodies.Prepare b') w w' b.view.0 (Prepared b.number.0) (prepared_keeps c b.number.0) correct (prepared_after i b w)
@@ -254,7 +261,7 @@ module _ (c : Setup) (family : Family) where
         let digest : x.digest ≡ y.digest = f.1 ∙ ap (given_digest c n.changes) number ∙ sym f'.1 in
         λ j. record { view = view j; number = number j; digest = digest j }
 
-    pub led_one : (i : ℕ) (x y : Fields) → IsCorrect c family.faulty i → Led i x → Led i y → x.view ≡ y.view → x.number ≡ y.number → x ≡ y
+    pub led_one : (i : ℕ) (x y : Fields) → IsLawful i → Led i x → Led i y → x.view ≡ y.view → x.number ≡ y.number → x ≡ y
     led_one i x y correct (body, w, leads) (body', w', leads') view number = elim (two_said i body body' w w') [
       | inl same ↦ same_leads i x y body (core_at i w.early) w.says leads (subst (λ (z : Body). Leads y z) (sym same) leads') view number
       | inr (inl h) ↦
@@ -278,7 +285,7 @@ module _ (c : Setup) (family : Family) where
     Vouched i x = Led i x ⊎ Followed i x
 
     -- a correct replica speaks with one voice
-    pub vouched_one : (i : ℕ) (x y : Fields) → IsCorrect c family.faulty i → Vouched i x → Vouched i y → x.view ≡ y.view → x.number ≡ y.number → x ≡ y
+    pub vouched_one : (i : ℕ) (x y : Fields) → IsLawful i → Vouched i x → Vouched i y → x.view ≡ y.view → x.number ≡ y.number → x ≡ y
     vouched_one i x y correct (inl w) (inl w') view number = led_one i x y correct w w' view number
     vouched_one i x y correct (inr w) (inr w') view number = followed_one i x y correct w w' view number
     vouched_one i x y correct (inl w) (inr w') view number = absurd (led_or_followed i x y w w' view)

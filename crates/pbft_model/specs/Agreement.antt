@@ -10,7 +10,7 @@ use Rattle.pbft_model.specs.Setup.{Setup, replicas, null_digest, digest_of, requ
 use Rattle.pbft_model.specs.Core.{Core}
 use Rattle.pbft_model.specs.Acts.{Act, Send, Destination}
 use Rattle.pbft_model.specs.Rules.{reply_in}
-use Rattle.pbft_model.specs.Histories.{Family, IsCorrect, IsUnforged, HasTaken, HasExecuted, IsEarlier, core_after}
+use Rattle.pbft_model.specs.Histories.{Family, IsCorrect, IsIn, IsUnforged, HasTaken, HasExecuted, IsEarlier, core_after}
 
 -- ---- honest families
 
@@ -89,10 +89,11 @@ pub record IsLastReplyAt (c : Setup) (entries : List (Option (Signed RequestBody
   pub kept : last_reply_of state b.client.0 ≡ Some (reply_in b)
 
 -- One list of requests, as long as the greatest number reached, accounts for every state, every execution and every
--- reply of a correct replica.
+-- reply of a correct replica. Its requests were taken by correct replicas.
 pub record AgreesOn (c : Setup) (family : Family) (entries : List (Option (Signed RequestBody))) : Type 0 where
   pub as_long : length entries ≡ greatest_reached c family (replicas c)
   pub asked : AllByRecursion (IsAsked c) entries
+  pub taken : (m : Signed RequestBody) → IsIn (Some m) entries → IsTaken c family (as_message bodies.Request m)
   pub states : (i : ℕ) → IsCorrect c family.faulty i → (acts : List Act) → IsEarlier acts (family.acts i)
       → HoldsState c entries (core_after c (family.signer i) acts)
   pub executed : (i number : ℕ) (digest : List ℕ) (w : HasExecuted c family i number digest) → IsServed c entries number digest w.service w.outcome

@@ -3,7 +3,7 @@
 use Rattle.std.specs.Prelude.{ℕ, zero, suc, ◌==◌, List, [], ◌∷◌, map, replicate, None}
 use Rattle.lms_tree.specs.declared.height.Height.TheVariants.{H5}
 use Rattle.lms_tree.specs.Signature.{public_key_of}
-use Rattle.pbft_model.specs.Words.{SigningState, Signed, Body, RequestBody, Client, as_message, sealed_message}
+use Rattle.pbft_model.specs.Words.{Configuration, SigningState, Signed, Body, RequestBody, Client, as_message, sealed_message}
 use Rattle.pbft_codec.specs.declared.body.Body.TheVariants as bodies
 use Rattle.pbft_model.specs.Setup.{Setup}
 use Rattle.pbft_model.specs.Acts.{Act, Take, Send, Execute, All, ToClient}
@@ -12,8 +12,7 @@ use Rattle.pbft_model.specs.Histories.{Family}
 use Rattle.pbft_model.specs.Journals.{Journals}
 use Rattle.pbft_model.specs.Worked.{the_client, the_request, the_outcome, after_request, fresh, own, a_pre_prepare, a_prepare, a_commit, reply_in_view_0}
 
--- f = 1, one client, and a hash that distinguishes the empty string, a request's bytes and a state's bytes by their first byte.
--- Whatever secrets the signers have, the keys are theirs.
+-- f = 1 and one client, under whatever hash. Whatever secrets the signers have, the keys are theirs.
 abbrev pub tree_id : ℕ → List ℕ
 tree_id n = n ∷ replicate 15 0
 
@@ -23,28 +22,27 @@ signer_of secrets n = fresh (tree_id n) (secrets n)
 abbrev pub key_of : (ℕ → List ℕ) → ℕ → List ℕ
 key_of secrets n = public_key_of H5 (tree_id n) (secrets n)
 
-abbrev pub first_byte_hash : List ℕ → List ℕ
-first_byte_hash [] = replicate 32 0
-first_byte_hash (x ∷ xs) = x ∷ replicate 31 0
-
-abbrev pub the_setup : (ℕ → List ℕ) → Setup
-the_setup secrets = record {
-  config = record {
-    f = 1;
-    k = 2;
-    keys = key_of secrets 0 ∷ key_of secrets 1 ∷ key_of secrets 2 ∷ key_of secrets 3 ∷ [];
-    clients = the_client (key_of secrets 100) ∷ [];
-  };
-  hash = first_byte_hash;
+abbrev pub the_config : (ℕ → List ℕ) → Configuration
+the_config secrets = record {
+  f = 1;
+  k = 2;
+  keys = key_of secrets 0 ∷ key_of secrets 1 ∷ key_of secrets 2 ∷ key_of secrets 3 ∷ [];
+  clients = the_client (key_of secrets 100) ∷ [];
 }
+
+abbrev pub the_setup : (List ℕ → List ℕ) → (ℕ → List ℕ) → Setup
+the_setup hash secrets = record { config = the_config secrets; hash = hash }
 
 abbrev pub a_request : (ℕ → List ℕ) → Signed RequestBody
 a_request secrets =
     record { role = Client; id = 100; body = the_request.body; sig = (sealed_message (signer_of secrets 100) Client 100 (bodies.Request the_request.body)).sig }
 
--- a request's signed bytes begin with the client's role
+-- The SHA-256 digest of the request's signed bytes: the client's role and id, the kind, the time, and the operation
+-- behind its length.
 abbrev pub the_digest : List ℕ
-the_digest = 2 ∷ replicate 31 0
+the_digest =
+    128 ∷ 94 ∷ 172 ∷ 70 ∷ 55 ∷ 44 ∷ 78 ∷ 132 ∷ 109 ∷ 2 ∷ 203 ∷ 227 ∷ 99 ∷ 187 ∷ 35 ∷ 196 ∷
+    189 ∷ 220 ∷ 186 ∷ 90 ∷ 222 ∷ 143 ∷ 64 ∷ 227 ∷ 53 ∷ 176 ∷ 0 ∷ 138 ∷ 227 ∷ 81 ∷ 1 ∷ 141 ∷ []
 
 -- a message of a replica, by the leaf that signs
 abbrev pub message_of : (ℕ → List ℕ) → ℕ → ℕ → Body → Signed Body
@@ -63,7 +61,7 @@ acts_of_primary secrets =
 -- Replica 1 prepares and commits too, and executes the request.
 abbrev pub acts_of_backup : (ℕ → List ℕ) → List Act
 acts_of_backup secrets =
-    Execute 1 the_digest (after_request (the_setup secrets).config) the_outcome
+    Execute 1 the_digest (after_request (the_config secrets)) the_outcome
     ∷ Take (message_of secrets 3 1 (a_commit 0 1 the_digest)) None
     ∷ Take (message_of secrets 0 1 (a_commit 0 1 the_digest)) None
     ∷ Send All (message_of secrets 1 1 (a_commit 0 1 the_digest))
@@ -116,7 +114,7 @@ reactions_of_backup secrets =
     ∷ (message_of secrets 0 1 (a_commit 0 1 the_digest), [])
     ∷ (
       message_of secrets 3 1 (a_commit 0 1 the_digest),
-      Execute 1 the_digest (after_request (the_setup secrets).config) the_outcome
+      Execute 1 the_digest (after_request (the_config secrets)) the_outcome
           ∷ Send (ToClient 100) (message_of secrets 1 2 reply_in_view_0)
           ∷ [],
     )
@@ -128,6 +126,6 @@ reactions_by secrets zero = reactions_of_primary secrets
 reactions_by secrets (suc zero) = reactions_of_backup secrets
 reactions_by secrets (suc (suc n)) = []
 
-abbrev pub the_journals : (ℕ → List ℕ) → Journals
-the_journals secrets =
-    record { faulty = λ i. i == 3; signer = signer_of secrets; rows = λ i. rows_of (the_setup secrets) (reactions_by secrets i) }
+abbrev pub the_journals : (List ℕ → List ℕ) → (ℕ → List ℕ) → Journals
+the_journals hash secrets =
+    record { faulty = λ i. i == 3; signer = signer_of secrets; rows = λ i. rows_of (the_setup hash secrets) (reactions_by secrets i) }

@@ -1,6 +1,6 @@
 -- Statement: agreement over journals: what an honest family of journals is, and how one list of requests accounts for
 -- all that its rows report.
-use Rattle.std.specs.Prelude.{◌≡◌, ◌⊎◌, ℕ, zero, suc, ◌-◌, ◌≤◌, ◌++◌, max, if◌then◌else◌, true, Bool, List, [], ◌∷◌, length, map, slice_get, Option, Some}
+use Rattle.std.specs.Prelude.{◌≡◌, ◌⊎◌, ℕ, zero, suc, ◌+◌, ◌-◌, ◌≤◌, ◌<◌, ◌==◌, nat_lt, ◌++◌, max, if◌then◌else◌, true, Bool, List, [], ◌∷◌, length, map, slice_get, Option, Some, None}
 use Rattle.std.specs.List.{AllByRecursion, flat_map}
 use Rattle.pbft_model.specs.Words.{SigningState, Signed, Body, RequestBody, ReplyBody, Snapshot, Replica, Part, IsConfiguration, as_message, part_of, messages_in, signed_text}
 use Rattle.pbft_codec.specs.declared.body.Body.TheVariants as bodies
@@ -8,8 +8,8 @@ use Rattle.pbft_model.specs.Sequential.{Service, Outcome, encoded}
 use Rattle.pbft_model.specs.Setup.{Setup, replicas, count}
 use Rattle.pbft_model.specs.Validity.{greatest_of}
 use Rattle.pbft_model.specs.Core.{Core, start_of}
-use Rattle.pbft_model.specs.Acts.{Act, Execute}
-use Rattle.pbft_model.specs.Rows.{Row, Received, Output, Done, Executed, Installed, IsNext, IsLawfulFrom, IsListed, result_of}
+use Rattle.pbft_model.specs.Acts.{Act, Send, Execute, after}
+use Rattle.pbft_model.specs.Rows.{Row, Received, Output, Done, Executed, Installed, Follows, IsNext, IsLawfulFrom, IsListed, all_done, result_of}
 use Rattle.pbft_model.specs.Histories.{IsIn, IsCorrect, signed_in}
 use Rattle.pbft_model.specs.Agreement.{entry_digest, IsAsked, ServesFirst, HoldsState, IsLastReplyAt}
 
@@ -42,6 +42,13 @@ abbrev pub RunsTo : Setup → ℕ → Core → List Row → Service → Type 0
 RunsTo c me s [] state = ⊥
 RunsTo c me s (row ∷ rows) state = (u : Core) × (next : IsNext c me s row u) × (ExecutesTo state next.acts ⊎ RunsTo c me u rows state)
 
+-- The number that all of this leads to, in its order: each execution is of the next number, and each installation of a
+-- higher one; none where one is out of turn.
+abbrev pub rises_to : ℕ → List Done → Option ℕ
+rises_to n [] = Some n
+rises_to n (Executed number digest result ∷ later) = if number == n + 1 then rises_to number later else None
+rises_to n (Installed number digest ∷ later) = if nat_lt n number then rises_to number later else None
+
 -- the number of what was done
 abbrev pub number_in : Done → ℕ
 number_in (Executed number digest result) = number
@@ -54,6 +61,43 @@ greatest_in rows = greatest_of (flat_map (λ row. map number_in row.done) rows)
 -- A replica's core is this after these rows.
 abbrev pub ComesTo : Setup → Journals → ℕ → List Row → Core → Type 0
 ComesTo c j i rows s = IsLawfulFrom c i (start_of c (j.signer i)) rows s
+
+-- A replica has that core within a row which begins from this one: the row's input has come, and so many of its acts
+-- were done.
+pub record IsWithin (c : Setup) (me : ℕ) (s : Core) (row : Row) (t : Core) : Type 0 where
+  pub last : Core
+  pub next : IsNext c me s row last
+  pub acts : List Act
+  pub later : List Act
+  pub splits : next.acts ≡ acts ++ later
+  pub follows : Follows c me (after c s next.first) acts t
+
+abbrev pub IsWithinFirst : Setup → ℕ → Core → List Row → Core → Type 0
+IsWithinFirst c me s [] t = ⊥
+IsWithinFirst c me s (row ∷ rows) t = IsWithin c me s row t
+
+-- A replica had this core: behind some of its rows, or within the row that follows them.
+pub record HadCore (c : Setup) (j : Journals) (i : ℕ) (t : Core) : Type 0 where
+  pub rows : List Row
+  pub rest : List Row
+  pub splits : j.rows i ≡ rows ++ rest
+  pub core : Core
+  pub comes : ComesTo c j i rows core
+  pub there : (t ≡ core) ⊎ IsWithinFirst c i core rest t
+
+-- An own message is sent within a row which begins from this core: after these of its acts, from the core that they lead to.
+pub record IsSent (c : Setup) (me : ℕ) (s : Core) (row : Row) (output : Output) : Type 0 where
+  pub last : Core
+  pub next : IsNext c me s row last
+  pub earlier : List Act
+  pub later : List Act
+  pub splits : next.acts ≡ earlier ++ Send output.to output.message ∷ later
+  pub from : Core
+  pub follows : Follows c me (after c s next.first) earlier from
+
+-- The number was executed or installed.
+abbrev pub HasReached : ℕ → List Done → Type 0
+HasReached number items = (done : Done) × IsIn done items × (number_in done ≡ number)
 
 -- ---- honest families
 
@@ -93,6 +137,12 @@ abbrev pub greatest_among : Journals → ℕ → ℕ
 greatest_among j zero = 0
 greatest_among j (suc n) = max (reached_in j n) (greatest_among j n)
 
+-- Each number up to the greatest reached was executed by a correct replica.
+abbrev pub ExecutesEach : Setup → Journals → Type 0
+ExecutesEach c j =
+    (n : ℕ) → n < greatest_among j (replicas c)
+    → (i : ℕ) × (digest result : List ℕ) × IsCorrect c j.faulty i × HasDone (Executed (n + 1) digest result) (j.rows i)
+
 -- What was executed is the entry at its number, with its digest, and the result is the sequential service's.
 pub record IsAccountedFor (c : Setup) (entries : List (Option (Signed RequestBody))) (number : ℕ) (digest result : List ℕ) : Type 0 where
   pub not_zero : 1 ≤ number
@@ -113,20 +163,30 @@ pub record IsInstalledFrom (c : Setup) (entries : List (Option (Signed RequestBo
   pub serves : ServesFirst c entries number state outcomes
   pub digest_is : digest ≡ c.hash (encoded state)
 
+-- A reply that is sent in a row is the last one to its client after a number that the replica had reached as it sent
+-- it: in the rows before, or by the acts before it in its row.
+pub record IsLastReply (c : Setup) (j : Journals) (entries : List (Option (Signed RequestBody))) (i : ℕ) (rows : List Row) (row : Row) (output : Output) (b : ReplyBody) : Type 0 where
+  pub core : Core
+  pub comes : ComesTo c j i rows core
+  pub sent : IsSent c i core row output
+  pub number : ℕ
+  pub reached : HasReached number (flat_map (λ row. row.done) rows ++ all_done c sent.earlier)
+  pub kept : IsLastReplyAt c entries number b
+
 -- One list of requests, as long as the greatest number reached, accounts for all that the journals of correct replicas
--- report: every state after a row, every execution, every installation and every reply.
+-- report: every state behind a row and within it, every execution, every installation and every reply. Its requests
+-- were received by correct replicas.
 pub record AgreesOver (c : Setup) (j : Journals) (entries : List (Option (Signed RequestBody))) : Type 0 where
   pub as_long : length entries ≡ greatest_among j (replicas c)
   pub asked : AllByRecursion (IsAsked c) entries
-  pub states : (i : ℕ) → IsCorrect c j.faulty i → (rows rest : List Row) → j.rows i ≡ rows ++ rest → (s : Core) → ComesTo c j i rows s
-      → HoldsState c entries s
+  pub received : (m : Signed RequestBody) → IsIn (Some m) entries → IsReceived c j (as_message bodies.Request m)
+  pub states : (i : ℕ) → IsCorrect c j.faulty i → (s : Core) → HadCore c j i s → HoldsState c entries s
   pub executed : (i number : ℕ) (digest result : List ℕ) → IsCorrect c j.faulty i → HasDone (Executed number digest result) (j.rows i)
       → IsAccountedFor c entries number digest result
   pub installed : (i number : ℕ) (digest : List ℕ) → IsCorrect c j.faulty i → HasDone (Installed number digest) (j.rows i)
       → IsInstalledFrom c entries number digest
   pub replies : (i : ℕ) (rows rest : List Row) (row : Row) (output : Output) (b : ReplyBody) → IsCorrect c j.faulty i → j.rows i ≡ rows ++ row ∷ rest
-      → IsIn output row.outputs → output.own ≡ true → output.message.body ≡ bodies.Reply b
-      → (number : ℕ) × (number ≤ greatest_in (rows ++ row ∷ [])) × IsLastReplyAt c entries number b
+      → IsIn output row.outputs → output.own ≡ true → output.message.body ≡ bodies.Reply b → IsLastReply c j entries i rows row output b
 
 abbrev pub Agrees : Setup → Journals → Type 0
 Agrees c j = (entries : List (Option (Signed RequestBody))) × AgreesOver c j entries

@@ -13,6 +13,7 @@ pub mod Histories
 pub mod Received
 pub mod Agreement
 pub mod Journals
+pub mod RowRules
 pub mod Worked
 pub mod Example
 pub mod Ending

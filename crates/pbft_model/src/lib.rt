@@ -6,18 +6,20 @@
 ghost use Rattle.pbft_model.specs.Setup.{Setup, number_limit, view_limit};
 ghost use Rattle.pbft_model.specs.Ending.{left_to_do};
 ghost use Rattle.std.specs.Prelude.{◌≡◌, ◌≤◌, ◌<◌, ◌⊎◌, ℕ, List, [], ◌∷◌, ◌++◌, Some, None, true};
-ghost use Rattle.std.specs.List.{AllByRecursion};
+ghost use Rattle.std.specs.List.{AllByRecursion, flat_map};
 ghost use Rattle.lms_tree.specs.SigningState.{SigningState};
 ghost use Rattle.pbft_model.specs.Acts.{Act, Execute, after};
 ghost use Rattle.pbft_model.specs.Agreement.{IsHonest, AgreesByNumber};
 ghost use Rattle.pbft_model.specs.Example.{the_setup, the_family, the_journals, the_digest, message_of};
-ghost use Rattle.pbft_model.specs.Journals.{Journals, HasDone, HasGiven, IsHonestFamily, Agrees};
+ghost use Rattle.pbft_model.specs.Journals.{Journals, HasDone, HasGiven, IsHonestFamily, ExecutesEach, rises_to, Agrees};
 ghost use Rattle.pbft_model.specs.Core.{Core, request_of, start_of};
 ghost use Rattle.pbft_model.specs.Duties.{Executing, due, NothingBefore};
-ghost use Rattle.pbft_model.specs.Received.{TakesBytes, ReceivesBytes};
+ghost use Rattle.pbft_model.specs.Received.{TakesBytes, ReceivesBytes, ComesBehind, IsOpened, HasReading, IsSnapshot, GivesRowOrHalt};
 ghost use Rattle.pbft_model.specs.Rows.{HasLeaves, Row, Input, TimedOut, Halt, Exhausted, Worn, HaltsBy, Begins, Follows, Executed, Fulfils, Continues, IsLawfulFrom, IsNext, FollowsWithout, RepliesAlone, leaves_in};
+ghost use Rattle.pbft_model.specs.RowRules.{HasOneVoice, KeepsViews, ChecksWhereExecuted};
 ghost use Rattle.pbft_model.specs.Rules.{Allowed};
 ghost use Rattle.pbft_model.specs.Sequential.{Service, Outcome, IsStep};
+ghost use Rattle.sha2.specs.Sha256.{sha256};
 ghost use Rattle.host_types.specs.Configuration.{IsConfiguration};
 ghost use Rattle.pbft_model.specs.Setup.{signer_after};
 ghost use Rattle.pbft_model.specs.Words.{leaf_count, part_of};
@@ -48,20 +50,41 @@ pub fn agreement()
     ensures { (c : Setup) (journals : Journals) → IsHonestFamily c journals → Agrees c journals }
 {}
 
-/// An honest family of histories exists in which a correct replica executes a client's request,
-/// whatever the signers' secrets are.
-pub fn an_honest_family_executes()
-    ensures honest { (secrets : ℕ → List ℕ) → IsHonest (the_setup secrets) (the_family secrets) }
-    ensures executes { (secrets : ℕ → List ℕ) → HasExecuted (the_setup secrets) (the_family secrets) 1 1 the_digest }
+/// Each number up to the greatest reached was executed by a correct replica, in an honest family of journals.
+pub fn each_number_was_executed()
+    ensures { (c : Setup) (journals : Journals) → IsHonestFamily c journals → ExecutesEach c journals }
 {}
 
-/// An honest family of journals exists in which a correct replica executes a client's request and
-/// replies to it, whatever the signers' secrets are: agreement's one premise can hold.
+/// What a lawful journal's rows did rises by one from 0, or from the number installed last, up to the number that its
+/// core has executed.
+pub fn executions_rise_by_one()
+    ensures { (c : Setup) (me : ℕ) (signer : SigningState) (rows : List Row) (last : Core) → IsLawfulFrom c me (start_of c signer) rows last
+        → rises_to 0 (flat_map (λ row. row.done) rows) ≡ Some last.executed }
+{}
+
+/// Rules that the rows of a lawful journal show, each by itself: own PrePrepares, those inside own NewViews among them,
+/// and own Prepares have one digest for each view and number; the view never falls, and nothing of a view is signed
+/// after it was left; a Checkpoint is signed in the row alone that executed its number.
+pub fn rows_keep_the_rules()
+    ensures voice { (c : Setup) (me : ℕ) (signer : SigningState) (rows : List Row) (last : Core) → IsLawfulFrom c me (start_of c signer) rows last → HasOneVoice rows }
+    ensures views { (c : Setup) (me : ℕ) (signer : SigningState) (rows : List Row) (last : Core) → IsLawfulFrom c me (start_of c signer) rows last → KeepsViews c me last }
+    ensures checkpoints { (c : Setup) (me : ℕ) (signer : SigningState) (rows : List Row) (last : Core) → IsLawfulFrom c me (start_of c signer) rows last → ChecksWhereExecuted rows }
+{}
+
+/// An honest family of histories under SHA-256 exists in which a correct replica executes a client's
+/// request, whatever the signers' secrets are.
+pub fn an_honest_family_executes()
+    ensures honest { (secrets : ℕ → List ℕ) → IsHonest (the_setup sha256 secrets) (the_family secrets) }
+    ensures executes { (secrets : ℕ → List ℕ) → HasExecuted (the_setup sha256 secrets) (the_family secrets) 1 1 the_digest }
+{}
+
+/// An honest family of journals under SHA-256 exists in which a correct replica executes a client's
+/// request and replies to it, whatever the signers' secrets are: agreement's one premise can hold.
 pub fn honest_journals_execute()
-    ensures honest { (secrets : ℕ → List ℕ) → IsHonestFamily (the_setup secrets) (the_journals secrets) }
-    ensures executes { (secrets : ℕ → List ℕ) → IsCorrect (the_setup secrets) (the_journals secrets).faulty 1
-        × HasDone (Executed 1 the_digest (1 ∷ [])) ((the_journals secrets).rows 1) }
-    ensures replies { (secrets : ℕ → List ℕ) → HasGiven (part_of (message_of secrets 1 2 reply_in_view_0)) ((the_journals secrets).rows 1) }
+    ensures honest { (secrets : ℕ → List ℕ) → IsHonestFamily (the_setup sha256 secrets) (the_journals sha256 secrets) }
+    ensures executes { (secrets : ℕ → List ℕ) → IsCorrect (the_setup sha256 secrets) (the_journals sha256 secrets).faulty 1
+        × HasDone (Executed 1 the_digest (1 ∷ [])) ((the_journals sha256 secrets).rows 1) }
+    ensures replies { (secrets : ℕ → List ℕ) → HasGiven (part_of (message_of secrets 1 2 reply_in_view_0)) ((the_journals sha256 secrets).rows 1) }
 {}
 
 /// What is due is allowed: whatever act does the duty, at each point of a history.
@@ -150,6 +173,16 @@ pub fn an_input_gives_a_row_or_a_halt()
         → ((row : Row) × (row.input ≡ input) × IsNext c me s row t)
         ⊎ (((a : Act) × Follows c me (after c s first) (acts ++ a ∷ []) (after c t a))
         ⊎ ((halt : Halt) × HaltsBy c me s input halt)) }
+{}
+
+/// Behind the rows of a journal every input gives its row or halts the replica, as soon as it begins: a timeout, a
+/// message that was opened and is no Snapshot, and a Snapshot with its reading. That a Snapshot has none is
+/// impossible; which it has, a decoder decides. So for no input both are impossible.
+pub fn every_input_gives_a_row_or_a_halt()
+    ensures begun { (c : Setup) (me : ℕ) (s : Core) (input : Input) → ComesBehind c me s input → (first : Act) → Begins c input first → GivesRowOrHalt c me s input }
+    ensures read { (c : Setup) (me : ℕ) (s : Core) (input : Input) → ComesBehind c me s input → IsOpened c input → HasReading c input → GivesRowOrHalt c me s input }
+    ensures others { (c : Setup) (me : ℕ) (s : Core) (input : Input) → ComesBehind c me s input → IsOpened c input → (IsSnapshot input → ⊥) → GivesRowOrHalt c me s input }
+    ensures never_neither { (c : Setup) (me : ℕ) (s : Core) (input : Input) → ComesBehind c me s input → IsOpened c input → (GivesRowOrHalt c me s input → ⊥) → ⊥ }
 {}
 
 /// An input that gives a row halts no replica, and one that halts it does so for one reason.

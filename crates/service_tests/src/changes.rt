@@ -65,15 +65,18 @@ const CHANGES: &str = "\
 yes | 0 1 01 | nothing\n\
 no | 420 420 00 | a byte more\n\
 no | 0 1 02 | version 2\n\
-no | 2 3 01 | the number 2^48\n\
+no | 2 3 01 | the number 2^48 + 6\n\
+no | 1 9 0001000000000000 | the number 2^48\n\
 yes | 3 9 ff*6 | the number 2^48 - 1\n\
 no | 8 9 05 | a kept number above the state's\n\
 no | 98 99 00 | a kept number of 0\n\
+yes | 17 25 8000000000000000 | a time of 2^63\n\
 no | 82 83 2d | a client that is not listed\n\
 no | 81 83 0096 | clients out of order\n\
 no | 81 83 00c8 | a client twice\n\
 yes | 101 103 0109*131 | a result of 265 bytes\n\
 no | 101 104 010a*132 | a result of 266 bytes\n\
+yes | 33 46 00000000 | a result of no bytes\n\
 no | 388 420 -, 111 112 01 | a tenant missing\n\
 no | 391 392 01 | a tenant twice\n\
 no | 391 392 01, 115 116 02 | tenants out of order\n\

@@ -8,3 +8,5 @@ pub mod Reported
 pub mod Entering
 pub mod EqualParts
 pub mod Sealing
+pub mod ValidParts
+pub mod LogCertificates

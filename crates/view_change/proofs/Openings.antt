@@ -74,7 +74,7 @@ certificate_is c k x w a =
     ∙ ap (λ (m : ℕ). (true && nat_le (2 * c.f) m) && (length x.prepares == 2 * c.f)) (sym others)
     ∙ ap (λ (b : Bool). (b && nat_le (2 * c.f) (count (λ i. not (i == primary (setup_of c) fields.view) && voter test x.prepares i) n)) && (length x.prepares == 2 * c.f)) (sym proposes)
 
-certificates_are : (c : Configuration) → IsConfiguration c → (xs : List Certificate) → AllByRecursion CertificateWellFormed xs → AllByRecursion (IsAuthentic c) (flat_map in_certificate xs)
+pub certificates_are : (c : Configuration) → IsConfiguration c → (xs : List Certificate) → AllByRecursion CertificateWellFormed xs → AllByRecursion (IsAuthentic c) (flat_map in_certificate xs)
     → list_all (is_full_certificate c) xs ≡ list_all (is_certificate (setup_of c)) xs
 certificates_are c k [] w a = refl
 certificates_are c k (x ∷ xs) w a =

@@ -190,7 +190,7 @@ ranges_of c kind P (m ∷ ms) f h =
     (record { id_in_range = range.id_in_range; body_in_range = f m.body range.body_in_range }, ranges_of c kind P ms f h.1)
 
 -- and they are authentic themselves
-authentic_of : {B : Type 0} (c : Configuration) (kind : B → Body) (ms : List (Signed B)) → Each c kind ms → AllByRecursion (IsAuthentic c) (map (as_message kind) ms)
+pub authentic_of : {B : Type 0} (c : Configuration) (kind : B → Body) (ms : List (Signed B)) → Each c kind ms → AllByRecursion (IsAuthentic c) (map (as_message kind) ms)
 authentic_of c kind [] h = tt
 authentic_of c kind (m ∷ ms) h = (h.0.authentic.0, authentic_of c kind ms h.1)
 
@@ -199,13 +199,13 @@ all_authentic : (c : Configuration) (ms : List (Signed ViewChange)) → Each c b
 all_authentic c [] h = tt
 all_authentic c (m ∷ ms) h = all_join (IsAuthentic c) (with_nested m) (flat_map with_nested ms) h.0.authentic (all_authentic c ms h.1)
 
-each_of : {B : Type 0} (c : Configuration) (kind : B → Body) (l : CheckedMessages) (ms : List (Signed B)) → AreChecked l → l.config ≡ c → l.messages ≡ map (as_message kind) ms → Each c kind ms
+pub each_of : {B : Type 0} (c : Configuration) (kind : B → Body) (l : CheckedMessages) (ms : List (Signed B)) → AreChecked l → l.config ≡ c → l.messages ≡ map (as_message kind) ms → Each c kind ms
 each_of c kind l ms h is all =
     subst (λ (k : CheckedMessages). AllByRecursion (λ x. IsChecked (under k.config x)) k.messages) (λ i. record { config = is i; messages = all i }) h
 
 -- ---- certificates
 
-record IsGood (c : Configuration) (ys : List Certificate) : Type 0 where
+pub record IsGood (c : Configuration) (ys : List Certificate) : Type 0 where
   pub well_formed : AllByRecursion CertificateWellFormed ys
   pub in_range : AllByRecursion CertificateFieldsInRange ys
   pub authentic : AllByRecursion (IsAuthentic c) (flat_map in_certificate ys)
@@ -225,7 +225,7 @@ one_good c x y is under_c checked short =
       (own.authentic.0, authentic_of c bodies.Prepare y.prepares each),
     )
 
-all_good : (c : Configuration) (xs : List CheckedCertificate) (ys : List Certificate) → OneForOne IsCertificateOf xs ys → AreUnder c xs → AllByRecursion IsCheckedCertificate xs → AllByRecursion HasShortList ys → IsGood c ys
+pub all_good : (c : Configuration) (xs : List CheckedCertificate) (ys : List Certificate) → OneForOne IsCertificateOf xs ys → AreUnder c xs → AllByRecursion IsCheckedCertificate xs → AllByRecursion HasShortList ys → IsGood c ys
 all_good c [] [] are under_c checked short = record { well_formed = tt; in_range = tt; authentic = tt }
 all_good c [] (y ∷ ys) are under_c checked short = absurd are
 all_good c (x ∷ xs) [] are under_c checked short = absurd are

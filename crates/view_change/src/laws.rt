@@ -1,12 +1,16 @@
-//! Laws of the bodies that a replica seals, for every configuration.
+//! Laws of the bodies that a replica seals, and of the certificates that they carry, for every configuration.
 
-ghost use Rattle.std.specs.Prelude.{◌≤◌, length};
+ghost use Rattle.std.specs.Prelude.{◌≡◌, ◌≤◌, ℕ, Some, length};
 ghost use Rattle.host_types.specs.Configuration.{Configuration};
 ghost use Rattle.pbft_codec.specs.declared.body.Body.{Body};
 ghost use Rattle.pbft_codec.specs.declared.body.Body.TheVariants as bodies;
 ghost use Rattle.pbft_codec.specs.Limits.{FetchFieldsInRange, FetchWellFormed, IsDigest, IsSequenceNumber};
 ghost use Rattle.pbft_model.specs.Words.{Checkpoint, Commit, Fetch, PrePrepare, Prepare, ReplyBody, Signed, Snapshot};
+ghost use Rattle.pbft_model.specs.Setup.{Setup};
+ghost use Rattle.quorum_log.specs.Log.{Log, checked_certificate};
+ghost use Rattle.quorum_log.specs.declared.certificate.CheckedCertificate.{CheckedCertificate};
 ghost use Rattle.seal.specs.Signers.{IsAuthentic};
+ghost use Rattle.view_change.specs.Made.{IsCertificateAt};
 ghost use Rattle.view_change.specs.Sealable.{IsSealable};
 
 /// The signature of an authentic message has at most the 2,508 bytes of one of a tree of height 10
@@ -26,4 +30,10 @@ pub fn bodies_can_be_sealed()
     ensures checkpoint { (c : Configuration) (b : Checkpoint) → IsSequenceNumber b.number → IsDigest b.digest → IsSealable c (bodies.Checkpoint b) }
     ensures fetch { (c : Configuration) (b : Fetch) → FetchWellFormed b → FetchFieldsInRange b → IsSealable c (bodies.Fetch b) }
     ensures snapshot { (c : Configuration) (b : Snapshot) → IsSequenceNumber b.number → length b.state ≤ 5_787_825 → IsSealable c (bodies.Snapshot b) }
+{}
+
+/// What a log's `certificate` gives at a number in a view is a certificate of that view and number: the
+/// PrePrepare, and matching Prepares of 2f replicas, ids ascending, as `make` wants of valid parts.
+pub fn certificates_of_a_log_fit()
+    ensures { (c : Setup) (l : Log) (view number : ℕ) (x : CheckedCertificate) → checked_certificate c l view number ≡ Some x → IsCertificateAt c.config view number x }
 {}

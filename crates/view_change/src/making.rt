@@ -2,13 +2,14 @@
 
 ghost use Rattle.std.specs.Prelude.{◌≡◌, List, None, Some, IfErr, IfOk, OnOk};
 ghost use Rattle.std.specs.List.{AllByRecursion};
+ghost use Rattle.host_types.specs.Configuration.{IsConfiguration};
 ghost use Rattle.pbft_codec.specs.declared.body.Body.TheVariants as bodies;
 ghost use Rattle.pbft_codec.specs.declared.body.certificate.Certificate.{Certificate};
 ghost use Rattle.pbft_codec.specs.declared.body.new_view.NewView.{NewView};
 ghost use Rattle.pbft_codec.specs.declared.body.view_change.ViewChange.{ViewChange};
 ghost use Rattle.pbft_model.specs.Validity.{view_change_fault};
 ghost use Rattle.view_change.specs.declared.fault.ViewFault.TheVariants.{Memory};
-ghost use Rattle.view_change.specs.Made.{HasValidParts, IsCertificateOf, IsMadeOf, IsNewViewOf, OneForOne};
+ghost use Rattle.view_change.specs.Made.{AreValidParts, HasValidParts, IsCertificateOf, IsMadeOf, IsNewViewOf, IsValidChange, OneForOne};
 ghost use Rattle.view_change.specs.Sealable.{AreUnder, HasFewMessages, HasShortLists, IsCheckedCertificate, IsSealable};
 ghost use Rattle.view_change.specs.Setups.{setup_of};
 
@@ -70,6 +71,7 @@ pub fn make(
     ensures made { (v : ViewChange) → IsMadeOf view low proof.now certificates.now v → IfOk result (λ body. body ≡ bodies.ViewChange v) }
     ensures valid { (v : ViewChange) → IsMadeOf view low proof.now certificates.now v → HasValidParts (setup_of proof.now.config) v
         → view_change_fault (setup_of proof.now.config) v ≡ None }
+    ensures from_valid_parts { IsConfiguration proof.now.config → AreValidParts view low proof.now certificates.now → IfOk result (IsValidChange (setup_of proof.now.config)) }
     ensures sealable { (v : ViewChange) → IsMadeOf view low proof.now certificates.now v → HasShortLists v → AreUnder proof.now.config certificates.now
         → IfOk result (IsSealable proof.now.config) }
     ensures memory { IfErr result (λ fault. fault ≡ Memory) }

@@ -1,9 +1,9 @@
 //! What records of replicas agree on.
 
-use crate::group::{Group, set_of};
+use crate::group::{CLIENT, Group, set_of};
 use crate::runs::{FIRST, SECOND};
 use byz_world::{AuditFault, Event, World, audit};
-use host_types::{Bytes, Digest, ReplicaId, SeqNo, View};
+use host_types::{Bytes, ClientId, Digest, ReplicaId, Request, SeqNo, View};
 use pbft_codec::{Body, Checkpoint, Commit, PrePrepare, Prepare, Snapshot};
 use replica_core::Row;
 use service_core::State;
@@ -101,6 +101,25 @@ fn fourth(group: &Group) -> Result<State, Fail> {
     Ok(state)
 }
 
+// Another state of that number: the first request was the client's.
+fn other_fourth(group: &Group) -> Result<State, Fail> {
+    let mut state = State::genesis(group.alloc, Arc::try_clone(&group.config)?)?;
+    let request = Request {
+        client: ClientId(CLIENT),
+        time: 1,
+        op: Bytes::from_vec(Vec::new(group.alloc)),
+    };
+    if state.number().0 < 4 && state.is_listed(request.client) {
+        state.apply(Some(&request))?;
+    }
+    for _ in 0..3 {
+        if state.number().0 < 4 {
+            state.apply(None)?;
+        }
+    }
+    Ok(state)
+}
+
 // It executes the null request at 1 to 8.
 fn put_eight(group: &mut Group, record: &mut Vec<Row>) -> Result<(), Fail> {
     let state = fourth(group)?;
@@ -123,6 +142,13 @@ fn put_fifth(group: &mut Group, digest: Digest, record: &mut Vec<Row>) -> Result
     life.deliver(request)?;
     life.install(&state)?;
     life.execute(5, digest)?;
+    life.put_rows(record)
+}
+
+// It installs a state, and executes nothing.
+fn put_installed(group: &mut Group, state: &State, record: &mut Vec<Row>) -> Result<(), Fail> {
+    let mut life = Life::new(group)?;
+    life.install(state)?;
     life.put_rows(record)
 }
 
@@ -188,6 +214,30 @@ fn records_are_audited(rt: HostRuntime) -> Result<(), Fail> {
 
     // The other executes 5 otherwise: that is the first fault.
     put_fifth(&mut group, request, &mut records[1].1)?;
+    assert_eq!(rt; greatest(alloc, &records), Err(AuditFault::Differ));
+    Ok(())
+}
+
+#[test]
+fn installations_are_audited(rt: HostRuntime) -> Result<(), Fail> {
+    let alloc = rt.alloc();
+    let mut group = Group::new(alloc)?;
+    let state = fourth(&group)?;
+    let mut records = [
+        (ReplicaId(1), Vec::new(alloc)),
+        (ReplicaId(2), Vec::new(alloc)),
+    ];
+
+    // Installed at 4: it is the greatest number, though none was executed.
+    put_installed(&mut group, &state, &mut records[0].1)?;
+    assert_eq!(rt; greatest(alloc, &records), Err(AuditFault::Unrecorded));
+
+    // Another one installs the same state there, and then one with another digest.
+    put_eight(&mut group, &mut records[1].1)?;
+    put_installed(&mut group, &state, &mut records[1].1)?;
+    assert_eq!(rt; greatest(alloc, &records), Ok(8));
+    let other = other_fourth(&group)?;
+    put_installed(&mut group, &other, &mut records[1].1)?;
     assert_eq!(rt; greatest(alloc, &records), Err(AuditFault::Differ));
     Ok(())
 }

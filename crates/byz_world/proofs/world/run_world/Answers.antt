@@ -1,7 +1,7 @@
 use Rattle.std.proofs.Common.{ℕ}
 use Rattle.std.specs.FinSet as set
 use Rattle.byz_world.specs.Worlds.{first_world}
-use Rattle.byz_world.proofs.RunLaws.{run_agrees, run_on, run_refused, run_safe}
+use Rattle.byz_world.proofs.RunLaws.{run_agrees, run_on, run_refused, run_safe, run_sound}
 use Rattle.byz_world.proofs.world.run_world.Goals as goal
 
 pub returns-in_err-event-clause-refused : goal.returns-in_err-event-clause-refused
@@ -16,10 +16,12 @@ loop-event-preserved c =
 
 pub returns-clause-agrees : goal.returns-clause-agrees
 returns-clause-agrees c =
-    run_agrees c.args.config.now.value (λ (i : ℕ). set.contains c.args.faulty.now i) c.args.signers.items c.args.events.now c.loop-event.event-index c.loop-event.world c.report.result c.new.ensures.legal
-    c.requires.keys c.loop-event-test.false c.loop-event.invariant c.report.ensures.report
+    run_agrees c.args.config.now.value (λ (i : ℕ). set.contains c.args.faulty.now i) c.args.signers.items c.loop-event.world c.report.result
+    (run_sound c.args.config.now.value (λ (i : ℕ). set.contains c.args.faulty.now i) c.args.signers.items c.args.events.now c.loop-event.event-index c.loop-event.world c.new.ensures.legal
+    c.requires.keys c.loop-event.invariant) c.report.ensures.report
 
 pub returns-clause-safe : goal.returns-clause-safe
 returns-clause-safe c =
-    run_safe c.args.config.now.value (λ (i : ℕ). set.contains c.args.faulty.now i) c.args.signers.items c.args.events.now c.loop-event.event-index c.loop-event.world c.report.result c.new.ensures.legal
-    c.loop-event-test.false c.loop-event.invariant c.report.ensures.report
+    run_safe c.args.config.now.value (λ (i : ℕ). set.contains c.args.faulty.now i) c.args.signers.items c.loop-event.world c.report.result
+    (run_sound c.args.config.now.value (λ (i : ℕ). set.contains c.args.faulty.now i) c.args.signers.items c.args.events.now c.loop-event.event-index c.loop-event.world c.new.ensures.legal
+    c.requires.keys c.loop-event.invariant) c.report.ensures.report

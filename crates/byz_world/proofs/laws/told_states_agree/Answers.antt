@@ -1,0 +1,5 @@
+use Rattle.byz_world.proofs.RunLaws.{told_state}
+use Rattle.byz_world.proofs.laws.told_states_agree.Goals as goal
+
+pub returns : goal.returns
+returns c = told_state
