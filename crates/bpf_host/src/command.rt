@@ -6,11 +6,13 @@ use crate::check::check;
 use crate::failure::Failure;
 use clap::{Arg, ArgAction, ArgMatches, Command, value_parser};
 use code_commands::{asm, disasm, exec, verify};
-use host_script::run_script;
+use host_script::{Audited, run_script, run_threads};
 use host_types::ClientId;
 use std::alloc::{AllocError, Global};
 use std::io::{Read, Write};
 use std::rt::Files;
+use std::sync::Wait;
+use std::thread::Threads;
 
 /// The client that calls where none is named.
 const DEFAULT_CLIENT: u32 = 16;
@@ -19,8 +21,9 @@ const DEFAULT_CLIENT: u32 = 16;
 const EXAMPLES: &str = "\
 Code and --args are hex, of either case; spaces, tabs and line ends are skipped. asm reads a text,
 one instruction or one label (`name:`) a line, and prints its code; disasm prints such a text.
-No command means exec. world reads a script (docs/SCRIPTS.md); its faults name their step. check runs
-each NAME.toml of a folder and each row of its NAME.rows, and says where one prints something else.
+No command means exec. world and run read a script (docs/SCRIPTS.md); its faults name their step. run has
+requests and timeouts alone, and its replicas are threads. check runs each NAME.toml of a folder and each
+row of its NAME.rows, and says where one prints something else.
 
 Examples:
   echo 'b700000007000000 9500000000000000' | bpf_host exec
@@ -30,19 +33,20 @@ Examples:
   printf 'mov64 r0, 7\\nexit\\n' | bpf_host asm
   echo 'b700000007000000 9500000000000000' | bpf_host disasm
   bpf_host world < script.toml
+  bpf_host run < requests.toml
   bpf_host check examples/worlds
 
 Status: 0 done, 1 refused, 2 a fault of the command line, 3 out of memory, 4 a read or write failed";
 
 /// Does what the words ask for, the program's name the first of them, and returns the status: 0 done,
 /// 1 a refusal, 2 a fault of the command line, 3 out of memory, 4 a read or a write that failed. All
-/// lines, faults too, go to the writer.
-pub fn run_command<'a, R: Files + AllocGlobal + Clone + Drop, I: Read, O: Write>(
-    rt: &R,
-    words: &'a [&'a str],
-    reader: &mut I,
-    writer: &mut O,
-) -> u8
+/// lines, faults too, go to the writer. `run` waits until its requests are executed.
+pub fn run_command<
+    'a,
+    R: Files + AllocGlobal + Threads + Wait + Copy + Send + Drop + 'static,
+    I: Read,
+    O: Write,
+>(rt: &R, words: &'a [&'a str], reader: &mut I, writer: &mut O) -> u8
     ensures { result ≤ 4 }
 {
     match dispatch(rt, words, reader, writer) {
@@ -51,7 +55,8 @@ pub fn run_command<'a, R: Files + AllocGlobal + Clone + Drop, I: Read, O: Write>
     }
 }
 
-/// Does the same without files, for a run of a folder: `check` is a fault of the command line there.
+/// Does the same without files and threads, for a run of a folder: `check` and `run` are faults of the
+/// command line there.
 pub(crate) fn run_alone<'a, I: Read, O: Write>(
     alloc: Global,
     words: &'a [&'a str],
@@ -93,6 +98,9 @@ fn command_line<'a>(alloc: Global) -> Result<Command<'a>, AllocError> {
         .subcommand(check_command(alloc)?)?
         .subcommand(Command::new(alloc, "world").about(
             "Runs a script of replicas, some of them faulty",
+        ))?
+        .subcommand(Command::new(alloc, "run").about(
+            "Runs a script of requests and timeouts on replicas in threads",
         ))
 }
 
@@ -135,15 +143,16 @@ fn check_command<'a>(alloc: Global) -> Result<Command<'a>, AllocError> {
         .arg(folder)
 }
 
-fn dispatch<'a, R: Files + AllocGlobal + Clone + Drop, I: Read, O: Write>(
-    rt: &R,
-    words: &'a [&'a str],
-    reader: &mut I,
-    writer: &mut O,
-) -> Result<(), Failure> {
+fn dispatch<
+    'a,
+    R: Files + AllocGlobal + Threads + Wait + Copy + Send + Drop + 'static,
+    I: Read,
+    O: Write,
+>(rt: &R, words: &'a [&'a str], reader: &mut I, writer: &mut O) -> Result<(), Failure> {
     let matches = command_line(rt.alloc())?.try_get_matches_from(words)?;
     match matches.subcommand() {
         Some(("check", options)) => check(rt, options.get_str("folder").unwrap_or("."), writer),
+        Some(("run", _)) => run(rt, reader, writer),
         _ => run_parsed(rt.alloc(), &matches, reader, writer),
     }
 }
@@ -158,7 +167,7 @@ fn dispatch_alone<'a, I: Read, O: Write>(
     run_parsed(alloc, &matches, reader, writer)
 }
 
-/// Does what the words that were read ask for, but for `check`.
+/// Does what the words that were read ask for, but for `check` and `run`.
 fn run_parsed<I: Read, O: Write>(
     alloc: Global,
     matches: &ArgMatches<'_>,
@@ -175,6 +184,18 @@ fn run_parsed<I: Read, O: Write>(
         Some(("exec", options)) => call(alloc, options, reader, writer),
         Some(_) => Err(Failure::Nested),
         None => call(alloc, matches, reader, writer),
+    }
+}
+
+/// Runs a script on replicas in threads.
+fn run<R: AllocGlobal + Threads + Wait + Copy + Send + 'static, I: Read, O: Write>(
+    rt: &R,
+    reader: &mut I,
+    writer: &mut O,
+) -> Result<(), Failure> {
+    match run_threads(rt, rt.alloc(), reader, writer)? {
+        Audited::Agreed => Ok(()),
+        Audited::Refused => Err(Failure::Refused),
     }
 }
 

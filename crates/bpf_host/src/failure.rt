@@ -16,13 +16,16 @@ pub enum Failure {
     /// A script has a fault, or ended early; its line is written already.
     #[error("{0}")]
     Script(ScriptFault),
+    /// The journals of running replicas don't agree; the line that says so is written already.
+    #[error("the journals don't agree")]
+    Refused,
     /// A folder's runs can't be read.
     #[error("{0}")]
     Check(CheckFault),
     /// A run of a folder came to something else; the lines that say so are written already.
     #[error("a run differs")]
     Differs,
-    /// A folder is to be checked as a run of a folder.
+    /// A folder is to be checked, or threads are to run, as a run of a folder.
     #[error("a folder's runs are alone")]
     Nested,
     /// The words of the command line are wrong, or ask for help.
@@ -53,7 +56,7 @@ impl Failure {
                 ScriptKind::Read | ScriptKind::Write => 4,
                 _ => 1,
             },
-            Failure::Check(_) | Failure::Differs => 1,
+            Failure::Check(_) | Failure::Differs | Failure::Refused => 1,
             Failure::Nested | Failure::CommandLine(_) | Failure::WordNotUtf8 => 2,
             Failure::Memory => 3,
             Failure::Stream(_) => 4,
@@ -74,7 +77,7 @@ impl Failure {
     pub(crate) fn is_reported(&self) -> bool {
         match self {
             Failure::Code(failure) => failure.is_reported(),
-            Failure::Script(_) | Failure::Differs => false,
+            Failure::Script(_) | Failure::Differs | Failure::Refused => false,
             _ => self.status() < 3,
         }
     }

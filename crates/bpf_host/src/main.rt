@@ -14,6 +14,8 @@ use command::{report, run_command};
 use failure::Failure;
 use std::process::ExitCode;
 use std::rt::{Env, Files};
+use std::sync::Wait;
+use std::thread::Threads;
 use std::{env, io};
 
 fn main(rt: HostRuntime) -> ExitCode {
@@ -26,7 +28,10 @@ fn main(rt: HostRuntime) -> ExitCode {
 
 /// Hands the words of the command line and the standard streams to the command. Words that can't be
 /// read are an error.
-fn run<R: Files + Env + Input + Print + AllocGlobal + Clone + Drop>(rt: &R) -> io::Result<u8> {
+fn run<R>(rt: &R) -> io::Result<u8>
+where
+    R: Files + Env + Input + Print + AllocGlobal + Threads + Wait + Copy + Send + Drop + 'static,
+{
     let alloc = rt.alloc();
     let arguments: Vec<String> = env::args(rt)?.collect(alloc)?;
     let words: Vec<&str> = arguments.iter().map(|word| word.as_str()).collect(alloc)?;

@@ -1,20 +1,9 @@
-//! A client's session with the replicated service (Castro and Liskov 1999, section 4.1): it makes signed
-//! requests, one at a time, and accepts a result that f + 1 different replicas reply with.
+//! Clients of running replicas: a session's request is posted to a host, and its reply waited for.
 //!
-//!     let request = session.request(op)?;
-//!     session.offer(&reply)?;
-//!     if let Some(reply) = session.accepted() {
-//!         use_result(&reply.result)?;
-//!     }
+//!     let reply = call(&rt, alloc, &host, &mut session, op)?;
 #![tactic(auto)]
 
-mod answer;
-mod fault;
-mod laws;
-mod session;
+mod calling;
 
-pub use fault::SessionFault;
-pub use laws::{
-    accepted_replies_are_answers, answered_requests_are_the_clients, numbers_rise_with_times,
-};
-pub use session::Session;
+pub use calling::call;
+pub use client_session::{Session, SessionFault};

@@ -1,25 +1,13 @@
-//! Scripts: a group of replicas, its clients and a queue of messages between them, moved by the steps of
-//! a TOML document.
+//! Scripts: of a world, whose events they say (`run_script`), and of running threads (`run_threads`).
 //!
-//!     let status = match run_script(alloc, &mut reader, &mut writer) {
-//!         Ok(()) => 0,
-//!         Err(fault) => fault.kind.number(),
-//!     };
+//!     let ended = run_threads(&rt, alloc, &mut reader, &mut writer)?;
 #![tactic(auto)]
 
-mod fault;
-mod forging;
-mod input;
-mod keys;
-mod laws;
-mod lines;
-mod made;
-mod play;
-mod queue;
-mod sessions;
-mod stage;
-mod writing;
+mod callers;
+mod group;
+mod run;
 
-pub use laws::scripts_run_sound_worlds;
-pub use play::run_script;
-pub use script_text::{Script, ScriptFault, ScriptKind, read_script};
+pub use group::Audited;
+pub use run::run_threads;
+pub use script_text::{Script, ScriptFault, ScriptKind, read_script, read_thread_script};
+pub use world_script::run_script;

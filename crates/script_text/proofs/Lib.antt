@@ -2,3 +2,4 @@ mod Keys
 mod Founds
 mod Documents
 pub mod TextFaults
+mod Items

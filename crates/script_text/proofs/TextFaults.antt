@@ -4,9 +4,11 @@ use Rattle.std.specs.Prelude.{nat_lt, length}
 use Rattle.toml.specs.Data.{Items, Members, no_items, item}
 use Rattle.host_types.specs.Configuration.{replicas_for}
 use Rattle.script_text.specs.Faults.{kind_of}
-use Rattle.script_text.specs.Heads.{HeadFacts, head_in}
-use Rattle.script_text.specs.Scripts.{document, listed_steps, next_step, script_from, script_in, script_of, script_with, steps_from, steps_in, with_step}
-use Rattle.script_text.specs.Steps.{step}
+use Rattle.script_text.specs.Dialects.{head_for, step}
+use Rattle.script_text.specs.Heads.{HeadFacts}
+use Rattle.script_text.specs.Scripts.{document, listed_steps, next_step, script_for, script_from, script_in, script_of, script_with, steps_from, steps_in, with_step}
+use Rattle.script_text.specs.declared.dialect.Dialect.{Dialect}
+use Rattle.script_text.specs.declared.dialect.Dialect.TheVariants.{World}
 use Rattle.script_text.specs.declared.fault.ScriptFault.{ScriptFault}
 use Rattle.script_text.specs.declared.fault.ScriptKind.{ScriptKind}
 use Rattle.script_text.specs.declared.fault.ScriptKind.TheVariants as kinds
@@ -42,33 +44,34 @@ of_step : (steps : List Step) (number : ℕ) (r : Result Step TableFault) → Ar
 of_step steps number (Ok s) = tt
 of_step steps number (Err fault) = of_table fault
 
-of_steps : (h : HeadFacts) (number : ℕ) (r : Result (List Step) ScriptFault) (ds : Items) → AreOfText r → AreOfText (steps_from h number r ds)
-of_steps h number (Err fault) ds are = are
-of_steps h number (Ok steps) no_items are = tt
-of_steps h number (Ok steps) (item d ds) are =
-    of_steps h (next_step number) (with_step steps (next_step number) (step (replicas_for h.f) h.faulty h.clients d)) ds (of_step steps (next_step number) (step (replicas_for h.f) h.faulty h.clients d))
+of_steps : (dialect : Dialect) (h : HeadFacts) (number : ℕ) (r : Result (List Step) ScriptFault) (ds : Items) → AreOfText r → AreOfText (steps_from dialect h number r ds)
+of_steps dialect h number (Err fault) ds are = are
+of_steps dialect h number (Ok steps) no_items are = tt
+of_steps dialect h number (Ok steps) (item d ds) are =
+    let read = step dialect (replicas_for h.f) h.faulty h.clients d in
+    of_steps dialect h (next_step number) (with_step steps (next_step number) read) ds (of_step steps (next_step number) read)
 
-of_list : (h : HeadFacts) (o : Option Items) → AreOfText (steps_in h o)
-of_list h None = tt
-of_list h (Some ds) = of_steps h 0 (Ok []) ds tt
+of_list : (dialect : Dialect) (h : HeadFacts) (o : Option Items) → AreOfText (steps_in dialect h o)
+of_list dialect h None = tt
+of_list dialect h (Some ds) = of_steps dialect h 0 (Ok []) ds tt
 
 of_parts : (h : HeadFacts) (r : Result (List Step) ScriptFault) → AreOfText r → AreOfText (script_from h r)
 of_parts h (Ok steps) are = tt
 of_parts h (Err fault) are = are
 
-of_head : (ms : Members) (r : Result HeadFacts TableFault) → AreOfText (script_with ms r)
-of_head ms (Ok h) = of_parts h (steps_in h (listed_steps ms)) (of_list h (listed_steps ms))
-of_head ms (Err fault) = of_table fault
+of_head : (dialect : Dialect) (ms : Members) (r : Result HeadFacts TableFault) → AreOfText (script_with dialect ms r)
+of_head dialect ms (Ok h) = of_parts h (steps_in dialect h (listed_steps ms)) (of_list dialect h (listed_steps ms))
+of_head dialect ms (Err fault) = of_table fault
 
-of_document : (o : Option Members) → AreOfText (script_in o)
-of_document None = tt
-of_document (Some ms) = of_head ms (head_in ms)
+of_document : (dialect : Dialect) (o : Option Members) → AreOfText (script_in dialect o)
+of_document dialect None = tt
+of_document dialect (Some ms) = of_head dialect ms (head_for dialect ms)
 
-of_script : (bytes : List ℕ) → AreOfText (script_of bytes)
-of_script bytes = by (nat_lt 1048576 (length bytes)) where
-  by : (b : Bool) → AreOfText (if b then Err (record { kind = kinds.TooLong; step = 0 }) else script_in (document bytes))
+of_script : (dialect : Dialect) (bytes : List ℕ) → AreOfText (script_for dialect bytes)
+of_script dialect bytes = by (nat_lt 1048576 (length bytes)) where
+  by : (b : Bool) → AreOfText (if b then Err (record { kind = kinds.TooLong; step = 0 }) else script_in dialect (document bytes))
   by true = tt
-  by false = of_document (document bytes)
+  by false = of_document dialect (document bytes)
 
 pub is_of_text : (bytes : List ℕ) (fault : ScriptFault) → script_of bytes ≡ Err fault → IsOfText fault.kind
-is_of_text bytes fault is = subst AreOfText is (of_script bytes)
+is_of_text bytes fault is = subst AreOfText is (of_script World bytes)

@@ -4,3 +4,4 @@ pub mod Heads
 pub mod Kinds
 pub mod Scripts
 pub mod Steps
+pub mod Dialects

@@ -11,8 +11,10 @@ use Rattle.script_text.specs.declared.fault.TableFault.{TableFault}
 use Rattle.script_text.specs.declared.script.Script.{Script}
 use Rattle.script_text.specs.declared.script.Step.{Step}
 use Rattle.script_text.specs.Faults.{at_head, kind_of}
-use Rattle.script_text.specs.Heads.{HeadFacts, head_in}
-use Rattle.script_text.specs.Steps.{step}
+use Rattle.script_text.specs.declared.dialect.Dialect.{Dialect}
+use Rattle.script_text.specs.declared.dialect.Dialect.TheVariants.{World, Threads}
+use Rattle.script_text.specs.Dialects.{head_for, step}
+use Rattle.script_text.specs.Heads.{HeadFacts}
 
 -- What was read is this, unless memory ran out.
 abbrev pub IsScriptUnlessMemory : {A : Type 0} → Result A ScriptFault → Result A ScriptFault → Type 0
@@ -28,11 +30,11 @@ with_step steps number (Ok s) = Ok (steps ++ s ∷ [])
 with_step steps number (Err fault) = Err (record { kind = kind_of fault; step = number })
 
 -- The steps of a document behind these, of which the last has this number, or the first that has a fault.
-abbrev pub steps_from : HeadFacts → ℕ → Result (List Step) ScriptFault → Items → Result (List Step) ScriptFault
-steps_from h number (Err fault) ds = Err fault
-steps_from h number (Ok steps) no_items = Ok steps
-steps_from h number (Ok steps) (item d ds) =
-    steps_from h (next_step number) (with_step steps (next_step number) (step (replicas_for h.f) h.faulty h.clients d)) ds
+abbrev pub steps_from : Dialect → HeadFacts → ℕ → Result (List Step) ScriptFault → Items → Result (List Step) ScriptFault
+steps_from dialect h number (Err fault) ds = Err fault
+steps_from dialect h number (Ok steps) no_items = Ok steps
+steps_from dialect h number (Ok steps) (item d ds) =
+    steps_from dialect h (next_step number) (with_step steps (next_step number) (step dialect (replicas_for h.f) h.faulty h.clients d)) ds
 
 -- a vector that was read, as a list
 abbrev pub items_in : Result (Vec Step Global) ScriptFault → Result (List Step) ScriptFault
@@ -42,27 +44,34 @@ items_in (Err fault) = Err fault
 abbrev pub listed_steps : Members → Option Items
 listed_steps members = option_and_then as_array (get_member (codes "step") members)
 
-abbrev pub steps_in : HeadFacts → Option Items → Result (List Step) ScriptFault
-steps_in h None = Ok []
-steps_in h (Some ds) = steps_from h 0 (Ok []) ds
+abbrev pub steps_in : Dialect → HeadFacts → Option Items → Result (List Step) ScriptFault
+steps_in dialect h None = Ok []
+steps_in dialect h (Some ds) = steps_from dialect h 0 (Ok []) ds
 
 abbrev pub script_from : HeadFacts → Result (List Step) ScriptFault → Result Script ScriptFault
 script_from h (Ok steps) = Ok (record { head = h; steps = steps })
 script_from h (Err fault) = Err fault
 
-abbrev pub script_with : Members → Result HeadFacts TableFault → Result Script ScriptFault
-script_with ms (Ok h) = script_from h (steps_in h (listed_steps ms))
-script_with ms (Err fault) = Err (at_head (kind_of fault))
+abbrev pub script_with : Dialect → Members → Result HeadFacts TableFault → Result Script ScriptFault
+script_with dialect ms (Ok h) = script_from h (steps_in dialect h (listed_steps ms))
+script_with dialect ms (Err fault) = Err (at_head (kind_of fault))
 
-abbrev pub script_in : Option Members → Result Script ScriptFault
-script_in None = Err (at_head NotToml)
-script_in (Some members) = script_with members (head_in members)
+abbrev pub script_in : Dialect → Option Members → Result Script ScriptFault
+script_in dialect None = Err (at_head NotToml)
+script_in dialect (Some members) = script_with dialect members (head_for dialect members)
 
 -- the document that a text is
 abbrev pub document : List ℕ → Option Members
 document bytes = if is_utf8 bytes then parse_document bytes else None
 
--- The script that a text is. A text of over 1,048,576 bytes is none, whatever is in it; of several faults that of the
--- least step is reported, the head being step 0.
+-- The script that a text is in a dialect. A text of over 1,048,576 bytes is none, whatever is in it; of several faults
+-- that of the least step is reported, the head being step 0.
+abbrev pub script_for : Dialect → List ℕ → Result Script ScriptFault
+script_for dialect bytes = if nat_lt 1048576 (length bytes) then Err (at_head TooLong) else script_in dialect (document bytes)
+
+-- the script of a world, and the one of running threads
 abbrev pub script_of : List ℕ → Result Script ScriptFault
-script_of bytes = if nat_lt 1048576 (length bytes) then Err (at_head TooLong) else script_in (document bytes)
+script_of bytes = script_for World bytes
+
+abbrev pub thread_script_of : List ℕ → Result Script ScriptFault
+thread_script_of bytes = script_for Threads bytes

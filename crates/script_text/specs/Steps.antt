@@ -1,10 +1,10 @@
 -- Statement: what the keys of a step say.
 use Rattle.std.specs.Prelude.{ℕ, codes, List, [], ◌∷◌, ◌++◌, Option, Some, None, Result, Ok, Err, is_some, bytes_eq, if◌then◌else◌}
 use Rattle.seal.specs.declared.vote.VoteKind.{VoteKind}
-use Rattle.toml.specs.Data.{Data, Members, as_str, as_table, get_member}
+use Rattle.toml.specs.Data.{Members, get_member}
 use Rattle.script_text.specs.declared.fault.TableFault.{TableFault}
 use Rattle.script_text.specs.declared.script.Client.{Client}
-use Rattle.script_text.specs.declared.fault.TableFault.TheVariants.{MissingKey, WrongValue}
+use Rattle.script_text.specs.declared.fault.TableFault.TheVariants.{WrongValue}
 use Rattle.script_text.specs.declared.script.Filter.{Filter}
 use Rattle.script_text.specs.declared.script.Forgery.{Forgery}
 use Rattle.std.specs.Int.{to_be_bytes, w32}
@@ -16,7 +16,7 @@ use Rattle.script_text.specs.declared.script.Node.{Node}
 use Rattle.script_text.specs.declared.script.Step.{Step}
 use Rattle.script_text.specs.declared.script.Step.TheVariants as steps
 use Rattle.script_text.specs.declared.kind.Kind.{Kind}
-use Rattle.script_text.specs.Forms.{pair_of, client_name, faulty_index, hex_bytes, if_found, kind_name, list_of, needed_key, only_keys, optional_key, node, replica, sequence_number, up_to, vote_name, yes}
+use Rattle.script_text.specs.Forms.{pair_of, client_name, faulty_index, hex_bytes, kind_name, list_of, needed_key, only_keys, optional_key, node, replica, sequence_number, up_to, vote_name, yes}
 
 -- the kind, the view and the number of a vote
 abbrev pub vote_in : Members → Result (VoteKind × (ℕ × SeqNo)) TableFault
@@ -185,13 +185,3 @@ step_named t count faulty clients members =
     else if bytes_eq t (codes "digest") then bare steps.Digest members
     else if bytes_eq t (codes "state") then state_in count members
     else Err WrongValue
-
-abbrev pub step_with : ℕ → List ReplicaId → List Client → Members → Option Data → Result Step TableFault
-step_with count faulty clients ms None = Err MissingKey
-step_with count faulty clients ms (Some d) = if_found (λ t. step_named t count faulty clients ms) (as_str d)
-
-abbrev pub step_in : ℕ → List ReplicaId → List Client → Members → Result Step TableFault
-step_in count faulty clients members = step_with count faulty clients members (get_member (codes "do") members)
-
-abbrev pub step : ℕ → List ReplicaId → List Client → Data → Result Step TableFault
-step count faulty clients d = if_found (step_in count faulty clients) (as_table d)

@@ -8,8 +8,9 @@ ghost use Rattle.script_text.specs.Faults.{IsUnlessMemory, at_head};
 ghost use Rattle.script_text.specs.declared.fault.TableFault.{TableFault};
 ghost use Rattle.script_text.specs.declared.fault.ScriptKind.TheVariants.{Memory, NotToml};
 ghost use Rattle.script_text.specs.declared.script.Step.{Step as StepSaid};
-ghost use Rattle.script_text.specs.Scripts.{IsScriptUnlessMemory, document, items_in, listed_steps, next_step, script_in, script_of, steps_from, steps_in, with_step};
+ghost use Rattle.script_text.specs.Scripts.{IsScriptUnlessMemory, document, items_in, listed_steps, next_step, script_for, script_in, script_of, steps_from, steps_in, thread_script_of, with_step};
 
+use crate::dialect::Dialect;
 use crate::fault::{ScriptFault, ScriptKind, TableFault};
 use crate::form::value_at;
 use crate::head::Head;
@@ -29,22 +30,37 @@ pub const MAX_SCRIPT: usize = 1_048_576;
 pub fn read_script(alloc: Global, bytes: &[u8]) -> Result<Script, ScriptFault>
     ensures { IsScriptUnlessMemory result (script_of bytes.now) }
 {
+    read_text(alloc, Dialect::World, bytes)
+}
+
+/// The script for running threads that a text is: its steps are requests without `to` and timeouts, and
+/// `faulty` is left out or empty; all else is `WrongValue`. The faults are otherwise those of `read_script`.
+pub fn read_thread_script(alloc: Global, bytes: &[u8]) -> Result<Script, ScriptFault>
+    ensures { IsScriptUnlessMemory result (thread_script_of bytes.now) }
+{
+    read_text(alloc, Dialect::Threads, bytes)
+}
+
+/// The script that a text is in a dialect.
+fn read_text(alloc: Global, dialect: Dialect, bytes: &[u8]) -> Result<Script, ScriptFault>
+    ensures { IsScriptUnlessMemory result (script_for dialect bytes.now) }
+{
     if bytes.len() > MAX_SCRIPT {
         return Err(ScriptFault::at_head(ScriptKind::TooLong));
     }
     let table = read_document(alloc, bytes)?;
-    read_table(alloc, &table)
+    read_table(alloc, dialect, &table)
 }
 
 /// The script that a document is.
-fn read_table(alloc: Global, table: &Table) -> Result<Script, ScriptFault>
-    ensures { IsScriptUnlessMemory result (script_in (Some (table_view table.now))) }
+fn read_table(alloc: Global, dialect: Dialect, table: &Table) -> Result<Script, ScriptFault>
+    ensures { IsScriptUnlessMemory result (script_in dialect (Some (table_view table.now))) }
 {
-    let head = match read_head(alloc, table) {
+    let head = match read_head(alloc, dialect, table) {
         Ok(head) => head,
         Err(fault) => return Err(fault.at_step(0)),
     };
-    let steps = read_steps(alloc, &head, table)?;
+    let steps = read_steps(alloc, dialect, &head, table)?;
     Ok(Script {
         head,
         steps: Sequence::from_vec(steps),
@@ -73,11 +89,16 @@ fn parsed(alloc: Global, text: &str) -> Result<Table, ScriptFault>
 }
 
 /// The steps of a document, none of which has a fault.
-fn read_steps(alloc: Global, head: &Head, table: &Table) -> Result<Vec<Step>, ScriptFault>
-    ensures { IsScriptUnlessMemory (items_in result) (steps_in head.now (listed_steps (table_view table.now))) }
+fn read_steps(
+    alloc: Global,
+    dialect: Dialect,
+    head: &Head,
+    table: &Table,
+) -> Result<Vec<Step>, ScriptFault>
+    ensures { IsScriptUnlessMemory (items_in result) (steps_in dialect head.now (listed_steps (table_view table.now))) }
 {
     match listed_steps(table) {
-        Some(values) => read_each_step(alloc, head, values),
+        Some(values) => read_each_step(alloc, dialect, head, values),
         None => Ok(Vec::new(alloc)),
     }
 }
@@ -89,14 +110,19 @@ fn listed_steps(table: &Table) -> Option<&Vec<Value>>
     value_at(table, "step")?.as_array()
 }
 
-fn read_each_step(alloc: Global, head: &Head, values: &[Value]) -> Result<Vec<Step>, ScriptFault>
-    ensures { IsScriptUnlessMemory (items_in result) (steps_from head.now 0 (Ok []) (items_view values.now)) }
+fn read_each_step(
+    alloc: Global,
+    dialect: Dialect,
+    head: &Head,
+    values: &[Value],
+) -> Result<Vec<Step>, ScriptFault>
+    ensures { IsScriptUnlessMemory (items_in result) (steps_from dialect head.now 0 (Ok []) (items_view values.now)) }
 {
     let mut steps = Vec::new(alloc);
     let mut number = 0;
     for value in values {
         number = next_step(number);
-        steps = with_step(steps, number, read_step(alloc, head, value))?;
+        steps = with_step(steps, number, read_step(alloc, dialect, head, value))?;
     }
     Ok(steps)
 }

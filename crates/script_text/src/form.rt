@@ -8,6 +8,7 @@ ghost use Rattle.toml.specs.Data.{Data, get_member};
 ghost use Rattle.toml.specs.View.{table_view, view};
 ghost use Rattle.script_text.specs.declared.fault.TableFault.{TableFault};
 ghost use Rattle.script_text.specs.Faults.{IsUnlessMemory};
+ghost use Rattle.script_text.specs.Dialects.{wrong_where};
 ghost use Rattle.script_text.specs.Forms.{pair_of, has_only, needed_key, only_keys, optional_key};
 
 use crate::fault::TableFault;
@@ -89,6 +90,20 @@ pub(crate) fn with_only<A: Drop>(
         (reading, true) => reading,
         (Ok(_), false) => Err(TableFault::UnknownKey),
         (Err(fault), false) => Err(fault.least(TableFault::UnknownKey)),
+    }
+}
+
+/// A reading where this is wrong, besides what is wrong with it.
+pub(crate) fn wrong_where<A: Drop>(
+    wrong: bool,
+    reading: Result<A, TableFault>,
+) -> Result<A, TableFault>
+    ensures { (a : Result A TableFault) → IsUnlessMemory reading a → IsUnlessMemory result (wrong_where wrong a) }
+{
+    match (reading, wrong) {
+        (reading, false) => reading,
+        (Ok(_), true) => Err(TableFault::WrongValue),
+        (Err(fault), true) => Err(fault.least(TableFault::WrongValue)),
     }
 }
 

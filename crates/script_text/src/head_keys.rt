@@ -2,13 +2,16 @@
 
 ghost use Rattle.std.specs.Prelude.{◌≡◌, IfOk, is_none, map, replicate};
 ghost use Rattle.host_types.specs.Configuration.{fault_of};
-ghost use Rattle.toml.specs.View.{table_view};
+ghost use Rattle.toml.specs.Data.{as_array};
+ghost use Rattle.toml.specs.View.{table_view, view};
+ghost use Rattle.script_text.specs.Dialects.{has_item, head_for, names_faulty};
 ghost use Rattle.script_text.specs.Faults.{IsUnlessMemory};
 ghost use Rattle.script_text.specs.Forms.{needed_head};
 ghost use Rattle.script_text.specs.Heads.{byte_of, count_of_faulty, given_or, head_from, head_in, head_of, if_legal, optional_faulty, optional_heights, keyless, keyless_configuration, listed_clients, named_count, no_key, optional_head, replica_count};
 
+use crate::dialect::Dialect;
 use crate::fault::TableFault;
-use crate::form::{Form, needed, optional, pair, value_at, with_only};
+use crate::form::{Form, needed, optional, pair, value_at, with_only, wrong_where};
 use crate::head::Head;
 use crate::script::{Client, Secret};
 use crate::values::{
@@ -55,8 +58,37 @@ struct Optional {
     faulty: Option<Sequence<ReplicaId>>,
 }
 
-/// The head of a document. Its first fault is reported.
-pub(crate) fn read_head(alloc: Global, table: &Table) -> Result<Head, TableFault>
+/// The head of a document in a dialect. Its first fault is reported.
+pub(crate) fn read_head(alloc: Global, dialect: Dialect, table: &Table) -> Result<Head, TableFault>
+    ensures { IsUnlessMemory result (head_for dialect (table_view table.now)) }
+{
+    match dialect {
+        Dialect::World => read_any_head(alloc, table),
+        Dialect::Threads => wrong_where(names_faulty(table), read_any_head(alloc, table)),
+    }
+}
+
+/// Whether a document lists a faulty replica.
+fn names_faulty(table: &Table) -> bool
+    ensures { result ≡ names_faulty (table_view table.now) }
+{
+    match value_at(table, "faulty") {
+        Some(value) => has_item(value),
+        None => false,
+    }
+}
+
+fn has_item(value: &Value) -> bool
+    ensures { result ≡ has_item (as_array (view value.now)) }
+{
+    match value.as_array() {
+        Some(items) => !items.is_empty(),
+        None => false,
+    }
+}
+
+/// The head of a document.
+fn read_any_head(alloc: Global, table: &Table) -> Result<Head, TableFault>
     ensures { IsUnlessMemory result (head_in (table_view table.now)) }
 {
     let named = pair(

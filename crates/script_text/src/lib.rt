@@ -7,6 +7,7 @@
 //!     }
 #![tactic(auto)]
 
+mod dialect;
 mod document;
 mod fault;
 mod form;
@@ -17,7 +18,8 @@ mod script;
 mod step_keys;
 mod values;
 
-pub use document::{MAX_SCRIPT, read_script};
+pub use dialect::Dialect;
+pub use document::{MAX_SCRIPT, read_script, read_thread_script};
 pub use fault::{ScriptFault, ScriptKind};
 pub use head::Head;
 pub use kind::Kind;

@@ -6,10 +6,12 @@ ghost use Rattle.host_types.specs.declared.ClientId.{ClientId};
 ghost use Rattle.toml.specs.View.{table_view, view};
 ghost use Rattle.script_text.specs.declared.fault.TableFault.{TableFault};
 ghost use Rattle.script_text.specs.Faults.{IsUnlessMemory};
-ghost use Rattle.script_text.specs.Steps.{Ballot as BallotSaid, ballot_in, bare, call_in, filter_in, forgery_from, forgery_in, forgery_of, forgery_with, install_in, named_in, null_in, order_in, order_with, raw_in, route_in, state_in, step, step_named, timeout_in, vote_in};
+ghost use Rattle.script_text.specs.Steps.{Ballot as BallotSaid, ballot_in, bare, call_in, filter_in, forgery_from, forgery_in, forgery_of, forgery_with, install_in, named_in, null_in, order_in, order_with, raw_in, route_in, state_in, step_named, timeout_in, vote_in};
+ghost use Rattle.script_text.specs.Dialects.{step, step_named_for, thread_step};
 
+use crate::dialect::Dialect;
 use crate::fault::TableFault;
-use crate::form::{needed, optional, pair, value_at, with_only};
+use crate::form::{needed, optional, pair, value_at, with_only, wrong_where};
 use crate::head::Head;
 use crate::script::{Client, Filter, Forgery, Node, Number, Operation, Order, Step};
 use crate::values::{
@@ -59,8 +61,13 @@ struct Names<'a> {
 }
 
 /// A step under a head. Its first fault is reported.
-pub(crate) fn read_step(alloc: Global, head: &Head, value: &Value) -> Result<Step, TableFault>
-    ensures { IsUnlessMemory result (step (replicas_for head.now.f) head.now.faulty head.now.clients (view value.now)) }
+pub(crate) fn read_step(
+    alloc: Global,
+    dialect: Dialect,
+    head: &Head,
+    value: &Value,
+) -> Result<Step, TableFault>
+    ensures { IsUnlessMemory result (step dialect (replicas_for head.now.f) head.now.faulty head.now.clients (view value.now)) }
 {
     let table = table_of(value)?;
     let names = Names {
@@ -70,10 +77,45 @@ pub(crate) fn read_step(alloc: Global, head: &Head, value: &Value) -> Result<Ste
     };
     match value_at(table, "do") {
         Some(value) => match value.as_str() {
-            Some(name) => read_named_step(alloc, &names, table, name),
+            Some(name) => read_step_for(alloc, dialect, &names, table, name),
             None => Err(TableFault::WrongValue),
         },
         None => Err(TableFault::MissingKey),
+    }
+}
+
+/// A step of this name in a dialect.
+fn read_step_for(
+    alloc: Global,
+    dialect: Dialect,
+    names: &Names<'_>,
+    table: &Table,
+    name: &str,
+) -> Result<Step, TableFault>
+    ensures { IsUnlessMemory result (step_named_for dialect name.now names.now.count names.now.faulty.now names.now.clients.now (table_view table.now)) }
+{
+    match dialect {
+        Dialect::World => read_named_step(alloc, names, table, name),
+        Dialect::Threads => read_thread_step(alloc, names, table, name),
+    }
+}
+
+/// A step of this name for running threads.
+fn read_thread_step(
+    alloc: Global,
+    names: &Names<'_>,
+    table: &Table,
+    name: &str,
+) -> Result<Step, TableFault>
+    ensures { IsUnlessMemory result (thread_step name.now names.now.count names.now.faulty.now names.now.clients.now (table_view table.now)) }
+{
+    match name {
+        "request" => wrong_where(
+            value_at(table, "to").is_some(),
+            read_named_step(alloc, names, table, name),
+        ),
+        "timeout" => read_named_step(alloc, names, table, name),
+        _ => Err(TableFault::WrongValue),
     }
 }
 

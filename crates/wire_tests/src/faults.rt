@@ -1,6 +1,6 @@
 //! Names and numbers of faults.
 
-use host_client::SessionFault;
+use client_session::SessionFault;
 use host_types::ConfigFault;
 use lms_tree::{SigFault, SignFault};
 use pbft_codec::CodecFault;

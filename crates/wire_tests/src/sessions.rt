@@ -3,7 +3,7 @@
 ghost use Rattle.std.specs.Prelude.{◌≡◌, ◌<◌, IfOk};
 
 use crate::replies::{config, fields_of, reply, signer, signers};
-use host_client::{Session, SessionFault};
+use client_session::{Session, SessionFault};
 use host_types::{Bytes, ClientId, Config};
 use lms_tree::Signer;
 use pbft_codec::{Body, Role};

@@ -1,9 +1,9 @@
 //! Scripts whose reader gives little, or fails, and writers that fail.
 
-use host_script::{ScriptFault, run_script};
 use std::alloc::Global;
 use std::io::{self, Read, Write};
 use std::test::Fail;
+use world_script::{ScriptFault, run_script};
 
 /// Gives line ends, one at each read, until none is left, or one read fails; and counts the reads.
 #[derive(Drop)]

@@ -6,7 +6,7 @@ use crate::common::processor_time::ProcessorTime;
 use crate::common::signing;
 use crate::world::floor::replica_signer;
 use anyhow::{Result, anyhow};
-use host_client::Session;
+use client_session::Session;
 use host_types::{Bytes, ClientEntry, ClientId, Config, SeqNo, TenantId, View};
 use lms_tree::Signer;
 use pbft_codec::{Body, ReplyBody, Role};

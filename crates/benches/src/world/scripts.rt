@@ -2,8 +2,8 @@
 
 use crate::common::processor_time::ProcessorTime;
 use anyhow::{Result, anyhow};
-use host_script::run_script;
 use std::alloc::{AllocError, Global};
+use world_script::run_script;
 
 /// Four replicas, of which replica 3 is faulty, and a client. Each key has 32 leaves, and the secret is zeros.
 const HEAD: &str = "\

@@ -1,7 +1,0 @@
-use Rattle.std.proofs.Common.{◌≡◌, ◌≤◌}
-use Rattle.host_client.specs.Sessions.{backers}
-use Rattle.host_client.proofs.answer.is_vouched.Given as goal
-
-abbrev pub invariant-loop-replica : goal.invariant-loop-replica
-invariant-loop-replica l =
-    (l.count ≡ backers l.answers l.reply.number.0 l.reply.result l.replica) × (l.count ≤ l.replica)

@@ -1,7 +1,0 @@
-use Rattle.std.proofs.Common.{◌≡◌, ◌++◌, take}
-use Rattle.host_script.specs.Letters.{copies}
-use Rattle.host_script.specs.Stages.{all_but}
-use Rattle.host_script.proofs.queue.Queue.send_but.Given as goal
-
-abbrev pub invariant-loop-node : goal.invariant-loop-node
-invariant-loop-node l = l.self ≡ l.fn.self ++ copies l.letter (all_but l.one (take l.node-index l.to))

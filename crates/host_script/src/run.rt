@@ -1,0 +1,90 @@
+//! A script for running threads, from a reader to a writer.
+
+use crate::group::{Audited, Group};
+use script_text::{Script, ScriptFault, ScriptKind, read_thread_script};
+use std::alloc::Global;
+use std::io::{Read, Write};
+use std::sync::Wait;
+use std::thread::Threads;
+use world_script::{read_input, report, write_text};
+
+/// Reads a script to the end of the reader, runs its replicas in threads of their own, and writes the line
+/// of each reply that a client accepts; at the end the line of an audit of the replicas' journals. Each
+/// request waits until its reply is accepted: forever, where the replicas can't execute it. A fault's line is
+/// written too, but for that of a failed write.
+pub fn run_threads<R: Threads + Wait + Copy + Send + 'static, I: Read, O: Write>(
+    rt: &R,
+    alloc: Global,
+    reader: &mut I,
+    writer: &mut O,
+) -> Result<Audited, ScriptFault> {
+    match run(rt, alloc, reader, writer) {
+        Ok(audited) => Ok(audited),
+        Err(fault) => Err(report(fault, writer)),
+    }
+}
+
+fn run<R: Threads + Wait + Copy + Send + 'static, I: Read, O: Write>(
+    rt: &R,
+    alloc: Global,
+    reader: &mut I,
+    writer: &mut O,
+) -> Result<Audited, ScriptFault> {
+    let bytes = match read_input(alloc, reader) {
+        Ok(bytes) => bytes,
+        Err(kind) => return Err(ScriptFault::at_head(kind)),
+    };
+    let script = read_thread_script(alloc, &bytes)?;
+    match Group::start(rt, alloc, &script.head) {
+        Ok(group) => run_steps(rt, group, &script, writer),
+        Err(_) => Err(ScriptFault::at_head(ScriptKind::Memory)),
+    }
+}
+
+// Runs the steps, and audits. Where a step has a fault, the replicas are stopped all the same.
+fn run_steps<R: Wait, O: Write>(
+    rt: &R,
+    mut group: Group,
+    script: &Script,
+    writer: &mut O,
+) -> Result<Audited, ScriptFault> {
+    let mut number: u32 = 0;
+    for step in script.steps.as_slice() {
+        number = number.saturating_add(1);
+        let kind = match group.run(rt, step) {
+            Ok(line) => write_line(writer, &line),
+            Err(_) => Err(ScriptKind::Memory),
+        };
+        if let Err(kind) = kind {
+            let _ = group.close(rt);
+            return Err(ScriptFault { kind, step: number });
+        }
+    }
+    end(rt, &group, number, writer)
+}
+
+// Stops the replicas behind the last step, and writes the line of the audit.
+fn end<R: Wait, O: Write>(
+    rt: &R,
+    group: &Group,
+    step: u32,
+    writer: &mut O,
+) -> Result<Audited, ScriptFault> {
+    let Ok((audited, line)) = group.close(rt) else {
+        return Err(ScriptFault {
+            kind: ScriptKind::Memory,
+            step,
+        });
+    };
+    match write_line(writer, &line) {
+        Ok(()) => Ok(audited),
+        Err(kind) => Err(ScriptFault { kind, step }),
+    }
+}
+
+fn write_line<O: Write>(writer: &mut O, line: &str) -> Result<(), ScriptKind> {
+    match write_text(writer, line) {
+        Ok(()) => Ok(()),
+        Err(_) => Err(ScriptKind::Write),
+    }
+}

@@ -1,0 +1,12 @@
+//! A replica with its journal: the rows that it gave since it began, up to a limit. Each step appends the
+//! one row of the replica's step, or halts.
+//!
+//!     let mut journal = Journal::new(alloc, &config, ReplicaId(0), signer, 65_536)?;
+//!     let row = journal.take(&message)?;
+#![tactic(auto)]
+
+mod journal;
+mod law;
+
+pub use journal::Journal;
+pub use law::a_core_is_the_journals_replay;

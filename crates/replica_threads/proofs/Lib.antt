@@ -1,0 +1,3 @@
+mod StationLaws
+mod FurnishLaws
+mod ClosingLaws

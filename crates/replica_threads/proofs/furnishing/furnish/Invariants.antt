@@ -1,0 +1,5 @@
+use Rattle.std.specs.Prelude.{◌≡◌, drop}
+use Rattle.replica_threads.proofs.furnishing.furnish.Given as goal
+
+abbrev pub invariant-loop-id : goal.invariant-loop-id
+invariant-loop-id l = l.signers.rest.items ≡ drop l.id l.fn.signers.items

@@ -1,0 +1,21 @@
+-- Statement: the journal that a replica's thread leaves, and the signers that a host wants.
+use Rattle.std.specs.Prelude.{◌≡◌, ℕ, ◌<◌, List, length, slice_get, IsSomeAnd}
+use Rattle.host_types.specs.Configuration.{Configuration}
+use Rattle.lms_tree.specs.SigningState.{SigningState}
+use Rattle.lms_tree.specs.Keys.{IsKeyOf}
+use Rattle.replica_core.specs.Facts.{RowFacts}
+
+-- What a contract sees of a closed station's journal.
+pub record RecordFacts : Type 0 where
+  pub config : Configuration
+  pub id : ℕ
+  pub rows : List RowFacts
+
+-- The key that is listed for a replica is that of its signer.
+abbrev pub HasKeyAt : List (List ℕ) → List SigningState → ℕ → Type 0
+HasKeyAt keys signers id = IsSomeAnd (slice_get keys id) (λ key. IsSomeAnd (slice_get signers id) (λ signer. IsKeyOf key signer))
+
+-- There is one signer for each listed key, which is its own.
+pub record HaveKeys (keys : List (List ℕ)) (signers : List SigningState) : Type 0 where
+  pub many : length signers ≡ length keys
+  pub each : (id : ℕ) → id < length keys → HasKeyAt keys signers id

@@ -1,0 +1,3 @@
+pub mod HostFaults
+pub mod Stations
+pub mod Hosts

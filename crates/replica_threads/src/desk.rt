@@ -1,0 +1,56 @@
+//! A replica before its thread runs.
+
+ghost use Rattle.std.specs.Prelude.{◌≡◌, ◌≤◌, ◌<◌, [], IfOk, IsSomeAnd};
+ghost use Rattle.host_types.specs.Configuration.{replicas_for};
+ghost use Rattle.lms_tree.specs.Keys.{IsKeyOf};
+ghost use Rattle.pbft_codec.specs.declared.signed.Role.TheVariants as roles;
+ghost use Rattle.seal.specs.Signers.{key_of};
+
+use crate::furnishing::Inbox;
+use crate::links::{Letter, Parcel};
+use crossbeam_channel::Receiver;
+use host_types::{Config, ReplicaId};
+use lms_tree::Signer;
+use replica_journal::Journal;
+use std::alloc::{AllocError, Global};
+use std::sync::Arc;
+
+/// A replica that has made no step, and the queues that its openers and its thread read.
+#[derive(Drop)]
+pub(crate) struct Desk {
+    pub(crate) config: Arc<Config>,
+    pub(crate) id: ReplicaId,
+    pub(crate) journal: Journal,
+    pub(crate) parcels: Receiver<Parcel>,
+    pub(crate) letters: Receiver<Letter>,
+    ghost config_is: { journal.replica.config ≡ config.value },
+    ghost id_is: { journal.replica.me ≡ id.0 },
+    ghost fresh: { journal.rows ≡ [] },
+    ghost limited: { journal.limit ≤ 65536 },
+}
+
+impl Desk {
+    /// The desk of a replica with this signer. It is refused only where memory ran out.
+    pub(crate) fn new(
+        alloc: Global,
+        config: &Arc<Config>,
+        id: ReplicaId,
+        signer: Signer,
+        limit: u32,
+        inbox: Inbox,
+    ) -> Result<Desk, AllocError>
+        requires replica { id.0 < replicas_for config.now.value.f }
+        requires key { IsSomeAnd (key_of config.now.value roles.Replica id.0) (λ key. IsKeyOf key signer) }
+        requires limit { limit ≤ 65536 }
+    {
+        let journal = Journal::new(alloc, config, id, signer, limit as usize)?;
+        let config = Arc::try_clone(config)?;
+        Ok(Desk {
+            config,
+            id,
+            journal,
+            parcels: inbox.parcels,
+            letters: inbox.letters,
+        })
+    }
+}

@@ -1,0 +1,122 @@
+//! What a station's lock keeps: the replica with its journal, and the ledger of what its seats count.
+//! Only these methods reach its fields.
+
+ghost use Rattle.std.specs.Prelude.{◌≡◌, ◌≤◌, [], IfOk};
+ghost use Rattle.replica_core.specs.declared.row.Input.TheVariants as inputs;
+ghost use Rattle.replica_journal.specs.Keeping.{Advances};
+ghost use Rattle.replica_threads.specs.Stations.{IsAnswered, IsClosed, IsJournalOf, IsReported, counted_by};
+
+use crate::named::Named;
+use crate::record::JournalRecord;
+use crate::seat::Seat;
+use host_types::{Config, ReplicaId};
+use replica_core::{Halt, Row, Status};
+use replica_journal::Journal;
+use seal::Checked;
+use std::marker::Model;
+use std::sync::Arc;
+use std::sync::ledger::Book;
+
+/// The inside of a station: whenever the lock is free, its rows are a lawful journal of the replica that
+/// its name stands for, and while it has not halted, its core is the one after them. Each row was answered
+/// through one of its seats.
+#[derive(Drop)]
+pub struct Locked<K: Named> {
+    journal: Journal,
+    book: Book<K>,
+}
+
+impl<K: Named> Model for Locked<K> {
+    ghost use Rattle.std.specs.Prelude.{◌≡◌, ◌≤◌, length};
+    ghost use Rattle.std.specs.Coded.{codes};
+    ghost use Rattle.service_model.specs.Equality.{service_code};
+    ghost use Rattle.replica_journal.specs.Keeping.{JournalFacts};
+
+    ghost Value = { JournalFacts };
+
+    ghost coded = { Prim.hlevel (codes, service_code) };
+
+    ghost view = { λ l. l.journal };
+
+    ghost invariant = { λ l. (l.journal.replica.config ≡ K.config) × (l.journal.replica.me ≡ K.id)
+        × (length l.journal.rows ≡ l.book.total) × (l.journal.limit ≤ 65536) };
+}
+
+impl<K: Named> Locked<K> {
+    /// The inside of a station before its first step.
+    pub(crate) fn new(journal: Journal, book: Book<K>) -> Locked<K>
+        requires config { journal.replica.config ≡ K.config }
+        requires id { journal.replica.me ≡ K.id }
+        requires fresh { journal.rows ≡ [] }
+        requires limit { journal.limit ≤ 65536 }
+        requires total { book.total ≡ 0 }
+        ensures { result ≡ journal }
+    {
+        Locked { journal, book }
+    }
+
+    /// Takes a message that was opened under the station's configuration. The row of the replica's step is
+    /// appended to the journal and counted in the seat; or the station halts, as `Journal::take` says, and
+    /// nothing is counted.
+    pub fn take(&mut self, seat: &mut Seat<K>, message: &Checked) -> Result<Row, Halt>
+        requires config { message.now.config ≡ K.config }
+        ensures step { Advances self.old (inputs.Message message.now) result self.new }
+        ensures answered { IfOk result (λ row. IsAnswered K.config K.id seat.old.rows (inputs.Message message.now) row) }
+        ensures counted { seat.new ≡ counted_by seat.old result }
+    {
+        let Locked { journal, book } = self;
+        let row = journal.take(message)?;
+        seat.count(book);
+        Ok(row)
+    }
+
+    /// Takes a timeout, as `take` takes a message.
+    pub fn timeout(&mut self, seat: &mut Seat<K>) -> Result<Row, Halt>
+        ensures step { Advances self.old inputs.Timeout result self.new }
+        ensures answered { IfOk result (λ row. IsAnswered K.config K.id seat.old.rows inputs.Timeout row) }
+        ensures counted { seat.new ≡ counted_by seat.old result }
+    {
+        let Locked { journal, book } = self;
+        let row = journal.timeout()?;
+        seat.count(book);
+        Ok(row)
+    }
+
+    /// Whether the replica may step: it has not halted, and there is room for a row. It takes no memory.
+    pub fn can_step(&self) -> bool {
+        self.journal.can_step()
+    }
+
+    /// Where the replica stands after the last row, and why it has halted since, if it has. The seat stays
+    /// as it was. It takes no memory.
+    pub fn report(&mut self, seat: &mut Seat<K>) -> Status
+        ensures reported { IsReported K.config K.id seat.old.rows result }
+        ensures value { result ≡ self.old.status }
+        ensures same { self.new ≡ self.old }
+        ensures seat { seat.new ≡ seat.old }
+    {
+        seat.audit(&mut self.book);
+        self.journal.status()
+    }
+
+    /// The journal's rows. It takes no memory.
+    pub(crate) fn into_rows(self, seat: Seat<K>) -> Vec<Row>
+        ensures rows { result.items ≡ self.rows }
+        ensures closed { IsClosed K.config K.id seat.rows result.items }
+    {
+        let Locked { journal, mut book } = self;
+        let mut seat = seat;
+        seat.audit(&mut book);
+        journal.into_rows()
+    }
+
+    /// The journal's rows, with whose they are. It takes no memory.
+    pub(crate) fn into_record(self, config: Arc<Config>, id: ReplicaId) -> JournalRecord
+        requires config { config.value ≡ K.config }
+        requires id { id.0 ≡ K.id }
+        ensures record { result ≡ record { config = K.config; id = K.id; rows = self.rows } }
+    {
+        let Locked { journal, book: _ } = self;
+        JournalRecord::new(config, id, journal.into_rows())
+    }
+}

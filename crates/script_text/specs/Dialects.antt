@@ -1,0 +1,57 @@
+-- Statement: what the scripts of a dialect may say. Those of running threads have requests for all replicas and timeouts
+-- alone, and no faulty replica.
+use Rattle.std.specs.Prelude.{ℕ, codes, List, Bool, true, false, Option, Some, None, Result, Ok, Err, is_some, bytes_eq, option_and_then, if◌then◌else◌}
+use Rattle.toml.specs.Data.{Data, Items, Members, no_items, item, as_array, as_str, as_table, get_member}
+use Rattle.host_types.specs.declared.ReplicaId.{ReplicaId}
+use Rattle.script_text.specs.declared.dialect.Dialect.{Dialect}
+use Rattle.script_text.specs.declared.dialect.Dialect.TheVariants.{World, Threads}
+use Rattle.script_text.specs.declared.fault.TableFault.{TableFault}
+use Rattle.script_text.specs.declared.fault.TableFault.TheVariants.{MissingKey, WrongValue}
+use Rattle.script_text.specs.declared.script.Client.{Client}
+use Rattle.script_text.specs.declared.script.Step.{Step}
+use Rattle.script_text.specs.Faults.{least}
+use Rattle.script_text.specs.Forms.{if_found}
+use Rattle.script_text.specs.Heads.{HeadFacts, head_in}
+use Rattle.script_text.specs.Steps.{step_named}
+
+-- A reading where this is wrong, besides what is wrong with it.
+abbrev pub wrong_where : {A : Type 0} → Bool → Result A TableFault → Result A TableFault
+wrong_where false reading = reading
+wrong_where true (Ok x) = Err WrongValue
+wrong_where true (Err fault) = Err (least fault WrongValue)
+
+-- whether a list has an item
+abbrev pub has_item : Option Items → Bool
+has_item None = false
+has_item (Some no_items) = false
+has_item (Some (item d ds)) = true
+
+abbrev pub names_faulty : Members → Bool
+names_faulty members = has_item (option_and_then as_array (get_member (codes "faulty") members))
+
+-- the head of a document in a dialect
+abbrev pub head_for : Dialect → Members → Result HeadFacts TableFault
+head_for World members = head_in members
+head_for Threads members = wrong_where (names_faulty members) (head_in members)
+
+-- A step of running threads.
+abbrev pub thread_step : List ℕ → ℕ → List ReplicaId → List Client → Members → Result Step TableFault
+thread_step t count faulty clients members =
+    if bytes_eq t (codes "request") then wrong_where (is_some (get_member (codes "to") members)) (step_named t count faulty clients members)
+    else if bytes_eq t (codes "timeout") then step_named t count faulty clients members
+    else Err WrongValue
+
+-- a step of this name in a dialect
+abbrev pub step_named_for : Dialect → List ℕ → ℕ → List ReplicaId → List Client → Members → Result Step TableFault
+step_named_for World t count faulty clients members = step_named t count faulty clients members
+step_named_for Threads t count faulty clients members = thread_step t count faulty clients members
+
+abbrev pub step_with : Dialect → ℕ → List ReplicaId → List Client → Members → Option Data → Result Step TableFault
+step_with dialect count faulty clients ms None = Err MissingKey
+step_with dialect count faulty clients ms (Some d) = if_found (λ t. step_named_for dialect t count faulty clients ms) (as_str d)
+
+abbrev pub step_in : Dialect → ℕ → List ReplicaId → List Client → Members → Result Step TableFault
+step_in dialect count faulty clients members = step_with dialect count faulty clients members (get_member (codes "do") members)
+
+abbrev pub step : Dialect → ℕ → List ReplicaId → List Client → Data → Result Step TableFault
+step dialect count faulty clients d = if_found (step_in dialect count faulty clients) (as_table d)

@@ -1,0 +1,115 @@
+//! Calls through a host.
+
+use crate::gates::{Held, TURNS, Watch};
+use crate::place::{Place, call_it, four_replicas, install, session, spend};
+use host_client::{SessionFault, call};
+use host_types::{Bytes, Config, Reply};
+use lms_tree::Signer;
+use replica_threads::Host;
+use std::alloc::Global;
+use std::sync::atomic::{AtomicBool, Ordering};
+use std::sync::{Arc, Wait};
+use std::test::Fail;
+use std::thread;
+use std::thread::Threads;
+use std::time::{Clock, Duration};
+
+const LIMIT: u32 = 65_536;
+
+// Calls with each operation, in a session of its own.
+fn calls<R: Wait>(
+    rt: &R,
+    alloc: Global,
+    host: &Host,
+    client: Signer,
+    ops: Vec<Bytes>,
+) -> Result<Vec<Result<Reply, SessionFault>>, Fail> {
+    let mut session = session(alloc, host.config(), client)?;
+    let mut replies = Vec::new(alloc);
+    for op in ops {
+        if op.as_slice().len() > 1_000 {
+            return Err(Fail::new("a long operation"));
+        }
+        replies.push(call(rt, alloc, host, &mut session, op))?;
+    }
+    Ok(replies)
+}
+
+// Closes a host once the calls are done, or so many turns are over.
+fn watch<R: Wait + Clock>(rt: &R, host: &Host, done: &AtomicBool, turns: u64) {
+    for _ in 0..turns {
+        if done.load(Ordering::SeqCst) {
+            break;
+        }
+        thread::sleep(rt, Duration::from_millis(1));
+    }
+    let _ = host.close(rt);
+}
+
+// What calls answer beside a watcher.
+fn answers<R: Threads + Wait + Clock + Copy + Send + Sync + Drop + 'static>(
+    rt: &R,
+    alloc: Global,
+    signers: Vec<Signer>,
+    place: (Arc<Config>, Signer),
+    ops: Vec<Bytes>,
+    turns: u64,
+) -> Result<Vec<Result<Reply, SessionFault>>, Fail> {
+    let (config, client) = place;
+    let gate = Arc::new(alloc, Watch::new(*rt, Held::No))?;
+    let host = Host::start(rt, alloc, &config, signers, LIMIT, 2, gate)?;
+    let done = AtomicBool::new(false);
+    let (host, done) = (&host, &done);
+    let caller = move || {
+        let replies = calls(rt, alloc, host, client, ops);
+        done.store(true, Ordering::SeqCst);
+        replies
+    };
+    thread::join(rt, caller, move || watch(rt, host, done, turns)).0
+}
+
+#[test]
+fn calls_are_answered(rt: HostRuntime) -> Result<(), Fail> {
+    let alloc = rt.alloc();
+    let Place {
+        config,
+        signers,
+        client,
+    } = four_replicas(alloc)?;
+    let mut ops = Vec::new(alloc);
+    ops.push(install(alloc)?)?;
+    ops.push(call_it(alloc)?)?;
+    let replies = answers(&rt, alloc, signers, (config, client), ops, TURNS)?;
+    let wanted: [&[u8]; 2] = [&[0, 0, 0, 0, 0], &[0, 0, 0, 0, 0, 0, 0, 0, 7]];
+    if replies.len() != wanted.len() {
+        return Err(Fail::new("not two replies"));
+    }
+    for (reply, wanted) in replies.iter().zip(wanted) {
+        match reply {
+            Ok(reply) if reply.result.as_slice() == wanted => {}
+            _ => return Err(Fail::new("another result")),
+        }
+    }
+    Ok(())
+}
+
+#[test]
+fn a_call_that_waits_at_close_has_no_quorum(rt: HostRuntime) -> Result<(), Fail> {
+    let alloc = rt.alloc();
+    let Place {
+        config,
+        mut signers,
+        client,
+    } = four_replicas(alloc)?;
+    for signer in signers.iter_mut() {
+        spend(signer, 32)?;
+    }
+    let mut ops = Vec::new(alloc);
+    ops.push(install(alloc)?)?;
+    ops.push(install(alloc)?)?;
+    let replies = answers(&rt, alloc, signers, (config, client), ops, 500)?;
+    match replies.as_slice() {
+        [Err(SessionFault::NoQuorum), Err(SessionFault::Closed)] => Ok(()),
+        _ => Err(Fail::new("not NoQuorum and then Closed")),
+    }
+}

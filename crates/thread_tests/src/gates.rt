@@ -1,0 +1,109 @@
+//! Gates that watch threads, or hold them.
+
+use host_types::Gate;
+use std::sync::atomic::{AtomicU64, Ordering};
+use std::thread;
+use std::time::{Clock, Duration};
+
+/// How often a gate or a test looks before it gives up.
+pub const TURNS: u64 = 10_000;
+
+/// Counts the steps and the openings of replicas 0 to 3, and holds the first step of replica 0 until a
+/// replica has stepped, or bytes of replica 0 were opened, so often.
+#[derive(Drop)]
+pub struct Watch<R: Clock + Drop> {
+    rt: R,
+    steps: [AtomicU64; 4],
+    openings: AtomicU64,
+    held: Held,
+    gave_up: AtomicU64,
+}
+
+/// What the first step of replica 0 waits for.
+#[derive(Clone, Copy, Debug, PartialEq, Eq)]
+pub enum Held {
+    No,
+    UntilOneSteps,
+    UntilTwoAreOpened,
+}
+
+impl<R: Clock + Drop> Watch<R> {
+    pub fn new(rt: R, held: Held) -> Watch<R> {
+        Watch {
+            rt,
+            steps: [
+                AtomicU64::new(0),
+                AtomicU64::new(0),
+                AtomicU64::new(0),
+                AtomicU64::new(0),
+            ],
+            openings: AtomicU64::new(0),
+            held,
+            gave_up: AtomicU64::new(0),
+        }
+    }
+
+    /// How often a replica was about to step.
+    pub fn steps(&self, id: u32) -> u64 {
+        match self.steps.get(id as usize) {
+            Some(count) => count.load(Ordering::SeqCst),
+            None => 0,
+        }
+    }
+
+    /// Whether a step was held too long.
+    pub fn gave_up(&self) -> bool {
+        self.gave_up.load(Ordering::SeqCst) > 0
+    }
+
+    fn may_go(&self) -> bool {
+        match self.held {
+            Held::No => true,
+            Held::UntilOneSteps => self.steps(1) > 0,
+            Held::UntilTwoAreOpened => self.openings.load(Ordering::SeqCst) > 1,
+        }
+    }
+
+    fn hold(&self) {
+        for _ in 0..TURNS {
+            if self.may_go() {
+                return;
+            }
+            thread::sleep(&self.rt, Duration::from_millis(1));
+        }
+        self.gave_up.fetch_add(1, Ordering::SeqCst);
+    }
+}
+
+impl<R: Clock + Drop> Gate for Watch<R> {
+    fn step(&self, who: u32) {
+        if let Some(count) = self.steps.get(who as usize) {
+            let before = count.fetch_add(1, Ordering::SeqCst);
+            if who == 0 && before == 0 {
+                self.hold();
+            }
+        }
+    }
+
+    fn opened(&self, who: u32) {
+        if who == 0 {
+            self.openings.fetch_add(1, Ordering::SeqCst);
+        }
+    }
+}
+
+/// Waits until a replica was about to step so often; false where it gives up.
+pub fn wait_for_steps<R: Clock + Drop, C: Clock>(
+    rt: &C,
+    gate: &Watch<R>,
+    id: u32,
+    many: u64,
+) -> bool {
+    for _ in 0..TURNS {
+        if gate.steps(id) >= many {
+            return true;
+        }
+        thread::sleep(rt, Duration::from_millis(1));
+    }
+    false
+}

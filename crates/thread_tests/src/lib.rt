@@ -1,0 +1,16 @@
+//! Tests of replicas in threads. Each ends by itself: a gate gives up after ten thousand turns of a
+//! millisecond, and a call is made beside a watcher that closes its host after as long.
+#![tactic(auto)]
+
+#[cfg(test)]
+mod calls;
+#[cfg(test)]
+mod gates;
+#[cfg(test)]
+mod hosts;
+#[cfg(test)]
+mod place;
+#[cfg(test)]
+mod stations;
+#[cfg(test)]
+mod texts;

@@ -1,0 +1,98 @@
+//! Four replicas and a client.
+
+ghost use Rattle.std.specs.Prelude.{◌≡◌, ◌≤◌, true, length, IfOk, IsSomeAnd};
+ghost use Rattle.lms_tree.specs.Keys.{IsKeyOf};
+ghost use Rattle.pbft_codec.specs.declared.signed.Role.TheVariants as roles;
+ghost use Rattle.seal.specs.Signers.{key_of};
+
+use client_session::Session;
+use host_types::{Bytes, ClientEntry, ClientId, Config, ReplicaId, TenantId};
+use lms_tree::{Height, Signer};
+use std::alloc::{AllocError, Global};
+use std::sync::Arc;
+use std::test::Fail;
+
+/// The one client.
+pub const CLIENT: ClientId = ClientId(16);
+
+/// The replicas' signers, and the client's.
+#[derive(Drop)]
+pub struct Place {
+    pub config: Arc<Config>,
+    pub signers: Vec<Signer>,
+    pub client: Signer,
+}
+
+fn signer(alloc: Global, number: u8) -> Result<Signer, AllocError> {
+    Signer::from_seed(alloc, Height::H5, [number; 16], [7; 32])
+}
+
+/// Four replicas and a client, with fresh signers.
+pub fn four_replicas(alloc: Global) -> Result<Place, Fail> {
+    let mut signers = Vec::new(alloc);
+    let mut keys = Vec::new(alloc);
+    for number in 0..4u8 {
+        let signer = signer(alloc, number)?;
+        keys.push(signer.public_key())?;
+        signers.push(signer)?;
+    }
+    let client = signer(alloc, 9)?;
+    let mut clients = Vec::new(alloc);
+    clients.push(ClientEntry {
+        id: CLIENT,
+        tenant: TenantId(1),
+        key: client.public_key(),
+    })?;
+    let config = Arc::new(alloc, Config::new(1, 8, keys, clients)?)?;
+    Ok(Place {
+        config,
+        signers,
+        client,
+    })
+}
+
+/// Whether the signer has the key that is listed for a replica.
+pub fn is_listed(config: &Arc<Config>, id: ReplicaId, signer: &Signer) -> bool
+    ensures { result ≡ true → IsSomeAnd (key_of config.now.value roles.Replica id.0) (λ key. IsKeyOf key signer.now) }
+{
+    match config.replica_key(id) {
+        Some(key) => *key == signer.public_key(),
+        None => false,
+    }
+}
+
+/// The client's session.
+pub fn session(alloc: Global, config: &Arc<Config>, signer: Signer) -> Result<Session, Fail>
+    ensures { IfOk result (λ s. s.config ≡ config.now.value) }
+{
+    let listed = match config.client(CLIENT) {
+        Some(entry) => entry.key == signer.public_key(),
+        None => false,
+    };
+    if !listed {
+        return Err(Fail::new("another key is listed"));
+    }
+    let session = Session::new(alloc, config, CLIENT, signer)?;
+    Ok(session)
+}
+
+/// A signer that has signed so often.
+pub fn spend(signer: &mut Signer, times: u8) -> Result<(), Fail> {
+    for _ in 0..times {
+        signer.sign(&[0])?;
+    }
+    Ok(())
+}
+
+/// The operation that calls the procedure 0.
+pub fn call_it(alloc: Global) -> Result<Bytes, AllocError> {
+    Ok(Bytes::from_vec(Vec::from_slice(alloc, &[2, 0, 0, 0, 0])?))
+}
+
+/// The operation that installs a procedure of two instructions: `mov64 r0, 7` and `exit`.
+pub fn install(alloc: Global) -> Result<Bytes, AllocError>
+    ensures { IfOk result (λ op. length op ≤ 1048576) }
+{
+    let code = [1, 0xb7, 0, 0, 0, 7, 0, 0, 0, 0x95, 0, 0, 0, 0, 0, 0, 0];
+    Ok(Bytes::from_vec(Vec::from_slice(alloc, &code)?))
+}

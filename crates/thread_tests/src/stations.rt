@@ -1,0 +1,150 @@
+//! Stations by their seats.
+
+ghost use Rattle.std.specs.Prelude.{◌≡◌, IsSomeAnd};
+ghost use Rattle.lms_tree.specs.Keys.{IsKeyOf};
+ghost use Rattle.pbft_codec.specs.declared.signed.Role.TheVariants as roles;
+ghost use Rattle.seal.specs.Signers.{key_of};
+ghost use Rattle.host_types.specs.Configuration.{replicas_for};
+ghost use Rattle.std.specs.Prelude.{◌<◌};
+
+use crate::place::{four_replicas, is_listed};
+use host_types::{Config, Gate, ReplicaId};
+use lms_tree::Signer;
+use replica_core::Halt;
+use replica_threads::{Named, Seat, Station};
+use std::alloc::Global;
+use std::marker::Brand;
+use std::sync::ledger::Blank;
+use std::sync::{Arc, Wait};
+use std::test::Fail;
+use std::thread;
+use std::thread::Threads;
+
+/// Nobody watches.
+#[derive(Drop)]
+struct NoGate;
+
+impl Gate for NoGate {
+    fn step(&self, who: u32) {
+        let _ = who;
+    }
+}
+
+fn ten_timeouts<K: Named, R: Wait>(rt: &R, station: &Station<K>, seat: Seat<K>) -> Seat<K> {
+    let mut seat = seat;
+    for _ in 0..10 {
+        let _ = station.timeout(rt, &mut seat, &NoGate);
+    }
+    seat
+}
+
+fn two_at_one_station<K: Named + Send + Sync, R: Threads + Wait + Sync>(
+    rt: &R,
+    alloc: Global,
+    blank: Blank,
+    config: &Arc<Config>,
+    signer: Signer,
+) -> Result<(), Fail>
+    requires name { blank.name ≡ K.name }
+    requires parts { (blank.parts ≡ K.parts) × (blank.parts ≡ 65536) }
+    requires config { config.now.value ≡ K.config }
+    requires id { 0 ≡ K.id }
+    requires replica { 0 < replicas_for config.now.value.f }
+    requires key { IsSomeAnd (key_of config.now.value roles.Replica 0) (λ key. IsKeyOf key signer) }
+{
+    let (station, seat) = Station::<K>::new(alloc, blank, config, ReplicaId(0), signer, 65_536)?;
+    let mut seat = seat;
+    let Some(other) = seat.another() else {
+        return Err(Fail::new("no second seat"));
+    };
+    let shared = &station;
+    let (seat, other) = thread::join(
+        rt,
+        move || ten_timeouts(rt, shared, seat),
+        move || ten_timeouts(rt, shared, other),
+    );
+    let (mut seat, mut other) = (seat, other);
+    for status in [
+        station.report(rt, &mut seat),
+        station.report(rt, &mut other),
+    ] {
+        if status.view.0 != 20 || status.active || status.halted.is_some() {
+            return Err(Fail::new("not changing to view 20"));
+        }
+    }
+    if seat.rows().saturating_add(other.rows()) != 20 {
+        return Err(Fail::new("the seats don't count 20 rows"));
+    }
+    if station.close(seat).len() != 20 {
+        return Err(Fail::new("the journal has not 20 rows"));
+    }
+    Ok(())
+}
+
+#[test]
+fn two_threads_step_one_station(rt: HostRuntime) -> Result<(), Fail> {
+    let alloc = rt.alloc();
+    let place = four_replicas(alloc)?;
+    let mut signers = place.signers;
+    signers.truncate(1);
+    let Some(signer) = signers.pop() else {
+        return Err(Fail::new("no signer"));
+    };
+    if !is_listed(&place.config, ReplicaId(0), &signer) || place.config.replica_count() == 0 {
+        return Err(Fail::new("another key is listed"));
+    }
+    two_at_one_station::<Brand, HostRuntime>(&rt, alloc, Blank::new(65_536), &place.config, signer)
+}
+
+fn limited<K: Named, R: Wait>(
+    rt: &R,
+    alloc: Global,
+    blank: Blank,
+    config: &Arc<Config>,
+    signer: Signer,
+) -> Result<(), Fail>
+    requires name { blank.name ≡ K.name }
+    requires parts { (blank.parts ≡ K.parts) × (blank.parts ≡ 65536) }
+    requires config { config.now.value ≡ K.config }
+    requires id { 0 ≡ K.id }
+    requires replica { 0 < replicas_for config.now.value.f }
+    requires key { IsSomeAnd (key_of config.now.value roles.Replica 0) (λ key. IsKeyOf key signer) }
+{
+    let (station, seat) = Station::<K>::new(alloc, blank, config, ReplicaId(0), signer, 1)?;
+    let mut seat = seat;
+    let first = station.timeout(rt, &mut seat, &NoGate);
+    let second = station.timeout(rt, &mut seat, &NoGate);
+    let third = station.timeout(rt, &mut seat, &NoGate);
+    if first.is_err()
+        || !halts_by(&second, Halt::JournalFull)
+        || !halts_by(&third, Halt::AlreadyHalted)
+    {
+        return Err(Fail::new("not a row, JournalFull and AlreadyHalted"));
+    }
+    if station.report(rt, &mut seat).halted != Some(Halt::JournalFull) || seat.rows() != 1 {
+        return Err(Fail::new("the halt is not reported"));
+    }
+    Ok(())
+}
+
+fn halts_by<T>(answer: &Result<T, Halt>, halt: Halt) -> bool {
+    match answer {
+        Ok(_) => false,
+        Err(other) => *other == halt,
+    }
+}
+
+#[test]
+fn a_journal_of_one_row_is_full(rt: HostRuntime) -> Result<(), Fail> {
+    let alloc = rt.alloc();
+    let place = four_replicas(alloc)?;
+    let mut signers = place.signers;
+    signers.truncate(1);
+    let Some(signer) = signers.pop() else {
+        return Err(Fail::new("no signer"));
+    };
+    if !is_listed(&place.config, ReplicaId(0), &signer) || place.config.replica_count() == 0 {
+        return Err(Fail::new("another key is listed"));
+    }
+    limited::<Brand, HostRuntime>(&rt, alloc, Blank::new(65_536), &place.config, signer)
+}

@@ -1,0 +1,70 @@
+-- Events at a replica: what is printed of bytes that it refuses.
+use Rattle.std.proofs.Common.{◌≡◌, ℕ, Bool, true, false, List, [], Option, None, Result, Ok, Err, refl, sym, ap, subst, ◌∙◌}
+use Rattle.std.specs.Prelude.{nat_lt, is_some}
+use Rattle.host_types.specs.Configuration.{replicas_for}
+use Rattle.host_types.specs.declared.ReplicaId.{ReplicaId}
+use Rattle.seal.specs.Opening.{CheckedMessage, opening}
+use Rattle.seal.specs.declared.fault.SealFault.{SealFault}
+use Rattle.replica_core.specs.Facts.{RowFacts}
+use Rattle.byz_world.specs.declared.fault.WorldFault.TheVariants as faults
+use Rattle.byz_world.specs.Worlds.{Answer, Delivers, Gives, Refuses, Where, WorldFacts}
+use Rattle.byz_world.specs.declared.event.Event.TheVariants as events
+use Rattle.world_script.specs.Parts.{Happened}
+use Rattle.world_script.specs.Stages as stages
+use Rattle.world_script.specs.Stages.{Occurs, Receives, StageFacts, Turn, is_running, letters_in, queued, refusal_of}
+
+same_row : (x y : Option RowFacts) → ◌≡◌ {A = Answer} (Ok x) (Ok y) → x ≡ y
+same_row x y h = cc h
+
+ok_err : {X E : Type 0} {x : X} {e : E} → Ok x ≡ Err e → ⊥
+ok_err h = cc h
+
+true_false : true ≡ false → ⊥
+true_false h = cc h
+
+-- what bytes gave, at a replica that there is
+given : (w t : WorldFacts) (to : ReplicaId) (bytes : List ℕ) (row : Option RowFacts) → Gives w (events.Deliver to bytes) (Ok row) t → Delivers w to.0 (opening w.config bytes) (Ok row) t
+given w t to bytes row g = by (nat_lt to.0 (replicas_for w.config.f)) g where
+  by : (b : Bool) → Where b (Delivers w to.0 (opening w.config bytes) (Ok row) t) (Refuses faults.NoSuchReplica w (Ok row) t) → Delivers w to.0 (opening w.config bytes) (Ok row) t
+  by true g = g
+  by false g = absurd (ok_err g.0)
+
+-- Bytes that gave a row, or that halted the replica, were no refused ones.
+pub nothing_refused : (s : StageFacts) (w : WorldFacts) (id : ReplicaId) (bytes : List ℕ) (row : Option RowFacts) → Gives s.world (events.Deliver id bytes) (Ok row) w
+    → is_running s.world id ≡ true → (is_some row ≡ false → is_running w id ≡ false) → refusal_of id (opening s.world.config bytes) ≡ []
+nothing_refused s w id bytes row g runs stops = by (opening s.world.config bytes) (given s.world w id bytes row g) where
+  by : (o : Result CheckedMessage SealFault) → Delivers s.world id.0 o (Ok row) w → refusal_of id o ≡ []
+  by (Ok m) d = refl
+  by (Err fault) d =
+      let none = same_row row None d.0 in
+      absurd (true_false (sym runs ∙ ap (λ (x : WorldFacts). is_running x id) (sym d.1) ∙ stops (ap is_some none)))
+
+pub occurred : (s t : StageFacts) (id : ReplicaId) (bytes : List ℕ) (gave : Bool) → Happened s id (events.Deliver id bytes) gave t → Occurs s id (events.Deliver id bytes) t
+occurred s t id bytes gave h = record { row = h.row; world = h.world; gives = h.gives; continues = h.continues; new = h.new }
+
+abbrev pub IsHandled : StageFacts → ReplicaId → List ℕ → List ℕ → StageFacts → Type 0
+IsHandled s id bytes text t = stages.AtReplica s id bytes text t
+
+where_running : (s t : StageFacts) (id : ReplicaId) (bytes text : List ℕ) → is_running s.world id ≡ true → Receives s id bytes text t → IsHandled s id bytes text t
+where_running s t id bytes text runs r =
+    subst (λ (b : Bool). Where b (Receives s id bytes text t) (◌≡◌ {A = Turn} (text, t) ([], s))) (sym runs) r
+
+-- A replica that does not run does nothing.
+pub passes_over : (s : StageFacts) (id : ReplicaId) (bytes text : List ℕ) → is_running s.world id ≡ false → text ≡ [] → IsHandled s id bytes text s
+passes_over s id bytes text rests none =
+    subst (λ (b : Bool). Where b (Receives s id bytes text s) (◌≡◌ {A = Turn} (text, s) ([], s))) (sym rests) (ap {B = Turn} (λ (x : List ℕ). (x, s)) none)
+
+-- It gave a row, or has halted: nothing is printed.
+pub handled : (s t : StageFacts) (id : ReplicaId) (bytes text : List ℕ) (gave : Bool) → is_running s.world id ≡ true → Happened s id (events.Deliver id bytes) gave t
+    → (gave ≡ false → is_running t.world id ≡ false) → text ≡ [] → IsHandled s id bytes text t
+handled s t id bytes text gave runs h stops none =
+    where_running s t id bytes text runs (record {
+      occurs = occurred s t id bytes gave h;
+      text_is = none ∙ sym (nothing_refused s h.world id bytes h.row h.gives runs (λ no. ap (λ (u : StageFacts). is_running u.world id) (sym h.new) ∙ stops (h.gave_is ∙ no)));
+    })
+
+-- It gave none and continues: what is printed is why the bytes are refused.
+pub refused : (s t : StageFacts) (id : ReplicaId) (bytes text : List ℕ) (gave : Bool) → is_running s.world id ≡ true → Happened s id (events.Deliver id bytes) gave t
+    → text ≡ refusal_of id (opening s.world.config bytes) → IsHandled s id bytes text t
+refused s t id bytes text gave runs h is =
+    where_running s t id bytes text runs (record { occurs = occurred s t id bytes gave h; text_is = is })

@@ -1,0 +1,144 @@
+-- The events that lead to a stage's world.
+use Rattle.std.proofs.Common.{◌≡◌, ℕ, zero, suc, Bool, true, false, List, [], ◌∷◌, ◌++◌, Option, Some, None, Ok, Err, refl, ap, subst, ◌∙◌}
+use Rattle.std.specs.Prelude.{Result}
+use Rattle.host_types.specs.declared.ReplicaId.{ReplicaId}
+use Rattle.seal.specs.Opening.{CheckedMessage, opening}
+use Rattle.seal.specs.declared.fault.SealFault.{SealFault}
+use Rattle.byz_world.proofs.RunLaws.{runs_lead, sound_worlds}
+use Rattle.byz_world.specs.Worlds.{Runs, Where, WorldFacts, first_world}
+use Rattle.byz_world.specs.declared.event.Event.{Event}
+use Rattle.client_session.specs.Sessions.{SessionState}
+use Rattle.host_types.specs.declared.ClientId.{ClientId}
+use Rattle.script_text.specs.Scripts.{script_of}
+use Rattle.script_text.specs.declared.script.Filter.{Filter}
+use Rattle.script_text.specs.declared.script.Forgery.{Forgery}
+use Rattle.script_text.specs.declared.script.Node.{Node}
+use Rattle.script_text.specs.declared.script.Node.TheVariants.{Replica, Client}
+use Rattle.script_text.specs.declared.script.Order.{Order}
+use Rattle.script_text.specs.declared.script.Script.{Script}
+use Rattle.script_text.specs.declared.script.Step.{Step}
+use Rattle.script_text.specs.declared.script.Step.TheVariants as steps
+use Rattle.world_script.specs.declared.forging.Forger.{Forger}
+use Rattle.world_script.specs.Keys.{configuration_of}
+use Rattle.world_script.specs.Passing.{DoesPart, DoesPartOfFirst, IsOnRun, Passes, correct_signers}
+use Rattle.world_script.specs.Scripts.{Plays}
+use Rattle.world_script.specs.Stages.{AllTimeOut, Deliveries, Delivers, HandsTo, Occurs, Prints, Receives, StageFacts, TimesOut, Turn, at_client, digest_named, forged_by, forged_for, is_running, quiet, requested_by, signing_forger, signing_session}
+use Rattle.world_script.specs.Letters.{without_first}
+use Rattle.world_script.specs.Starts.{is_faulty, start_of}
+use Rattle.world_script.proofs.Hearing.{passed_hears}
+use Rattle.world_script.proofs.LegalHeads.{head_configuration, head_listed, script_legal}
+
+-- ---- runs
+
+runs_on : (w u v : WorldFacts) (es fs : List Event) → Runs w es u → Runs u fs v → Runs w (es ++ fs) v
+runs_on w u v [] fs first second = subst (λ (x : WorldFacts). Runs x fs v) first second
+runs_on w u v (e ∷ es) fs (row, mid, gives, rest) second = (row, mid, gives, runs_on mid u v es fs rest second)
+
+-- Events lead from one world to another.
+abbrev pub Leads : WorldFacts → WorldFacts → Type 0
+Leads w v = (events : List Event) × Runs w events v
+
+stays : (w v : WorldFacts) → v ≡ w → Leads w v
+stays w v same = ([], same)
+
+on : (w u v : WorldFacts) → Leads w u → Leads u v → Leads w v
+on w u v (es, first) (fs, second) = (es ++ fs, runs_on w u v es fs first second)
+
+-- ---- the parts of a step
+
+occurs_leads : (s : StageFacts) (id : ReplicaId) (event : Event) (t : StageFacts) → Occurs s id event t → Leads s.world t.world
+occurs_leads s id event t o = (event ∷ [], (o.row, o.world, o.gives, ap (λ (x : StageFacts). x.world) o.new))
+
+where_leads : (b : Bool) (A : Type 0) (s t : StageFacts) → (A → Leads s.world t.world) → Where b A (t ≡ s) → Leads s.world t.world
+where_leads true A s t does h = does h
+where_leads false A s t does h = stays s.world t.world (ap (λ (x : StageFacts). x.world) h)
+
+times_leads : (s : StageFacts) (id : ReplicaId) (t : StageFacts) → TimesOut s id t → Leads s.world t.world
+times_leads s id t h = where_leads (is_running s.world id) (Occurs s id _ t) s t (occurs_leads s id _ t) h
+
+all_time_leads : (s : StageFacts) (ids : List ReplicaId) (t : StageFacts) → AllTimeOut s ids t → Leads s.world t.world
+all_time_leads s [] t h = stays s.world t.world (ap (λ (x : StageFacts). x.world) h)
+all_time_leads s (id ∷ ids) t (u, first, rest) = on s.world u.world t.world (times_leads s id u first) (all_time_leads u ids t rest)
+
+turned : (s t : StageFacts) (text : List ℕ) (turn : Turn) → turn.1.world ≡ s.world → ◌≡◌ {A = Turn} (text, t) turn → Leads s.world t.world
+turned s t text turn same is = stays s.world t.world (ap (λ (x : Turn). x.1.world) is ∙ same)
+
+at_replica_leads : (s : StageFacts) (id : ReplicaId) (bytes text : List ℕ) (t : StageFacts) (b : Bool) → Where b (Receives s id bytes text t) (◌≡◌ {A = Turn} (text, t) (quiet s)) → Leads s.world t.world
+at_replica_leads s id bytes text t true r = occurs_leads s id _ t r.occurs
+at_replica_leads s id bytes text t false same = turned s t text (quiet s) refl same
+
+client_world : (s : StageFacts) (client : ClientId) (o : Result CheckedMessage SealFault) → (at_client s client o).1.world ≡ s.world
+client_world s client (Ok m) = refl
+client_world s client (Err fault) = refl
+
+hands_leads : (node : Node) (s : StageFacts) (bytes text : List ℕ) (t : StageFacts) → HandsTo node s bytes text t → Leads s.world t.world
+hands_leads (Replica id) s bytes text t h = at_replica_leads s id bytes text t (is_running s.world id) h
+hands_leads (Client client) s bytes text t h = turned s t text (at_client s client (opening s.world.config bytes)) (client_world s client (opening s.world.config bytes)) h
+
+delivers_leads : (f : Filter) (s : StageFacts) (text : List ℕ) (t : StageFacts) → Delivers f s text t → Leads s.world t.world
+delivers_leads f s text t d = hands_leads d.letter.to (record s { queue = without_first f s.queue }) d.letter.bytes text t d.handed
+
+deliveries_lead : (f : Filter) (n : ℕ) (s : StageFacts) (text : List ℕ) (t : StageFacts) → Deliveries f n s text t → Leads s.world t.world
+deliveries_lead f zero s text t h = stays s.world t.world (ap (λ (x : StageFacts). x.world) h.1)
+deliveries_lead f (suc n) s text t (before, line, u, first, last, is) = on s.world u.world t.world (deliveries_lead f n s before u first) (delivers_leads f u line t last)
+
+-- ---- steps
+
+requested_world : (s : StageFacts) (o : Order) (session : Option SessionState) → (requested_by s o session).1.world ≡ s.world
+requested_world s o None = refl
+requested_world s o (Some session) = refl
+
+forged_world : (s : StageFacts) (f : Forgery) (digest : List ℕ) (g : Option Forger) → (forged_by s f digest g).1.world ≡ s.world
+forged_world s f digest None = refl
+forged_world s f digest (Some g) = refl
+
+forged_for_world : (s : StageFacts) (f : Forgery) (digest : Option (List ℕ)) → (forged_for s f digest).1.world ≡ s.world
+forged_for_world s f None = refl
+forged_for_world s f (Some digest) = forged_world s f digest (signing_forger s.forgers f.from)
+
+prints_leads : (s : StageFacts) (step : Step) (text : List ℕ) (t : StageFacts) → Prints s step text t → Leads s.world t.world
+prints_leads s (steps.Request o) text t h = turned s t text (requested_by s o (signing_session s.sessions o.client)) (requested_world s o (signing_session s.sessions o.client)) h
+prints_leads s (steps.Deliver f) text t h = deliveries_lead f h.0 s text t h.2
+prints_leads s (steps.Drop f) text t h = turned s t text _ refl h
+prints_leads s (steps.Repeat f) text t h = turned s t text _ refl h
+prints_leads s (steps.Timeout at) text t h = all_time_leads s at t h.1
+prints_leads s (steps.Forge f) text t h = turned s t text (forged_for s f (digest_named s f.request)) (forged_for_world s f (digest_named s f.request)) h
+prints_leads s (steps.Raw to bytes) text t h = turned s t text _ refl h
+prints_leads s steps.Show text t h = stays s.world t.world (ap (λ (x : StageFacts). x.world) h.1)
+prints_leads s steps.Digest text t h = stays s.world t.world (ap (λ (x : StageFacts). x.world) h.1)
+prints_leads s (steps.State id) text t h = stays s.world t.world (ap (λ (x : StageFacts). x.world) h.1)
+
+plays_lead : (s : StageFacts) (xs : List Step) (text : List ℕ) (t : StageFacts) → Plays s xs text t → Leads s.world t.world
+plays_lead s [] text t h = stays s.world t.world (ap (λ (x : StageFacts). x.world) h.1)
+plays_lead s (x ∷ xs) text t (line, more, u, first, rest, is) = on s.world u.world t.world (prints_leads s x line u first) (plays_lead u xs more t rest)
+
+part_leads : (s : StageFacts) (step : Step) (t : StageFacts) → DoesPart s step t → Leads s.world t.world
+part_leads s (steps.Deliver f) t (n, text, h) = deliveries_lead f n s text t h
+part_leads s (steps.Timeout at) t (first, later, splits, h) = all_time_leads s first t h
+part_leads s (steps.Request o) t h = stays s.world t.world (ap (λ (x : StageFacts). x.world) h)
+part_leads s (steps.Drop f) t h = stays s.world t.world (ap (λ (x : StageFacts). x.world) h)
+part_leads s (steps.Repeat f) t h = stays s.world t.world (ap (λ (x : StageFacts). x.world) h)
+part_leads s (steps.Forge f) t h = stays s.world t.world (ap (λ (x : StageFacts). x.world) h)
+part_leads s (steps.Raw to bytes) t h = stays s.world t.world (ap (λ (x : StageFacts). x.world) h)
+part_leads s steps.Show t h = stays s.world t.world (ap (λ (x : StageFacts). x.world) h)
+part_leads s steps.Digest t h = stays s.world t.world (ap (λ (x : StageFacts). x.world) h)
+part_leads s (steps.State id) t h = stays s.world t.world (ap (λ (x : StageFacts). x.world) h)
+
+first_part_leads : (s : StageFacts) (xs : List Step) (t : StageFacts) → DoesPartOfFirst s xs t → Leads s.world t.world
+first_part_leads s [] t h = stays s.world t.world (ap (λ (x : StageFacts). x.world) h)
+first_part_leads s (x ∷ xs) t h = part_leads s x t h
+
+pub passed_leads : (script : Script) (t : StageFacts) → Passes script t → Leads (start_of script.head).world t.world
+passed_leads script t p = on (start_of script.head).world p.stage.world t.world (plays_lead (start_of script.head) p.before p.text p.stage p.plays) (first_part_leads p.stage p.later t p.part)
+
+pub on_run : (input : List ℕ) (script : Script) (t : StageFacts) → script_of input ≡ Ok script → Passes script t → IsOnRun script.head t
+on_run input script t is p =
+    let h = script.head in
+    let w = passed_leads script t p in
+    record {
+      events = w.0;
+      runs = w.1;
+      heard = passed_hears script t p;
+      sound = sound_worlds (configuration_of h) (is_faulty h) (correct_signers h) (head_configuration h (script_legal input script is)) (head_listed h) w.0 t.world
+          (runs_lead (first_world (configuration_of h) (is_faulty h) (correct_signers h)) w.0 t.world w.1);
+    }

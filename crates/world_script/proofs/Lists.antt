@@ -1,0 +1,119 @@
+-- Lists: ranges, the first that is so, and what a change of it leaves.
+use Rattle.std.proofs.Common.{◌≡◌, ℕ, zero, suc, ◌+◌, ◌<◌, Bool, true, false, cond, List, [], ◌∷◌, ◌++◌, length, get_or, set, find, map, Some, None, refl, sym, ap, ◌∙◌, arith, if◌then◌else◌}
+use Rattle.std.specs.List.{position, range_with_len}
+use Rattle.std.specs.Prelude.{slice_get, option_and_then}
+use Rattle.std.proofs.lemmas.Option.{slice_get-get_or}
+use Rattle.service_model.proofs.Found.{find_by_position}
+use Rattle.std.proofs.lemmas.List.{map-append}
+use Rattle.std.proofs.lemmas.List.Quantifiers.{position-Some}
+use Rattle.script_text.specs.declared.script.Filter.{Filter}
+use Rattle.world_script.specs.Letters.{LetterFacts, first_meant, is_meant, without_first}
+use Rattle.world_script.specs.Stages.{at_first}
+
+pub range_push : (a n : ℕ) → range_with_len a (n + 1) ≡ range_with_len a n ++ (a + n) ∷ []
+range_push a zero = ap (λ (k : ℕ). k ∷ []) (same a) where
+  same : (a : ℕ) → a ≡ a + 0
+  same a = omega arith
+range_push a (suc n) =
+    ap (range_with_len a) (more n) ∙ ap (λ (xs : List ℕ). a ∷ xs) (range_push (a + 1) n)
+    ∙ ap (λ (k : ℕ). a ∷ range_with_len (a + 1) n ++ k ∷ []) (same a n) where
+      more : (n : ℕ) → suc n + 1 ≡ suc (n + 1)
+      more n = omega arith
+
+      same : (a n : ℕ) → a + 1 + n ≡ a + suc n
+      same a n = omega arith
+
+from_zero : (n : ℕ) → range_with_len 0 (n + 1) ≡ range_with_len 0 n ++ n ∷ []
+from_zero n = range_push 0 n ∙ ap (λ (k : ℕ). range_with_len 0 n ++ k ∷ []) (same n) where
+  same : (n : ℕ) → 0 + n ≡ n
+  same n = omega arith
+
+-- one more of a list made of numbers
+pub mapped_push : {A : Type 0} (g : ℕ → A) (n : ℕ) → map g (range_with_len 0 n) ++ g n ∷ [] ≡ map g (range_with_len 0 (n + 1))
+mapped_push g n = sym (ap (map g) (from_zero n) ∙ map-append g (range_with_len 0 n) (n ∷ []))
+
+pub length_range : (a n : ℕ) → length (range_with_len a n) ≡ n
+length_range a zero = refl
+length_range a (suc n) = ap suc (length_range (a + 1) n)
+
+some_none : {X : Type 0} {x : X} → Some x ≡ None → ⊥
+some_none h = cc h
+
+-- ---- the first letter that is meant
+
+none_then : (f : Filter) (os : List LetterFacts) (l : LetterFacts) (b : Bool) → is_meant f l ≡ b → first_meant f (l ∷ os) ≡ cond b (Some l) (first_meant f os)
+none_then f os l b is = ap (λ (x : Bool). cond x (Some l) (first_meant f os)) is
+
+rest_then : (f : Filter) (os : List LetterFacts) (l : LetterFacts) (b : Bool) → is_meant f l ≡ b → without_first f (l ∷ os) ≡ (if b then os else l ∷ without_first f os)
+rest_then f os l b is = ap (λ (x : Bool). if x then os else l ∷ without_first f os) is
+
+-- a letter ahead of others of which none is meant is not meant
+none_behind : (f : Filter) (o : LetterFacts) (os : List LetterFacts) → first_meant f (o ∷ os) ≡ None → (is_meant f o ≡ false) × (first_meant f os ≡ None)
+none_behind f o os none = by (is_meant f o) refl where
+  by : (b : Bool) → is_meant f o ≡ b → (is_meant f o ≡ false) × (first_meant f os ≡ None)
+  by true is = absurd (some_none (sym (none_then f os o true is) ∙ none))
+  by false is = (is, sym (none_then f os o false is) ∙ none)
+
+pub passes : (f : Filter) (os : List LetterFacts) (l : LetterFacts) → first_meant f os ≡ None → is_meant f l ≡ false → first_meant f (os ++ l ∷ []) ≡ None
+passes f [] l none other = none_then f [] l false other
+passes f (o ∷ os) l none other =
+    let b = none_behind f o os none in none_then f (os ++ l ∷ []) o false b.0 ∙ passes f os l b.1 other
+
+pub is_first : (f : Filter) (os : List LetterFacts) (l : LetterFacts) (ls : List LetterFacts) → first_meant f os ≡ None → is_meant f l ≡ true → first_meant f (os ++ l ∷ ls) ≡ Some l
+is_first f [] l ls none meant = none_then f ls l true meant
+is_first f (o ∷ os) l ls none meant =
+    let b = none_behind f o os none in none_then f (os ++ l ∷ ls) o false b.0 ∙ is_first f os l ls b.1 meant
+
+pub rest_of : (f : Filter) (os : List LetterFacts) (l : LetterFacts) (ls : List LetterFacts) → first_meant f os ≡ None → is_meant f l ≡ true → without_first f (os ++ l ∷ ls) ≡ os ++ ls
+rest_of f [] l ls none meant = rest_then f ls l true meant
+rest_of f (o ∷ os) l ls none meant =
+    let b = none_behind f o os none in
+    rest_then f (os ++ l ∷ ls) o false b.0 ∙ ap (λ (xs : List LetterFacts). o ∷ xs) (rest_of f os l ls b.1 meant)
+
+-- nothing is taken where none is meant
+pub keeps_all : (f : Filter) (ls : List LetterFacts) → first_meant f ls ≡ None → without_first f ls ≡ ls
+keeps_all f [] none = refl
+keeps_all f (l ∷ ls) none =
+    let b = none_behind f l ls none in
+    rest_then f ls l false b.0 ∙ ap (λ (xs : List LetterFacts). l ∷ xs) (keeps_all f ls b.1)
+
+-- ---- the first that is changed
+
+module _ {A : Type 0} (is : A → Bool) (change : A → A) where
+  first_then : (x : A) (xs : List A) (b : Bool) → is x ≡ b → at_first is change (x ∷ xs) ≡ (if b then change x ∷ xs else x ∷ at_first is change xs)
+  first_then x xs b same = ap (λ (c : Bool). if c then change x ∷ xs else x ∷ at_first is change xs) same
+
+  changed_at : (xs : List A) (i : ℕ) (d : A) → i < length xs → is (get_or xs i d) ≡ true → ((k : ℕ) → k < i → is (get_or xs k d) ≡ false)
+      → set xs i (change (get_or xs i d)) ≡ at_first is change xs
+  changed_at [] i d below it before = absurd (omega (arith, below))
+  changed_at (x ∷ xs) zero d below it before = sym (first_then x xs true it)
+  changed_at (x ∷ xs) (suc i) d below it before =
+      ap (λ (ys : List A). x ∷ ys) (changed_at xs i d (omega (arith, below)) it (λ k less. before (suc k) (omega (arith, less))))
+      ∙ sym (first_then x xs false (before 0 (omega arith)))
+
+  -- the first that is so is at this index, and is changed there
+  pub changes_first : (xs : List A) (i : ℕ) (x : A) → position is xs ≡ Some i → x ≡ get_or xs i x → set xs i (change x) ≡ at_first is change xs
+  changes_first xs i x at read =
+      let found = position-Some is xs i x at in
+      ap (λ (y : A). set xs i (change y)) read ∙ changed_at xs i x found.0 found.1 found.2
+
+  stays_then : (x : A) (xs : List A) → find is (x ∷ xs) ≡ None → (is x ≡ false) × (find is xs ≡ None)
+  stays_then x xs none = by (is x) refl where
+    by : (b : Bool) → is x ≡ b → (is x ≡ false) × (find is xs ≡ None)
+    by true it = absurd (some_none (sym (ap (λ (c : Bool). cond c (Some x) (find is xs)) it) ∙ none))
+    by false it = (it, sym (ap (λ (c : Bool). cond c (Some x) (find is xs)) it) ∙ none)
+
+  -- where none is so, all stay
+  pub stays : (xs : List A) → find is xs ≡ None → at_first is change xs ≡ xs
+  stays [] none = refl
+  stays (x ∷ xs) none = let b = stays_then x xs none in first_then x xs false b.0 ∙ ap (λ (ys : List A). x ∷ ys) (stays xs b.1)
+
+-- ---- the first that is so, by its index
+
+module _ {A : Type 0} (is : A → Bool) where
+  pub found_at : (xs : List A) (i : ℕ) (x : A) → position is xs ≡ Some i → x ≡ get_or xs i x → find is xs ≡ Some x
+  found_at xs i x at read =
+      find_by_position is xs ∙ ap (option_and_then (slice_get xs)) at ∙ slice_get-get_or xs i x (position-Some is xs i x at).0 ∙ ap Some (sym read)
+
+  pub found_none : (xs : List A) → position is xs ≡ None → find is xs ≡ None
+  found_none xs at = find_by_position is xs ∙ ap (option_and_then (slice_get xs)) at

@@ -1,0 +1,27 @@
+use Rattle.std.proofs.Common.{◌≡◌, ◌++◌, None, sym, ap, subst, ◌∙◌}
+use Rattle.std.specs.Prelude.{is_some}
+use Rattle.std.specs.String.{string_bytes}
+use Rattle.world_script.specs.Letters.{first_meant}
+use Rattle.world_script.specs.Parts.{ahead}
+use Rattle.world_script.specs.Stages.{Delivers, StageFacts}
+use Rattle.world_script.proofs.Delivering.{delivered, restored}
+use Rattle.world_script.proofs.stage.Stage.deliver_next.Goals as goal
+
+pub returns-in_default : goal.returns-in_default
+returns-in_default c =
+    let kept : StageFacts = record { world = c.self.inside.world; forgers = c.self.inside.forgers.items; sessions = c.self.inside.sessions.sessions.items; made = c.self.inside.made.items; queue = c.self.inside.queue } in
+    let view : kept ≡ c.args.self.now = c.self.view_is in
+    let m = c.in_ok-letter.ensures in
+    subst (λ (s : StageFacts). (first_meant c.args.filter.now (c.args.others.now ++ s.queue) ≡ None) × (record kept { queue = c.swap.new.x } ≡ ahead c.args.others.now s)) view
+    (restored c.args.filter.now kept c.args.others.now c.next_meant.new.others c.next_meant.new.self c.swap.new.x c.in_ok-letter.field-0 (ap is_some c.in_default.is) m.found m.rest m.emptied c.swap.ensures.x_after)
+
+pub returns : goal.returns
+returns c =
+    let kept : StageFacts = record { world = c.self.inside.world; forgers = c.self.inside.forgers.items; sessions = c.self.inside.sessions.sessions.items; made = c.self.inside.made.items; queue = c.self.inside.queue } in
+    let view : kept ≡ c.args.self.now = c.self.view_is in
+    let m = c.in_ok-letter.ensures in (
+      subst (λ (s : StageFacts). Delivers c.args.filter.now (ahead c.args.others.now s) (string_bytes c.in_ok-text.text) (ahead c.next_meant.new.others c.hand_over.new.self)) view
+          (delivered c.args.filter.now kept c.hand_over.new.self c.in-Some.letter (c.args.others.now ++ c.self.inside.queue) c.next_meant.new.others c.next_meant.new.self _
+          (sym m.found ∙ c.in-Some.is) m.rest c.in_ok-text.ensures),
+      m.passed,
+    )

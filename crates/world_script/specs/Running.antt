@@ -1,0 +1,75 @@
+-- Internal: a run of a script before the line of its fault is written.
+use Rattle.std.specs.Prelude.{◌≡◌, ◌≢◌, ℕ, ◌<◌, List, [], length, Option, Result, Ok, Err, IfSome, Vec, ◌⊎◌}
+use Rattle.std.specs.Io.KnownBytes.{Appends}
+use Rattle.std.specs.declared.alloc.Global.{Global}
+use Rattle.script_text.specs.declared.fault.ScriptFault.{ScriptFault}
+use Rattle.script_text.specs.declared.fault.ScriptKind.{ScriptKind}
+use Rattle.script_text.specs.declared.fault.ScriptKind.TheVariants as kinds
+use Rattle.script_text.specs.declared.script.Script.{Script}
+use Rattle.world_script.specs.Scripts.{BreaksOff, IsRun, fault_line, Plays, WritesBefore}
+use Rattle.world_script.specs.Stages.{Begins, Overruns, StageFacts}
+use Rattle.world_script.specs.Starts.{start_of}
+use Rattle.world_script.specs.Writing.{AppendsFront}
+
+-- ---- what is read
+
+-- All bytes, or why not.
+abbrev pub ReadsAll : Option (List ℕ) → Result (Vec ℕ Global) ScriptKind → Type 0
+ReadsAll known (Ok v) = IfSome known (λ bytes. v.items ≡ bytes)
+ReadsAll known (Err kinds.TooLong) = IfSome known (λ bytes. 1048576 < length bytes)
+ReadsAll known (Err kinds.Read) = Unit {0}
+ReadsAll known (Err kinds.Memory) = Unit {0}
+ReadsAll known (Err kinds.NotToml) = ⊥
+ReadsAll known (Err kinds.MissingKey) = ⊥
+ReadsAll known (Err kinds.WrongValue) = ⊥
+ReadsAll known (Err kinds.UnknownKey) = ⊥
+ReadsAll known (Err kinds.BadConfig) = ⊥
+ReadsAll known (Err kinds.TooManyDeliveries) = ⊥
+ReadsAll known (Err kinds.Write) = ⊥
+
+-- ---- the steps
+
+-- How the steps of a script end that don't all run; a failed write leaves the first bytes of their lines.
+abbrev pub Fails : ScriptKind → Script → ℕ → Option (List ℕ) → Option (List ℕ) → Type 0
+Fails kinds.TooManyDeliveries script number old new = (text : List ℕ) × BreaksOff (start_of script.head) script.steps number Overruns text × Appends old new text
+Fails kinds.Memory script number old new = (text : List ℕ) × ((text ≡ []) ⊎ BreaksOff (start_of script.head) script.steps number Begins text) × Appends old new text
+Fails kinds.Write script number old new = (text : List ℕ) × BreaksOff (start_of script.head) script.steps number Begins text × AppendsFront old new text
+Fails kinds.Read script number old new = ⊥
+Fails kinds.TooLong script number old new = ⊥
+Fails kinds.NotToml script number old new = ⊥
+Fails kinds.MissingKey script number old new = ⊥
+Fails kinds.WrongValue script number old new = ⊥
+Fails kinds.UnknownKey script number old new = ⊥
+Fails kinds.BadConfig script number old new = ⊥
+
+abbrev pub RunsSteps : Script → Option (List ℕ) → Option (List ℕ) → Result (Unit {0}) ScriptFault → Type 0
+RunsSteps script old new (Ok u) = (text : List ℕ) × (t : StageFacts) × Plays (start_of script.head) script.steps text t × Appends old new text
+RunsSteps script old new (Err fault) = Fails fault.kind script fault.step old new
+
+-- ---- the whole
+
+abbrev pub StopsAt : ScriptKind → List ℕ → ScriptFault → Option (List ℕ) → Option (List ℕ) → Type 0
+StopsAt kinds.Write input fault old new = (text : List ℕ) × WritesBefore kinds.Write input fault text × AppendsFront old new text
+StopsAt kinds.NotToml input fault old new = (text : List ℕ) × WritesBefore kinds.NotToml input fault text × Appends old new text
+StopsAt kinds.MissingKey input fault old new = (text : List ℕ) × WritesBefore kinds.MissingKey input fault text × Appends old new text
+StopsAt kinds.WrongValue input fault old new = (text : List ℕ) × WritesBefore kinds.WrongValue input fault text × Appends old new text
+StopsAt kinds.UnknownKey input fault old new = (text : List ℕ) × WritesBefore kinds.UnknownKey input fault text × Appends old new text
+StopsAt kinds.BadConfig input fault old new = (text : List ℕ) × WritesBefore kinds.BadConfig input fault text × Appends old new text
+StopsAt kinds.TooLong input fault old new = (text : List ℕ) × WritesBefore kinds.TooLong input fault text × Appends old new text
+StopsAt kinds.TooManyDeliveries input fault old new = (text : List ℕ) × WritesBefore kinds.TooManyDeliveries input fault text × Appends old new text
+StopsAt kinds.Read input fault old new = (text : List ℕ) × WritesBefore kinds.Read input fault text × Appends old new text
+StopsAt kinds.Memory input fault old new = (text : List ℕ) × WritesBefore kinds.Memory input fault text × Appends old new text
+
+abbrev pub PlaysInput : List ℕ → Option (List ℕ) → Option (List ℕ) → Result (Unit {0}) ScriptFault → Type 0
+PlaysInput input old new (Ok u) = (text : List ℕ) × IsRun input text × Appends old new text
+PlaysInput input old new (Err fault) = StopsAt fault.kind input fault old new
+
+abbrev pub PlaysWhatIsRead : Option (List ℕ) → Option (List ℕ) → Option (List ℕ) → Result (Unit {0}) ScriptFault → Type 0
+PlaysWhatIsRead input old new result = IfSome input (λ bytes. PlaysInput bytes old new result)
+
+-- The fault is reported, with its line; or the write of this line fails, and that is the fault. A failed write has no line.
+abbrev pub Reports : ScriptFault → Option (List ℕ) → Option (List ℕ) → ScriptFault → Type 0
+Reports fault old new reported =
+    ((fault.kind ≡ kinds.Write) × (reported ≡ fault) × (new ≡ old))
+    ⊎ ((fault.kind ≢ kinds.Write) × (((reported ≡ fault) × Appends old new (fault_line fault))
+    ⊎ ((reported ≡ record { kind = kinds.Write; step = fault.step }) × AppendsFront old new (fault_line fault))))

@@ -1,0 +1,364 @@
+-- Statement: what a running script holds, and what each of its steps prints and makes of that.
+use Rattle.std.proofs.Common.{zero, suc}
+use Rattle.std.specs.Prelude.{◌≡◌, ◌≢◌, ℕ, ◌+◌, ◌≤◌, ◌==◌, Bool, true, false, not, ◌&&◌, List, [], ◌∷◌, ◌++◌, map, filter, find, flat_map, Option, Some, None, is_some, Result, Ok, Err, ◌⊎◌, if◌then◌else◌}
+use Rattle.std.specs.List.{range_with_len}
+use Rattle.std.specs.Option.{option_map}
+use Rattle.host_types.specs.Configuration.{Configuration, replicas_for}
+use Rattle.host_types.specs.declared.ClientId.{ClientId}
+use Rattle.host_types.specs.declared.ReplicaId.{ReplicaId}
+use Rattle.host_types.specs.declared.request.Reply.{Reply}
+use Rattle.lms_tree.specs.Keys.{after_signing, leaf_count}
+use Rattle.lms_tree.specs.SigningState.{SigningState}
+use Rattle.pbft_codec.specs.declared.body.Body.{Body}
+use Rattle.pbft_codec.specs.declared.body.Body.TheVariants as bodies
+use Rattle.pbft_codec.specs.declared.signed.Role.TheVariants as roles
+use Rattle.pbft_codec.specs.declared.signed.Signed.{Signed}
+use Rattle.pbft_codec.specs.Encoding.{signed_text}
+use Rattle.seal.specs.Opening.{CheckedMessage, opening, sealed_message}
+use Rattle.seal.specs.declared.fault.SealFault.{SealFault}
+use Rattle.seal.specs.declared.vote.VoteKind.{VoteKind}
+use Rattle.seal.specs.declared.vote.VoteKind.TheVariants as votes
+use Rattle.sha2.specs.Sha256.{sha256}
+use Rattle.service_model.specs.TenantStates.{Service}
+use Rattle.pbft_model.specs.Core.{Core}
+use Rattle.replica_core.specs.Facts.{RowFacts}
+use Rattle.replica_core.specs.declared.halt.Halt.{Halt}
+use Rattle.replica_core.specs.declared.halt.Halt.TheVariants as halts
+use Rattle.replica_core.specs.declared.row.Dest.{Dest}
+use Rattle.replica_core.specs.declared.row.Dest.TheVariants as dests
+use Rattle.replica_core.specs.declared.row.Output.{Output}
+use Rattle.byz_world.specs.Worlds.{Gives, MemberFacts, Where, WorldFacts, member_of}
+use Rattle.byz_world.specs.declared.event.Event.{Event}
+use Rattle.byz_world.specs.declared.event.Event.TheVariants as events
+use Rattle.client_session.specs.Sessions.{SessionState, accepted_by, asked, next_request, offered}
+use Rattle.script_text.specs.declared.script.Filter.{Filter}
+use Rattle.script_text.specs.declared.script.Forgery.{Forgery}
+use Rattle.script_text.specs.declared.script.Order.{Order}
+use Rattle.script_text.specs.declared.script.Node.{Node}
+use Rattle.script_text.specs.declared.script.Node.TheVariants.{Replica, Client}
+use Rattle.script_text.specs.declared.script.Step.{Step}
+use Rattle.script_text.specs.declared.script.Step.TheVariants as steps
+use Rattle.world_script.specs.declared.forging.Forger.{Forger}
+use Rattle.world_script.specs.declared.made.Made.{Made}
+use Rattle.world_script.specs.Letters.{LetterFacts, copies, first_meant, is_meant, letter_of, same_node, without_first}
+use Rattle.world_script.specs.Lines.{digest_line, nothing_queued_line, refusal_line, reply_line, state_line, status_line}
+
+-- What a running script holds.
+pub record StageFacts : Type 0 where
+  pub world : WorldFacts
+  -- the signers of the faulty replicas
+  pub forgers : List Forger
+  pub sessions : List SessionState
+  -- the requests that were made
+  pub made : List Made
+  -- the messages on their way, the next one first
+  pub queue : List LetterFacts
+
+abbrev pub queued : StageFacts → List LetterFacts → StageFacts
+queued s letters = record s { queue = s.queue ++ letters }
+
+-- what is printed, and what is held then
+abbrev pub Turn : Type 0
+Turn = List ℕ × StageFacts
+
+abbrev pub quiet : StageFacts → Turn
+quiet s = ([], s)
+
+abbrev pub nothing_queued : StageFacts → Turn
+nothing_queued s = (nothing_queued_line, s)
+
+-- the first that is so is changed
+abbrev pub at_first : {A : Type 0} → (A → Bool) → (A → A) → List A → List A
+at_first is change [] = []
+at_first is change (x ∷ xs) = if is x then change x ∷ xs else x ∷ at_first is change xs
+
+-- the ids of the replicas, ascending
+abbrev pub ids_of : Configuration → List ReplicaId
+ids_of c = map (λ (id : ℕ). record { 0 = id }) (range_with_len 0 (replicas_for c.f))
+
+abbrev pub all_replicas : Configuration → List Node
+all_replicas c = map Replica (ids_of c)
+
+abbrev pub all_but : Node → List Node → List Node
+all_but one nodes = filter (λ (p : Node). not (same_node p one)) nodes
+
+abbrev pub has_no_leaf : SigningState → Bool
+has_no_leaf s = s.next_leaf == leaf_count s
+
+-- the one that was found, if it can still sign
+abbrev pub if_it_signs : {A : Type 0} → (A → SigningState) → Option A → Option A
+if_it_signs signer None = None
+if_it_signs signer (Some x) = if has_no_leaf (signer x) then None else Some x
+
+-- ---- requests
+
+abbrev pub is_of : ClientId → SessionState → Bool
+is_of client s = s.client.0 == client.0
+
+-- whom a request is for: all replicas where none are named
+abbrev pub receivers : Configuration → Option (List Node) → List Node
+receivers c None = all_replicas c
+receivers c (Some nodes) = nodes
+
+-- the request that a session makes, as one that was made
+abbrev pub made_by : ClientId → SessionState → List ℕ → Made
+made_by client session op = record {
+  client = client;
+  time = session.time + 1;
+  digest = record { 0 = sha256 (signed_text (next_request session op)) };
+}
+
+abbrev pub after_asking : SessionState → SessionState
+after_asking session = asked session (after_signing session.signer)
+
+abbrev pub with_request : StageFacts → Order → SessionState → StageFacts
+with_request s o session = record s {
+  sessions = at_first (is_of o.client) after_asking s.sessions;
+  made = s.made ++ made_by o.client session o.op ∷ [];
+  queue = s.queue ++ copies (letter_of (Client o.client) (next_request session o.op)) (receivers s.world.config o.to);
+}
+
+-- the session of a client that can still sign
+abbrev pub signing_session : List SessionState → ClientId → Option SessionState
+signing_session sessions client = if_it_signs (λ (x : SessionState). x.signer) (find (is_of client) sessions)
+
+-- A client that can't sign queues nothing.
+abbrev pub requested_by : StageFacts → Order → Option SessionState → Turn
+requested_by s o None = nothing_queued s
+requested_by s o (Some session) = quiet (with_request s o session)
+
+abbrev pub requested : StageFacts → Order → Turn
+requested s o = requested_by s o (signing_session s.sessions o.client)
+
+-- ---- forged votes
+
+abbrev pub is_request : ClientId × ℕ → Made → Bool
+is_request named made = (made.client.0 == named.0.0) && (made.time == named.1)
+
+-- the digest of a request that was made, or of the null request
+abbrev pub digest_named : StageFacts → Option (ClientId × ℕ) → Option (List ℕ)
+digest_named s None = Some (sha256 [])
+digest_named s (Some named) = option_map (λ (made : Made). made.digest.0) (find (is_request named) s.made)
+
+abbrev pub vote_of : VoteKind → Forgery → List ℕ → Body
+vote_of votes.PrePrepare f digest = bodies.PrePrepare (record { view = f.view; number = f.number; digest = record { 0 = digest } })
+vote_of votes.Prepare f digest = bodies.Prepare (record { view = f.view; number = f.number; digest = record { 0 = digest } })
+vote_of votes.Commit f digest = bodies.Commit (record { view = f.view; number = f.number; digest = record { 0 = digest } })
+
+abbrev pub forged_vote : SigningState → Forgery → List ℕ → Signed Body
+forged_vote signer f digest = sealed_message signer roles.Replica f.from.0 (vote_of f.kind f digest)
+
+abbrev pub is_forger : ReplicaId → Forger → Bool
+is_forger id g = g.id.0 == id.0
+
+abbrev pub after_forging : Forger → Forger
+after_forging g = record g { signer = after_signing g.signer }
+
+abbrev pub with_vote : StageFacts → Forgery → List ℕ → Forger → StageFacts
+with_vote s f digest g = record s {
+  forgers = at_first (is_forger f.from) after_forging s.forgers;
+  queue = s.queue ++ copies (letter_of (Replica f.from) (forged_vote g.signer f digest)) f.to;
+}
+
+-- the forger of this id that can still sign
+abbrev pub signing_forger : List Forger → ReplicaId → Option Forger
+signing_forger forgers id = if_it_signs (λ (g : Forger). g.signer) (find (is_forger id) forgers)
+
+-- A replica that can't sign queues nothing.
+abbrev pub forged_by : StageFacts → Forgery → List ℕ → Option Forger → Turn
+forged_by s f digest None = nothing_queued s
+forged_by s f digest (Some g) = quiet (with_vote s f digest g)
+
+-- A vote for a request that was never made is none.
+abbrev pub forged_for : StageFacts → Forgery → Option (List ℕ) → Turn
+forged_for s f None = nothing_queued s
+forged_for s f (Some digest) = forged_by s f digest (signing_forger s.forgers f.from)
+
+abbrev pub forged : StageFacts → Forgery → Turn
+forged s f = forged_for s f (digest_named s f.request)
+
+-- ---- events at a replica
+
+-- correct, and not halted
+abbrev pub runs_in : Option MemberFacts → Bool
+runs_in None = false
+runs_in (Some m) = is_some m.replica.core
+
+abbrev pub is_running : WorldFacts → ReplicaId → Bool
+is_running w id = runs_in (member_of w id.0)
+
+abbrev pub halt_in : Option MemberFacts → Option Halt
+halt_in None = None
+halt_in (Some m) = m.replica.status.halted
+
+-- whom an output is for
+abbrev pub receivers_of : Configuration → ReplicaId → Dest → List Node
+receivers_of c from dests.All = all_but (Replica from) (all_replicas c)
+receivers_of c from (dests.Replica id) = Replica id ∷ []
+receivers_of c from (dests.Client client) = Client client ∷ []
+
+abbrev pub letters_of : Configuration → ReplicaId → Output → List LetterFacts
+letters_of c from o = copies (letter_of (Replica from) o.message.message) (receivers_of c from o.to)
+
+abbrev pub letters_in : Configuration → ReplicaId → Option RowFacts → List LetterFacts
+letters_in c from None = []
+letters_in c from (Some row) = flat_map (letters_of c from) row.outputs
+
+abbrev pub lacked_memory : Option Halt → Bool
+lacked_memory None = false
+lacked_memory (Some halts.Memory) = true
+lacked_memory (Some halts.Exhausted) = false
+lacked_memory (Some halts.Worn) = false
+lacked_memory (Some halts.JournalFull) = false
+lacked_memory (Some halts.AlreadyHalted) = false
+
+-- The event happens, and what it gives is queued. A replica that halts for lack of memory ends the script instead.
+pub record Occurs (s : StageFacts) (id : ReplicaId) (event : Event) (t : StageFacts) : Type 0 where
+  pub row : Option RowFacts
+  pub world : WorldFacts
+  pub gives : Gives s.world event (Ok row) world
+  pub continues : lacked_memory (halt_in (member_of world id.0)) ≡ false
+  pub new : t ≡ queued (record s { world = world }) (letters_in s.world.config id row)
+
+-- A timeout; one at a replica that is faulty or has halted is nothing.
+abbrev pub TimesOut : StageFacts → ReplicaId → StageFacts → Type 0
+TimesOut s id t = Where (is_running s.world id) (Occurs s id (events.Timeout id) t) (t ≡ s)
+
+abbrev pub AllTimeOut : StageFacts → List ReplicaId → StageFacts → Type 0
+AllTimeOut s [] t = t ≡ s
+AllTimeOut s (id ∷ ids) t = (u : StageFacts) × TimesOut s id u × AllTimeOut u ids t
+
+-- ---- deliveries
+
+-- what is printed of bytes that a replica refuses
+abbrev pub refusal_of : ReplicaId → Result CheckedMessage SealFault → List ℕ
+refusal_of id (Ok m) = []
+refusal_of id (Err fault) = refusal_line id fault
+
+pub record Receives (s : StageFacts) (id : ReplicaId) (bytes : List ℕ) (text : List ℕ) (t : StageFacts) : Type 0 where
+  pub occurs : Occurs s id (events.Deliver id bytes) t
+  pub text_is : text ≡ refusal_of id (opening s.world.config bytes)
+
+abbrev pub AtReplica : StageFacts → ReplicaId → List ℕ → List ℕ → StageFacts → Type 0
+AtReplica s id bytes text t = Where (is_running s.world id) (Receives s id bytes text t) ((text, t) ≡ quiet s)
+
+-- what is printed of a reply that a client accepts now
+abbrev pub accepted_now : Option Reply → Option Reply → List ℕ
+accepted_now before None = []
+accepted_now before (Some reply) = if is_some before then [] else reply_line reply
+
+abbrev pub text_at : Option SessionState → Signed Body → List ℕ
+text_at None m = []
+text_at (Some session) m = accepted_now (accepted_by session) (accepted_by (offered session m))
+
+abbrev pub after_offer : List SessionState → ClientId → Signed Body → List SessionState
+after_offer sessions client m = at_first (is_of client) (λ (x : SessionState). offered x m) sessions
+
+-- a client passes over bytes that are no message
+abbrev pub at_client : StageFacts → ClientId → Result CheckedMessage SealFault → Turn
+at_client s client (Err fault) = quiet s
+at_client s client (Ok m) = (
+  text_at (find (is_of client) s.sessions) m.message,
+  record s { sessions = after_offer s.sessions client m.message },
+)
+
+abbrev pub HandsTo : Node → StageFacts → List ℕ → List ℕ → StageFacts → Type 0
+HandsTo (Replica id) s bytes text t = AtReplica s id bytes text t
+HandsTo (Client client) s bytes text t = (text, t) ≡ at_client s client (opening s.world.config bytes)
+
+-- The first letter that is meant is handed to its addressee.
+pub record Delivers (f : Filter) (s : StageFacts) (text : List ℕ) (t : StageFacts) : Type 0 where
+  pub letter : LetterFacts
+  pub is_first : first_meant f s.queue ≡ Some letter
+  pub handed : HandsTo letter.to (record s { queue = without_first f s.queue }) letter.bytes text t
+
+-- so many deliveries
+abbrev pub Deliveries : Filter → ℕ → StageFacts → List ℕ → StageFacts → Type 0
+Deliveries f zero s text t = (text ≡ []) × (t ≡ s)
+Deliveries f (suc n) s text t = (before line : List ℕ) × (u : StageFacts) × Deliveries f n s before u × Delivers f u line t × (text ≡ before ++ line)
+
+abbrev pub max_deliveries : ℕ
+max_deliveries = 1_000_000
+
+-- ---- what `show` prints
+
+abbrev pub status_of : ReplicaId → Option MemberFacts → List ℕ
+status_of id None = []
+status_of id (Some m) = status_line id m.replica.status
+
+abbrev pub status_printed : WorldFacts → ReplicaId → List ℕ
+status_printed w id = status_of id (member_of w id.0)
+
+-- the service of a correct replica that has not halted
+abbrev pub service_in : Option MemberFacts → Option Service
+service_in None = None
+service_in (Some m) = option_map (λ (c : Core). c.service) m.replica.core
+
+abbrev pub digest_of : ReplicaId → Option Service → List ℕ
+digest_of id None = []
+digest_of id (Some service) = digest_line id service
+
+abbrev pub digest_printed : WorldFacts → ReplicaId → List ℕ
+digest_printed w id = digest_of id (service_in (member_of w id.0))
+
+abbrev pub state_of : ReplicaId → Option Service → List ℕ
+state_of id None = []
+state_of id (Some service) = state_line id service
+
+abbrev pub state_printed : WorldFacts → ReplicaId → List ℕ
+state_printed w id = state_of id (service_in (member_of w id.0))
+
+-- ---- steps
+
+-- The letters that are meant are removed, or queued once more.
+abbrev pub dropped : StageFacts → Filter → StageFacts
+dropped s f = record s { queue = filter (λ (l : LetterFacts). not (is_meant f l)) s.queue }
+
+abbrev pub repeated : StageFacts → Filter → StageFacts
+repeated s f = queued s (filter (is_meant f) s.queue)
+
+abbrev pub raw_letter : List ℕ → LetterFacts
+raw_letter bytes = record { to = Replica (record { 0 = 0 }); from = None; kind = None; bytes = bytes }
+
+-- What a step prints, and what is held after it.
+abbrev pub Prints : StageFacts → Step → List ℕ → StageFacts → Type 0
+Prints s (steps.Request o) text t = (text, t) ≡ requested s o
+Prints s (steps.Deliver f) text t = (n : ℕ) × (n ≤ max_deliveries) × Deliveries f n s text t × (first_meant f t.queue ≡ None)
+Prints s (steps.Drop f) text t = (text, t) ≡ quiet (dropped s f)
+Prints s (steps.Repeat f) text t = (text, t) ≡ quiet (repeated s f)
+Prints s (steps.Timeout at) text t = (text ≡ []) × AllTimeOut s at t
+Prints s (steps.Forge f) text t = (text, t) ≡ forged s f
+Prints s (steps.Raw to bytes) text t = (text, t) ≡ quiet (queued s (copies (raw_letter bytes) to))
+Prints s steps.Show text t = (text ≡ flat_map (status_printed s.world) (ids_of s.world.config)) × (t ≡ s)
+Prints s steps.Digest text t = (text ≡ flat_map (digest_printed s.world) (ids_of s.world.config)) × (t ≡ s)
+Prints s (steps.State id) text t = (text ≡ state_printed s.world id) × (t ≡ s)
+
+-- More messages are meant than a step delivers.
+abbrev pub Overruns : StageFacts → Step → List ℕ → Type 0
+Overruns s (steps.Deliver f) text = (t : StageFacts) × Deliveries f max_deliveries s text t × (first_meant f t.queue ≢ None)
+Overruns s (steps.Request o) text = ⊥
+Overruns s (steps.Drop f) text = ⊥
+Overruns s (steps.Repeat f) text = ⊥
+Overruns s (steps.Timeout at) text = ⊥
+Overruns s (steps.Forge f) text = ⊥
+Overruns s (steps.Raw to bytes) text = ⊥
+Overruns s steps.Show text = ⊥
+Overruns s steps.Digest text = ⊥
+Overruns s (steps.State id) text = ⊥
+
+-- nothing, or all that a step prints
+abbrev pub IsAllOrNothing : StageFacts → Step → List ℕ → Type 0
+IsAllOrNothing s step text = (text ≡ []) ⊎ ((t : StageFacts) × Prints s step text t)
+
+-- What a step may have printed before it ended: the lines of some deliveries, else all lines or none.
+abbrev pub Begins : StageFacts → Step → List ℕ → Type 0
+Begins s (steps.Deliver f) text = (n : ℕ) × (t : StageFacts) × (n ≤ max_deliveries) × Deliveries f n s text t
+Begins s (steps.Request o) text = IsAllOrNothing s (steps.Request o) text
+Begins s (steps.Drop f) text = IsAllOrNothing s (steps.Drop f) text
+Begins s (steps.Repeat f) text = IsAllOrNothing s (steps.Repeat f) text
+Begins s (steps.Timeout at) text = IsAllOrNothing s (steps.Timeout at) text
+Begins s (steps.Forge f) text = IsAllOrNothing s (steps.Forge f) text
+Begins s (steps.Raw to bytes) text = IsAllOrNothing s (steps.Raw to bytes) text
+Begins s steps.Show text = IsAllOrNothing s steps.Show text
+Begins s steps.Digest text = IsAllOrNothing s steps.Digest text
+Begins s (steps.State id) text = IsAllOrNothing s (steps.State id) text

@@ -1,0 +1,31 @@
+//! Scripts: a group of replicas, its clients and a queue of messages between them, moved by the steps of
+//! a TOML document.
+//!
+//!     let status = match run_script(alloc, &mut reader, &mut writer) {
+//!         Ok(()) => 0,
+//!         Err(fault) => fault.kind.number(),
+//!     };
+#![tactic(auto)]
+
+mod fault;
+mod forging;
+mod input;
+mod keys;
+mod laws;
+mod lines;
+mod made;
+mod play;
+mod queue;
+mod sessions;
+mod stage;
+mod writing;
+
+pub use fault::RunFault;
+pub use input::read_input;
+pub use keys::{Keys, make_keys};
+pub use laws::scripts_run_sound_worlds;
+pub use lines::line_of_reply;
+pub use play::{report, run_script};
+pub use script_text::{Script, ScriptFault, ScriptKind, read_script};
+pub use sessions::open_sessions;
+pub use writing::write_text;

@@ -1,0 +1,81 @@
+//! The lines that a script prints.
+
+ghost use Rattle.std.specs.Prelude.{◌≡◌, IfOk, string_bytes};
+ghost use Rattle.world_script.specs.Lines.{digest_line, refusal_line, reply_line, state_line, status_line};
+
+use host_types::{ReplicaId, Reply};
+use replica_core::Status;
+use seal::SealFault;
+use service_core::State;
+use std::alloc::{AllocError, Global};
+
+/// What a client has accepted.
+pub fn line_of_reply(alloc: Global, reply: &Reply) -> Result<String, AllocError>
+    ensures { IfOk result (λ line. string_bytes line ≡ reply_line reply.now) }
+{
+    let client = reply.client.0;
+    let time = reply.time;
+    let number = reply.number.0;
+    let result = hex::encode(alloc, reply.result.as_slice())?;
+    format!(in alloc; "client {client} time {time} number {number} result {result}\n")
+}
+
+/// Why a replica refuses bytes.
+pub(crate) fn line_of_refusal(
+    alloc: Global,
+    id: ReplicaId,
+    fault: SealFault,
+) -> Result<String, AllocError>
+    ensures { IfOk result (λ line. string_bytes line ≡ refusal_line id fault) }
+{
+    let id = id.0;
+    format!(in alloc; "refused {id} {fault}\n")
+}
+
+/// Where a replica stands.
+pub(crate) fn line_of_status(
+    alloc: Global,
+    id: ReplicaId,
+    status: &Status,
+) -> Result<String, AllocError>
+    ensures { IfOk result (λ line. string_bytes line ≡ status_line id status.now) }
+{
+    let id = id.0;
+    if let Some(halt) = status.halted {
+        let number = halt.number();
+        return format!(in alloc; "replica {id} halted {number} {halt}\n");
+    }
+    let view = status.view.0;
+    let active = if status.active { "active" } else { "changing" };
+    let low = status.low.0;
+    let executed = status.executed.0;
+    format!(in alloc; "replica {id} view {view} {active} low {low} executed {executed}\n")
+}
+
+/// The number and the digest of a replica's state.
+pub(crate) fn line_of_digest(
+    alloc: Global,
+    id: ReplicaId,
+    state: &State,
+) -> Result<String, AllocError>
+    ensures { IfOk result (λ line. string_bytes line ≡ digest_line id state.now) }
+{
+    let id = id.0;
+    let number = state.number().0;
+    let digest = hex::encode(alloc, state.digest().0)?;
+    format!(in alloc; "digest {id} {number} {digest}\n")
+}
+
+/// The bytes of a replica's state.
+pub(crate) fn line_of_state(
+    alloc: Global,
+    id: ReplicaId,
+    state: &State,
+) -> Result<String, AllocError>
+    ensures { IfOk result (λ line. string_bytes line ≡ state_line id state.now) }
+{
+    let id = id.0;
+    let bytes = state.to_bytes()?;
+    let digits = hex::encode(alloc, bytes.as_slice())?;
+    format!(in alloc; "state {id} {digits}\n")
+}

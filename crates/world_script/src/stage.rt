@@ -1,0 +1,524 @@
+//! A running script: the replicas, the clients, and the messages between them.
+
+ghost use Rattle.std.specs.Prelude.{◌≡◌, ◌++◌, None, IfOk, OnOk, find, flat_map, length, map, option_copied, option_map, string_bytes};
+ghost use Rattle.std.specs.FinSet as set;
+ghost use Rattle.byz_world.specs.Worlds.{first_world, member_of};
+ghost use Rattle.world_script.specs.Starts.{forgers_from, numbers_of, start_of};
+ghost use Rattle.script_text.specs.declared.script.Step.TheVariants as steps;
+ghost use Rattle.script_text.specs.declared.script.Node.TheVariants as nodes;
+ghost use Rattle.world_script.specs.Endings.{Ends};
+ghost use Rattle.world_script.specs.Lines.{nothing_queued_line};
+ghost use Rattle.world_script.specs.Keys.{correct_from, key_of};
+ghost use Rattle.world_script.specs.Letters.{copies, first_meant, letter_of};
+ghost use Rattle.world_script.specs.Parts.{DeliversNext, Performs, Happened, HasMore, ahead, with_message};
+ghost use Rattle.pbft_codec.specs.declared.body.Body.TheVariants as bodies;
+ghost use Rattle.pbft_codec.specs.declared.body.request.RequestBody.{RequestBody};
+ghost use Rattle.world_script.specs.Stages.{AllTimeOut, HandsTo, TimesOut, AtReplica, at_client, digest_named, forged, ids_of, is_request, is_running, letters_in, letters_of, lacked_memory, halt_in, refusal_of, all_replicas, raw_letter, queued, requested, digest_printed, state_printed, status_printed};
+ghost use Rattle.seal.specs.Opening.{opening};
+
+use crate::fault::RunFault;
+use crate::forging::{Forger, forge};
+use crate::keys::make_keys;
+use crate::lines::{line_of_digest, line_of_refusal, line_of_state, line_of_status};
+use crate::made::Made;
+use crate::queue::{Letter, Queue};
+use crate::sessions::Sessions;
+use crate::writing::write_text;
+use byz_world::{Event, World};
+use host_types::{Bytes, ClientId, Config, Digest, ReplicaId, ReplicaSet};
+use lms_tree::Signer;
+use pbft_codec::Body;
+use replica_core::{Dest, Halt, Output, Row};
+use script_text::{Filter, Forgery, Head, Kind, Node, Order, Step};
+use seal::{Checked, SealFault, open, request_digest};
+use sha2::{Digest as _, Sha256};
+use std::alloc::{AllocError, Global};
+use std::io::Write;
+use std::marker::Model;
+use std::mem::swap;
+use std::sync::Arc;
+
+/// The most deliveries of one step.
+const MAX_DELIVERIES: u32 = 1_000_000;
+
+/// The replicas, the clients, and what is on its way between them.
+#[derive(Drop)]
+pub(crate) struct Stage {
+    alloc: Global,
+    config: Arc<Config>,
+    // All replicas, ids ascending.
+    everyone: Vec<Node>,
+    world: World,
+    forgers: Vec<Forger>,
+    sessions: Sessions,
+    made: Vec<Made>,
+    queue: Queue,
+}
+
+impl Model for Stage {
+    ghost use Rattle.std.specs.Prelude.{◌≡◌};
+    ghost use Rattle.std.specs.Coded.{codes};
+    ghost use Rattle.service_model.specs.Equality.{service_code};
+    ghost use Rattle.world_script.specs.Stages.{StageFacts, all_replicas};
+
+    ghost Value = { StageFacts };
+
+    ghost coded = { Prim.hlevel (codes, service_code) };
+
+    ghost view = { λ s. record { world = s.world; forgers = s.forgers.items; sessions = s.sessions.sessions.items; made = s.made.items; queue = s.queue } };
+
+    ghost invariant = { λ s. (s.world.config ≡ s.config.value) × (s.sessions.config.value ≡ s.config.value) × (s.everyone.items ≡ all_replicas s.config.value) };
+}
+
+impl Stage {
+    /// The stage of a head, with an empty queue.
+    pub(crate) fn new(alloc: Global, head: &Head) -> Result<Stage, AllocError>
+        ensures { IfOk result (λ s. s ≡ start_of head.now) }
+    {
+        let keys = make_keys(alloc, head)?;
+        let config = Arc::new(alloc, keys.config)?;
+        let faulty = faulty_set(head.faulty());
+        let (world, forgers) = new_world(alloc, &config, &faulty, keys.replicas)?;
+        let everyone = everyone(alloc, &config)?;
+        Ok(Stage {
+            alloc,
+            world,
+            everyone,
+            forgers,
+            sessions: Sessions::new(alloc, &config, keys.clients)?,
+            config,
+            made: Vec::new(alloc),
+            queue: Queue::new(alloc),
+        })
+    }
+
+    /// Runs a step, and writes what it prints.
+    pub(crate) fn run<O: Write>(&mut self, step: &Step, writer: &mut O) -> Result<(), RunFault>
+        ensures { Ends self.old step.now (O.contents writer.old) (O.contents writer.new) result self.new }
+    {
+        if let Step::Deliver(filter) = step {
+            return self.deliver(filter, writer);
+        }
+        let Ok(text) = self.perform(step) else {
+            return Err(RunFault::Memory);
+        };
+        write_text(writer, &text)
+    }
+
+    /// Runs a step that delivers nothing. What is printed.
+    fn perform(&mut self, step: &Step) -> Result<String, AllocError>
+        ensures { IfOk result (λ text. Performs self.old step.now (string_bytes text) self.new) }
+    {
+        let nothing = String::new(self.alloc);
+        match step {
+            Step::Request(order) => self.request(order),
+            Step::Forge(forgery) => self.forge(forgery),
+            Step::Drop(filter) => {
+                self.queue.discard(filter);
+                Ok(nothing)
+            }
+            Step::Repeat(filter) => {
+                self.queue.repeat(filter)?;
+                Ok(nothing)
+            }
+            Step::Timeout(at) => {
+                self.time_out(at.as_slice())?;
+                Ok(nothing)
+            }
+            Step::Raw { to, bytes } => {
+                self.queue_raw(to.as_slice(), bytes.as_slice())?;
+                Ok(nothing)
+            }
+            Step::Show => self.statuses(),
+            Step::Digest => self.digests(),
+            Step::State(id) => self.state_text(*id),
+            Step::Deliver(_) => Ok(nothing),
+        }
+    }
+
+    // ---- what is queued
+
+    /// Makes a client's request and queues it. What is printed.
+    fn request(&mut self, order: &Order) -> Result<String, AllocError>
+        ensures { IfOk result (λ text. (string_bytes text, self.new) ≡ requested self.old order.now) }
+    {
+        let op = Bytes::from_vec(Vec::from_slice(self.alloc, order.op.as_slice())?);
+        let Some(request) = self.sessions.request(order.client, op)? else {
+            return nothing_queued(self.alloc);
+        };
+        self.queue_request(order, &request)?;
+        Ok(String::new(self.alloc))
+    }
+
+    fn queue_request(&mut self, order: &Order, request: &Checked) -> Result<(), AllocError>
+        ensures { (b : RequestBody) → request.now.message.body ≡ bodies.Request b → OnOk result (self.new ≡ with_message self.old order.now request.now.message b) }
+    {
+        let Body::Request(body) = request.body() else {
+            return Ok(());
+        };
+        self.made.push(Made {
+            client: order.client,
+            time: body.time,
+            digest: request_digest(request),
+        })?;
+        let letter = letter_of(self.alloc, Node::Client(order.client), request)?;
+        match &order.to {
+            Some(to) => self.queue.send(&letter, to.as_slice()),
+            None => self.queue.send(&letter, &self.everyone),
+        }
+    }
+
+    /// Signs a vote of a faulty replica and queues it. What is printed.
+    fn forge(&mut self, forgery: &Forgery) -> Result<String, AllocError>
+        ensures { IfOk result (λ text. (string_bytes text, self.new) ≡ forged self.old forgery.now) }
+    {
+        let Some(digest) = self.digest_named(&forgery.request) else {
+            return nothing_queued(self.alloc);
+        };
+        let Some(vote) = forge(self.alloc, &mut self.forgers, forgery, digest)? else {
+            return nothing_queued(self.alloc);
+        };
+        let from = Node::Replica(forgery.from);
+        let kind = Kind::of_vote(forgery.kind);
+        let letter = Letter::new(self.alloc, from, Some(from), Some(kind), &vote)?;
+        self.queue.send(&letter, forgery.to.as_slice())?;
+        Ok(String::new(self.alloc))
+    }
+
+    /// The digest of a request that was made, or of the null request.
+    fn digest_named(&self, request: &Option<(ClientId, u64)>) -> Option<Digest>
+        ensures { option_map (λ d. d.0) result ≡ digest_named self.now request.now }
+    {
+        let Some((client, time)) = request else {
+            let nothing: &[u8] = &[];
+            return Some(Digest(Sha256::digest(nothing)));
+        };
+        match find_made(&self.made, *client, *time) {
+            Some(made) => Some(made.digest),
+            None => None,
+        }
+    }
+
+    /// Queues bytes that have no sender or kind.
+    fn queue_raw(&mut self, to: &[Node], bytes: &[u8]) -> Result<(), AllocError>
+        ensures { OnOk result (self.new ≡ queued self.old (copies (raw_letter bytes.now) to.now)) }
+    {
+        let nobody = Node::Replica(ReplicaId(0));
+        let letter = Letter::new(self.alloc, nobody, None, None, bytes)?;
+        self.queue.send(&letter, to)
+    }
+
+    // ---- deliveries
+
+    /// Delivers the first letter that is meant, until none is. What comes of it is queued last.
+    fn deliver<O: Write>(&mut self, filter: &Filter, writer: &mut O) -> Result<(), RunFault>
+        ensures { Ends self.old (steps.Deliver filter.now) (O.contents writer.old) (O.contents writer.new) result self.new }
+    {
+        let mut others = Queue::new(self.alloc);
+        for _ in 0..MAX_DELIVERIES {
+            let Some(text) = self.deliver_next(filter, &mut others)? else {
+                return Ok(());
+            };
+            if let Err(_) = write_text(writer, &text) {
+                return Err(RunFault::Write);
+            }
+        }
+        if self.has_more(filter, others)? {
+            return Err(RunFault::TooManyDeliveries);
+        }
+        Ok(())
+    }
+
+    /// Delivers the first letter that is meant; those before it go to `others`. What is printed. Where none
+    /// is meant, all are queued as they were.
+    fn deliver_next(
+        &mut self,
+        filter: &Filter,
+        others: &mut Queue,
+    ) -> Result<Option<String>, AllocError>
+        requires { first_meant filter.now others.old ≡ None }
+        ensures { IfOk result (λ text. DeliversNext filter.now (ahead others.old self.old) (option_map string_bytes text) others.new self.new) }
+    {
+        let Some(letter) = self.queue.next_meant(filter, others)? else {
+            swap(&mut self.queue, others);
+            return Ok(None);
+        };
+        let text = self.hand_over(&letter)?;
+        Ok(Some(text))
+    }
+
+    /// Whether one more letter is meant. Where none is, all are queued as they were.
+    fn has_more(&mut self, filter: &Filter, others: Queue) -> Result<bool, AllocError>
+        requires { first_meant filter.now others ≡ None }
+        ensures { IfOk result (HasMore filter.now (ahead others self.old) self.new) }
+    {
+        let mut others = others;
+        if self.queue.next_meant(filter, &mut others)?.is_some() {
+            return Ok(true);
+        }
+        swap(&mut self.queue, &mut others);
+        Ok(false)
+    }
+
+    /// Hands a letter to its addressee. What is printed.
+    fn hand_over(&mut self, letter: &Letter) -> Result<String, AllocError>
+        ensures { IfOk result (λ text. HandsTo letter.now.to self.old letter.now.bytes (string_bytes text) self.new) }
+    {
+        match letter.to() {
+            Node::Replica(id) => self.hand_to_replica(id, letter.bytes()),
+            Node::Client(client) => self.sessions.deliver(client, letter.bytes()),
+        }
+    }
+
+    /// Hands bytes to a replica. One that is faulty or has stopped does nothing. What is printed.
+    fn hand_to_replica(&mut self, id: ReplicaId, bytes: &[u8]) -> Result<String, AllocError>
+        ensures { IfOk result (λ text. AtReplica self.old id bytes.now (string_bytes text) self.new) }
+    {
+        if !self.is_running(id) {
+            return Ok(String::new(self.alloc));
+        }
+        let event = Event::Deliver {
+            to: id,
+            bytes: Bytes::from_vec(Vec::from_slice(self.alloc, bytes)?),
+        };
+        let gave = self.happen(id, &event)?;
+        if gave || !self.is_running(id) {
+            return Ok(String::new(self.alloc));
+        }
+        let text = self.refusal_text(id, bytes)?;
+        Ok(text)
+    }
+
+    /// Timeouts at replicas, one after another.
+    fn time_out(&mut self, at: &[ReplicaId]) -> Result<(), AllocError>
+        ensures { OnOk result (AllTimeOut self.old at.now self.new) }
+    {
+        for id in at {
+            self.time_out_at(*id)?;
+        }
+        Ok(())
+    }
+
+    /// A timeout at a replica. One that is faulty or has stopped does nothing.
+    fn time_out_at(&mut self, id: ReplicaId) -> Result<(), AllocError>
+        ensures { OnOk result (TimesOut self.old id self.new) }
+    {
+        if self.is_running(id) {
+            self.happen(id, &Event::Timeout { at: id })?;
+        }
+        Ok(())
+    }
+
+    /// Lets an event happen at a replica, and queues what it gives. Whether it gave a row.
+    fn happen(&mut self, id: ReplicaId, event: &Event) -> Result<bool, AllocError>
+        ensures { IfOk result (λ gave. Happened self.old id event.now gave self.new) }
+    {
+        let Ok(row) = self.world.event(event) else {
+            return Err(AllocError);
+        };
+        if self.is_out_of_memory(id) {
+            return Err(AllocError);
+        }
+        match row {
+            Some(row) => {
+                self.queue_outputs(id, row.outputs())?;
+                Ok(true)
+            }
+            None => Ok(false),
+        }
+    }
+
+    /// Whether a replica is correct and has not stopped.
+    fn is_running(&self, id: ReplicaId) -> bool
+        ensures { result ≡ is_running self.now.world id }
+    {
+        self.world.state(id).is_some()
+    }
+
+    /// Whether a replica has stopped for lack of memory.
+    fn is_out_of_memory(&self, id: ReplicaId) -> bool
+        ensures { result ≡ lacked_memory (halt_in (member_of self.now.world id.0)) }
+    {
+        match self.world.status(id) {
+            Some(status) => matches!(status.halted, Some(Halt::Memory)),
+            None => false,
+        }
+    }
+
+    /// What is printed of bytes that a replica refuses.
+    fn refusal_text(&self, id: ReplicaId, bytes: &[u8]) -> Result<String, AllocError>
+        ensures { IfOk result (λ text. string_bytes text ≡ refusal_of id (opening self.now.world.config bytes.now)) }
+    {
+        match open(self.alloc, &self.config, bytes) {
+            Ok(_) => Ok(String::new(self.alloc)),
+            Err(SealFault::Memory) => Err(AllocError),
+            Err(fault) => line_of_refusal(self.alloc, id, fault),
+        }
+    }
+
+    /// Queues the outputs of a replica.
+    fn queue_outputs(&mut self, from: ReplicaId, outputs: &[Output]) -> Result<(), AllocError>
+        ensures { OnOk result (self.new ≡ queued self.old (flat_map (letters_of self.old.world.config from) outputs.now)) }
+    {
+        for output in outputs {
+            self.queue_output(from, output)?;
+        }
+        Ok(())
+    }
+
+    fn queue_output(&mut self, from: ReplicaId, output: &Output) -> Result<(), AllocError>
+        ensures { OnOk result (self.new ≡ queued self.old (letters_of self.old.world.config from output.now)) }
+    {
+        let node = Node::Replica(from);
+        let letter = letter_of(self.alloc, node, &output.message)?;
+        match output.to {
+            Dest::All => self.queue.send_but(&letter, &self.everyone, node),
+            Dest::Replica(to) => self.queue.send(&letter, &[Node::Replica(to)]),
+            Dest::Client(to) => self.queue.send(&letter, &[Node::Client(to)]),
+        }
+    }
+
+    // ---- what `show` prints
+
+    /// Where each correct replica stands.
+    fn statuses(&self) -> Result<String, AllocError>
+        ensures { IfOk result (λ text. string_bytes text ≡ flat_map (status_printed self.now.world) (ids_of self.now.world.config)) }
+    {
+        let mut text = String::new(self.alloc);
+        for id in 0..self.config.replica_count() {
+            text.push_str(&self.status_text(ReplicaId(id))?)?;
+        }
+        Ok(text)
+    }
+
+    fn status_text(&self, id: ReplicaId) -> Result<String, AllocError>
+        ensures { IfOk result (λ text. string_bytes text ≡ status_printed self.now.world id) }
+    {
+        match self.world.status(id) {
+            Some(status) => line_of_status(self.alloc, id, &status),
+            None => Ok(String::new(self.alloc)),
+        }
+    }
+
+    /// The number and the digest of each correct replica's state.
+    fn digests(&self) -> Result<String, AllocError>
+        ensures { IfOk result (λ text. string_bytes text ≡ flat_map (digest_printed self.now.world) (ids_of self.now.world.config)) }
+    {
+        let mut text = String::new(self.alloc);
+        for id in 0..self.config.replica_count() {
+            text.push_str(&self.digest_text(ReplicaId(id))?)?;
+        }
+        Ok(text)
+    }
+
+    fn digest_text(&self, id: ReplicaId) -> Result<String, AllocError>
+        ensures { IfOk result (λ text. string_bytes text ≡ digest_printed self.now.world id) }
+    {
+        match self.world.state(id) {
+            Some(state) => line_of_digest(self.alloc, id, state),
+            None => Ok(String::new(self.alloc)),
+        }
+    }
+
+    /// The bytes of a correct replica's state.
+    fn state_text(&self, id: ReplicaId) -> Result<String, AllocError>
+        ensures { IfOk result (λ text. string_bytes text ≡ state_printed self.now.world id) }
+    {
+        match self.world.state(id) {
+            Some(state) => line_of_state(self.alloc, id, state),
+            None => Ok(String::new(self.alloc)),
+        }
+    }
+}
+
+/// The request of this client and time.
+fn find_made(made: &[Made], client: ClientId, time: u64) -> Option<&Made>
+    ensures { option_copied result ≡ find (is_request (client, time)) made.now }
+{
+    made.iter()
+        .find(|made| made.client.0 == client.0 && made.time == time)
+}
+
+/// What is printed where nothing is queued.
+fn nothing_queued(alloc: Global) -> Result<String, AllocError>
+    ensures { IfOk result (λ line. string_bytes line ≡ nothing_queued_line) }
+{
+    String::from_str(alloc, "nothing queued\n")
+}
+
+/// A message as a letter, addressed to its sender.
+fn letter_of(alloc: Global, from: Node, message: &Checked) -> Result<Letter, AllocError>
+    ensures { IfOk result (λ l. l ≡ letter_of from message.now.message) }
+{
+    let kind = Kind::of(message.body());
+    Letter::new(alloc, from, Some(from), Some(kind), message.bytes())
+}
+
+/// All replicas, ids ascending.
+fn everyone(alloc: Global, config: &Config) -> Result<Vec<Node>, AllocError>
+    ensures { IfOk result (λ nodes. nodes.items ≡ all_replicas config.now) }
+{
+    let mut nodes = Vec::new(alloc);
+    for id in 0..config.replica_count() {
+        nodes.push(Node::Replica(ReplicaId(id)))?;
+    }
+    Ok(nodes)
+}
+
+/// The faulty replicas as a set.
+fn faulty_set(faulty: &[ReplicaId]) -> ReplicaSet
+    ensures { result ≡ numbers_of faulty.now }
+{
+    let mut set = ReplicaSet::new();
+    for id in faulty {
+        set.insert(*id);
+    }
+    set
+}
+
+/// A world before its first event, and the signers of its faulty replicas, given one for each replica,
+/// ids ascending, with the key that is listed for it.
+fn new_world(
+    alloc: Global,
+    config: &Arc<Config>,
+    faulty: &ReplicaSet,
+    signers: Vec<Signer>,
+) -> Result<(World, Vec<Forger>), AllocError>
+    requires { config.now.value.keys ≡ map key_of signers.items }
+    ensures world { IfOk result (λ r. r.0 ≡ first_world config.now.value (λ i. set.contains faulty.now i) (correct_from (λ i. set.contains faulty.now i) 0 signers.items)) }
+    ensures forgers { IfOk result (λ r. r.1.items ≡ forgers_from (λ i. set.contains faulty.now i) 0 signers.items) }
+{
+    let (correct, forgers) = parted(alloc, config.replica_count(), signers, faulty)?;
+    match World::new(alloc, config, faulty, correct) {
+        Ok(world) => Ok((world, forgers)),
+        Err(_) => Err(AllocError),
+    }
+}
+
+/// The signers of correct replicas, ids ascending, and the faulty ones', given one for each replica.
+fn parted(
+    alloc: Global,
+    count: u8,
+    signers: Vec<Signer>,
+    faulty: &ReplicaSet,
+) -> Result<(Vec<Signer>, Vec<Forger>), AllocError>
+    requires { length signers.items ≡ count }
+    ensures correct { IfOk result (λ parts. parts.0.items ≡ correct_from (λ i. set.contains faulty.now i) 0 signers.items) }
+    ensures faulty { IfOk result (λ parts. parts.1.items ≡ forgers_from (λ i. set.contains faulty.now i) 0 signers.items) }
+{
+    let mut correct = Vec::new(alloc);
+    let mut forgers = Vec::new(alloc);
+    let mut signers = signers.into_iter();
+    for id in 0..count {
+        let id = ReplicaId(id);
+        let Some(signer) = signers.next() else {
+            unreachable!()
+        };
+        if faulty.contains(id) {
+            forgers.push(Forger { id, signer })?;
+        } else {
+            correct.push(signer)?;
+        }
+    }
+    Ok((correct, forgers))
+}
