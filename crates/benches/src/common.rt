@@ -3,6 +3,7 @@
 pub(crate) mod case;
 pub(crate) mod members;
 pub(crate) mod operations;
+pub(crate) mod peak;
 pub(crate) mod processor_time;
 pub(crate) mod ratio;
 pub(crate) mod signing;

@@ -6,6 +6,8 @@
 
 use anyhow::{Result, anyhow};
 use std::env;
+use std::sync::Wait;
+use std::thread::Threads;
 
 mod common;
 mod lms;
@@ -14,33 +16,43 @@ mod messages;
 mod records;
 mod replica;
 mod service;
+mod threads;
 mod world;
 
 /// The words of the parts.
-const PARTS: [&str; 7] = [
-    "lms", "messages", "machine", "records", "replica", "service", "world",
+const PARTS: [&str; 8] = [
+    "lms", "messages", "machine", "records", "replica", "service", "world", "threads",
 ];
 
 fn main(rt: HostRuntime) -> Result<()> {
     let Some(part) = env::args(&rt)?.nth(1) else {
-        return run_all(&rt);
+        return run_all(&rt, &rt);
     };
     match env::args(&rt)?.nth(2) {
-        None => run(&rt, part.as_str(), None),
-        Some(work) => run(&rt, part.as_str(), Some(work.as_str())),
+        None => run(&rt, &rt, part.as_str(), None),
+        Some(work) => run(&rt, &rt, part.as_str(), Some(work.as_str())),
     }
 }
 
 /// Each part does its little.
-fn run_all(rt: &HostRuntime) -> Result<()> {
+fn run_all<R: Threads + Wait + Copy + Send + Drop + 'static>(
+    rt: &HostRuntime,
+    threads: &R,
+) -> Result<()> {
     for part in PARTS {
-        run(rt, part, None)?;
+        run(rt, threads, part, None)?;
     }
     Ok(())
 }
 
-/// A part does its little, or measures what a word of its own names.
-fn run(rt: &HostRuntime, part: &str, work: Option<&str>) -> Result<()> {
+/// A part does its little, or measures what a word of its own names. Threads are made by a handle of their
+/// own.
+fn run<R: Threads + Wait + Copy + Send + Drop + 'static>(
+    rt: &HostRuntime,
+    threads: &R,
+    part: &str,
+    work: Option<&str>,
+) -> Result<()> {
     match part {
         "lms" => lms::run(rt, work),
         "messages" => messages::run(rt, work),
@@ -49,8 +61,9 @@ fn run(rt: &HostRuntime, part: &str, work: Option<&str>) -> Result<()> {
         "replica" => replica::run(rt, work),
         "service" => service::run(rt, work),
         "world" => world::run(rt, work),
+        "threads" => threads::run(rt, threads, work),
         _ => Err(anyhow!(
-            "the first word is none of lms, messages, machine, records, replica, service and world"
+            "the first word is none of lms, messages, machine, records, replica, service, world and threads"
         )),
     }
 }

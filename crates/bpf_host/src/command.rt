@@ -5,7 +5,7 @@ ghost use Rattle.std.specs.Prelude.{◌≤◌};
 use crate::check::check;
 use crate::failure::Failure;
 use clap::{Arg, ArgAction, ArgMatches, Command, value_parser};
-use code_commands::{asm, disasm, exec, verify};
+use code_commands::{Profile, asm, disasm, exec, verify};
 use host_script::{Audited, run_script, run_threads};
 use host_types::ClientId;
 use std::alloc::{AllocError, Global};
@@ -112,7 +112,25 @@ fn verify_command<'a>(alloc: Global) -> Result<Command<'a>, AllocError> {
         .help("also what is known before each instruction, and why code is refused");
     Command::new(alloc, "verify")
         .about("Verifies code and prints the verdict")
+        .arg(profile_option(alloc))?
         .arg(explain)
+}
+
+/// The option that names the verifier's profile.
+fn profile_option<'a>(alloc: Global) -> Arg<'a> {
+    Arg::new(alloc, "profile")
+        .long("profile")
+        .value_name("N")
+        .value_parser(["1", "2"].as_slice())
+        .help("1: registers are followed; 2: words of the stack too [default: 1]")
+}
+
+/// The verifier's profile that the options name.
+fn profile_of(options: &ArgMatches<'_>) -> Profile {
+    match options.get_str("profile") {
+        Some("2") => Profile::Two,
+        _ => Profile::One,
+    }
 }
 
 /// `exec` and its options.
@@ -128,6 +146,7 @@ fn exec_command<'a>(alloc: Global) -> Result<Command<'a>, AllocError> {
         .help("the client that calls [default: 16]");
     Command::new(alloc, "exec")
         .about("Verifies code and runs it over an empty map")
+        .arg(profile_option(alloc))?
         .arg(arguments)?
         .arg(client)
 }
@@ -177,9 +196,13 @@ fn run_parsed<I: Read, O: Write>(
     match matches.subcommand() {
         Some(("asm", _)) => Ok(asm(alloc, reader, writer)?),
         Some(("disasm", _)) => Ok(disasm(alloc, reader, writer)?),
-        Some(("verify", options)) => {
-            Ok(verify(alloc, options.get_flag("explain"), reader, writer)?)
-        }
+        Some(("verify", options)) => Ok(verify(
+            alloc,
+            profile_of(options),
+            options.get_flag("explain"),
+            reader,
+            writer,
+        )?),
         Some(("world", _)) => Ok(run_script(alloc, reader, writer)?),
         Some(("exec", options)) => call(alloc, options, reader, writer),
         Some(_) => Err(Failure::Nested),
@@ -208,5 +231,12 @@ fn call<I: Read, O: Write>(
 ) -> Result<(), Failure> {
     let arguments = options.get_str("args").unwrap_or("");
     let client = ClientId(options.get_one::<u32>("client").unwrap_or(DEFAULT_CLIENT));
-    Ok(exec(alloc, arguments, client, reader, writer)?)
+    Ok(exec(
+        alloc,
+        profile_of(options),
+        arguments,
+        client,
+        reader,
+        writer,
+    )?)
 }

@@ -13,6 +13,7 @@ use Rattle.bpf_model.proofs.Options.{and_true, some_is, IsOneOf-left, IsOneOf-ri
 pub record IsBelow (a b : AbstractState) : Type 0 where
   pub ranges : (r : ℕ) (x : Range) → a.ranges r ≡ Some x → (y : Range) × (b.ranges r ≡ Some y) × (x.lo ≤ y.lo) × (y.hi ≤ x.hi)
   pub initialized : (address : ℕ) → a.initialized address ≡ true → b.initialized address ≡ true
+  pub words : (w : ℕ) → ((a.words.ranges w).lo ≤ (b.words.ranges w).lo) × ((b.words.ranges w).hi ≤ (a.words.ranges w).hi)
 
 -- a range that lies in another
 abbrev Within : Range → Option Range → Type 0
@@ -34,12 +35,14 @@ IsBelow-join_left : (a b : AbstractState) → IsBelow (join a b) a
 IsBelow-join_left a b = record {
   ranges = λ r x e. join_option_left (a.ranges r) (b.ranges r) x e;
   initialized = λ address h. (and_true _ _ h).0;
+  words = λ w. (omega arith, omega arith);
 }
 
 IsBelow-join_right : (a b : AbstractState) → IsBelow (join a b) b
 IsBelow-join_right a b = record {
   ranges = λ r x e. join_option_right (a.ranges r) (b.ranges r) x e;
   initialized = λ address h. (and_true _ _ h).1;
+  words = λ w. (omega arith, omega arith);
 }
 
 IsBelow-trans : (a b c : AbstractState) → IsBelow a b → IsBelow b c → IsBelow a c
@@ -49,10 +52,14 @@ IsBelow-trans a b c p q = record {
       let second = q.ranges r first.0 first.1 in
       (second.0, second.1, omega (arith, first.2, second.2), omega (arith, first.3, second.3));
   initialized = λ address h. q.initialized address (p.initialized address h);
+  words = λ w.
+      let first = p.words w in
+      let second = q.words w in
+      (omega (arith, first.0, second.0), omega (arith, first.1, second.1));
 }
 
 pub IsBelow-self : (a : AbstractState) → IsBelow a a
-IsBelow-self a = record { ranges = λ r x e. (x, e, omega arith, omega arith); initialized = λ address h. h }
+IsBelow-self a = record { ranges = λ r x e. (x, e, omega arith, omega arith); initialized = λ address h. h; words = λ w. (omega arith, omega arith) }
 
 fold_below_first : (s : AbstractState) (ss : List AbstractState) → IsBelow (fold join s ss) s
 fold_below_first s [] = IsBelow-self s

@@ -5,6 +5,7 @@ pub mod Edges
 pub mod Joins
 pub mod Memories
 pub mod RangeLaws
+pub mod Words
 pub mod Soundness
 pub mod HelperCalls
 pub mod WellFormedness

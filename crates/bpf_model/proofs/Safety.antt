@@ -26,12 +26,13 @@ use Rattle.bpf_model.specs.Run.{Run, Ending, EndsSo, IsSafe}
 use Rattle.bpf_model.specs.AbstractState.{AbstractState, Edge, edge, start_state, after_call, join_all, has_operands, has_accesses, has_bytes, helper_operands, helper_reads, helper_writes, helper_max_answer, all_in_bounds, are_initialized, edge_if, edges, after_helper, after_insn, after_test, IsOneOf}
 use Rattle.bpf_model.specs.Dataflow.{Activation, activation, called, entered, behind, edges_of, state_at, edges_at, exits, TakesIn, Takes, Path, HasBound}
 use Rattle.bpf_model.specs.Verdict.{structure_fault, IsAccepted, calls_local, visits_of_callee, visits_in}
+use Rattle.bpf_model.specs.declared.profile.Profile.{Profile}
 use Rattle.bpf_model.proofs.Options.{some_is, is_some_of, and_true, no_fault_of_four, IsOneOf-left, IsOneOf-right}
 use Rattle.bpf_model.proofs.Slots.{insn_at_less, first_at, few, insn_fits}
 use Rattle.bpf_model.proofs.Edges.{BeginsAt, Stands, stands, Lands, jump_lands, edge_leads, edge_within, called_begins}
 use Rattle.bpf_model.proofs.Joins.{IsBelow, IsBelow-self, arrives, enters_below, exit_below}
 use Rattle.bpf_model.proofs.Memories.{HoldsBytes, stored_small}
-use Rattle.bpf_model.proofs.Soundness.{Abstracts, RunsAt, IsWellFormed, IsWellFormed-start, alu_imm, test_imm, start_means, start_bytes, placed, placed_means, moved, Moves, alu_moves, swap_moves, wide_moves, load_moves, moved_means, kept, Stores, imm_stores, register_stores, kept_means, Tests, test_means}
+use Rattle.bpf_model.proofs.Soundness.{Abstracts, RunsAt, IsWellFormed, IsWellFormed-start, alu_imm, test_imm, start_means, start_bytes, placed, placed_means, moved, Moves, alu_moves, swap_moves, wide_moves, load_moves, moved_means, kept, Stores, imm_stores, register_stores, kept_means, Tests, test_means, small_64}
 use Rattle.bpf_model.proofs.HelperCalls.{HasMap, Answers, after, helper_answers, helper_means}
 use Rattle.bpf_model.proofs.WellFormedness.{entry_well_formed, well_formed_at}
 use Rattle.bpf_model.proofs.Visits.{AllRight, right_at, visits_here, all_right}
@@ -183,7 +184,7 @@ module _ (code : List Insn) (code_fits : AllByRecursion IsInsn code) (structure 
   stores_on : (m : Machine) (x : Insn) → (at : Running code a m) → at.insn ≡ x → edges (behind a) m.frame.pc at.known x ≡ edge (m.frame.pc + slots_of x) (after_insn at.known x) ∷ [] → called m.frame.pc x ≡ None → Stores at.known m x → Progresses m x
   stores_on m x at x-is edges-are own stores =
       let e : Edge = edge (m.frame.pc + slots_of x) (after_insn at.known x) in
-      along m (kept m (slots_of x) stores.address stores.bytes) x e at x-is (subst (λ (es : List Edge). IsOneOf e es) (sym edges-are) (inl refl)) own stores.goes refl refl at.map (stored_small m.memory stores.address stores.bytes at.bytes stores.small) (λ j below. kept_means at.known j m (slots_of x) stores.address stores.bytes stores.range at.means stores.in_range (subst (λ (s : AbstractState). IsBelow j s) stores.after_is below))
+      along m (kept m (slots_of x) stores.address stores.bytes) x e at x-is (subst (λ (es : List Edge). IsOneOf e es) (sym edges-are) (inl refl)) own stores.goes refl refl at.map (stored_small m.memory stores.address stores.bytes at.bytes stores.small) (λ j below. kept_means at.known j m (slots_of x) stores.address stores.bytes stores.range stores.stored_is at.means stores.in_range (stored_small m.memory stores.address stores.bytes at.bytes stores.small) stores.leaves (subst (λ (s : AbstractState). IsBelow j s) stores.after_is below))
 
   jump_effect : (m : Machine) (offset : ℤ) (t : ℕ) → target_of m.frame.pc offset ≡ Some t → effect m (Jump offset) ≡ Some (Continues (placed m t))
   jump_effect m offset t is = rw is refl
@@ -234,7 +235,7 @@ module _ (code : List Insn) (code_fits : AllByRecursion IsInsn code) (structure 
   progress_at m (Load size signed dst base offset) at e is ok fits fit =
       moves_on m (Load size signed dst base offset) dst.number at e refl refl (load_moves at.known m a.depth size signed dst base offset at.means at.runs.has_frame fit at.bytes fits.1 ok.operands ok.inside ok.there ok.stands.r10)
   progress_at m (StoreImm size base offset imm) at e is ok fits fit =
-      stores_on m (StoreImm size base offset imm) at e refl refl (imm_stores at.known m a.depth size base offset imm at.means fit at.runs fits.0 ok.operands ok.inside)
+      stores_on m (StoreImm size base offset imm) at e refl refl (imm_stores at.known m a.depth size base offset imm at.means fit at.runs fits.0 (small_64 imm fits.1) ok.operands ok.inside)
   progress_at m (Store size base offset src) at e is ok fits fit =
       stores_on m (Store size base offset src) at e refl refl (register_stores at.known m a.depth size base offset src at.means fit at.runs fits ok.operands ok.inside)
   progress_at m (Jump offset) at e is ok fits fit =
@@ -323,7 +324,7 @@ module _ (code : List Insn) (code_fits : AllByRecursion IsInsn code) (structure 
                   bytes = bytes_without r.last.memory (length m.callers + 1) r.running.bytes;
                   known = j.0;
                   known_is = j.1;
-                  means = returned_means at.known gone.0 r.running.known j.0 m r.last caller m.callers r.value a.depth at.means r.running.means r.value_is refl at.runs.depth deep gone.2 j.2;
+                  means = returned_means at.known gone.0 r.running.known j.0 m r.last caller m.callers r.value a.depth at.means r.running.means r.value_is refl at.runs.depth deep r.running.bytes gone.2 j.2;
                   insn = there.0;
                   insn_is = there.1;
                 };
@@ -422,10 +423,10 @@ functions_return code code_fits structure (suc left) shallow target state bound 
 
 -- ---- accepted code
 
-module _ (bytes : List ℕ) (code : List Insn) (bound : ℕ) (c : IsCode bytes code) (accepted : IsAccepted code bound) where
-  main_returns : (call : Call) → IsCall call → Returns code (activation 7 (exits code 7) 0 start_state) (start call) 0 bound
+module _ (profile : Profile) (bytes : List ℕ) (code : List Insn) (bound : ℕ) (c : IsCode bytes code) (accepted : IsAccepted profile code bound) where
+  main_returns : (call : Call) → IsCall call → Returns code (activation 7 (exits code 7) 0 (start_state profile)) (start call) 0 bound
   main_returns call is =
-      functions_return code c.in_range accepted.structure 7 (omega arith) 0 start_state bound (all_right code accepted.dataflow).0 IsWellFormed-start accepted.longest (first_at code (few bytes code c).0) (start call) refl (start_means call is) (record { depth = refl; has_frame = omega arith }) (is.entries, is.client) (start_bytes call is)
+      functions_return code c.in_range accepted.structure 7 (omega arith) 0 (start_state profile) bound (all_right profile code accepted.dataflow).0 (IsWellFormed-start profile) accepted.longest (first_at code (few bytes code c).0) (start call) refl (start_means profile call is) (record { depth = refl; has_frame = omega arith }) (is.entries, is.client) (start_bytes call is)
 
   -- the last step
   ends_here : (call : Call) (is : IsCall call) → step code (main_returns call is).last ≡ Some (Ends (main_returns call is).value)
@@ -465,6 +466,6 @@ module _ (bytes : List ℕ) (code : List Insn) (bound : ℕ) (c : IsCode bytes c
 
   pub bounded : bound ≤ 65536
   bounded =
-      let few = (all_right code accepted.dataflow).1 in
-      let most = bound_few code accepted.structure frames 0 start_state bound accepted.longest in
+      let few = (all_right profile code accepted.dataflow).1 in
+      let most = bound_few code accepted.structure frames 0 (start_state profile) bound accepted.longest in
       omega (arith, few, most)

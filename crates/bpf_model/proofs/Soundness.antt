@@ -3,7 +3,7 @@ use Rattle.std.proofs.Common.{◌≡◌, ℕ, zero, suc, ◌+◌, ◌-◌, ◌/�
 use Rattle.std.specs.Prelude.{IsSome, FitsSigned}
 use Rattle.std.specs.List.{list_all, enumerate_from}
 use Rattle.std.specs.Option.{is_some, option_map}
-use Rattle.std.specs.Int.{w16, w32, w64, cast_unsigned, byte_at, byte_len, bytes_low_first}
+use Rattle.std.specs.Int.{w16, w32, w64, cast_unsigned, from_le_bytes, byte_at, byte_len, bytes_low_first}
 use Rattle.std.specs.Ordering.{nat_cmp}
 use Rattle.std.specs.Cmp.{nat_cmp_total, unsigned_tied}
 use Rattle.std.specs.FinMap as map
@@ -37,10 +37,15 @@ use Rattle.bpf_model.specs.Access.{bytes_of, word_of, address_of, loaded, stored
 use Rattle.bpf_model.specs.Code.{slots_of}
 use Rattle.bpf_model.specs.Machine.{Machine, Memory, Registers, Call, IsCall, start, arguments_start, frames, frame_end, is_in_bounds, bytes_at, stored}
 use Rattle.bpf_model.specs.Step.{Continues, source_value, destination_value, tested_immediate, tested_value, effect}
-use Rattle.bpf_model.specs.AbstractState.{AbstractState, start_state, has_all, source_operands, alu_operands, all_initialized, extent, in_bounds, is_initialized, source_range, destination_range, transfer, with_range, alu_range, address_range, loaded_range, is_written, after_store, after_insn, tested_range, with_ranges, after_test}
+use Rattle.bpf_model.specs.AbstractState.{AbstractState, start_state, has_all, source_operands, alu_operands, all_initialized, extent, in_bounds, is_initialized, source_range, destination_range, transfer, with_range, alu_range, address_range, is_written, range_after_load, range_or_full, after_store, after_insn, tested_range, with_ranges, after_test}
 use Rattle.bpf_model.proofs.Options.{some_is, is_some_of, and_true}
 use Rattle.bpf_model.proofs.RangeLaws.{IsRange, transfer_in, swap_in, loaded_in}
 use Rattle.bpf_model.proofs.Joins.{IsBelow}
+use Rattle.bpf_model.proofs.Words.{HoldsWords, in_full, Leaves, words_stored, word_loaded}
+use Rattle.bpf_model.specs.Words.{word_start, stored_range}
+use Rattle.bpf_model.specs.declared.profile.Profile.{Profile}
+use Rattle.bpf_model.specs.declared.profile.Profile.TheVariants.{One}
+use Rattle.std.proofs.lemmas.Nat.{from_le_bytes-to_le_bytes_8}
 use Rattle.bpf_model.proofs.Memories.{HoldsBytes, find_enumerate, find_inside, bytes_found, bytes_small, initialized_each, stored_within, stored_stays, in_bounds_cases, in_bounds_from, or_true}
 
 -- a register holds a number of the range
@@ -53,11 +58,13 @@ pub record Holds (registers : Registers) (r : ℕ) (x : Range) : Type 0 where
 pub record Abstracts (state : AbstractState) (m : Machine) : Type 0 where
   pub ranges : (r : ℕ) (x : Range) → state.ranges r ≡ Some x → Holds m.frame.registers r x
   pub initialized : (address : ℕ) → state.initialized address ≡ true → IsSome (map.get m.memory address)
+  pub words : HoldsWords m.memory state.words
   pub arguments : (address : ℕ) → arguments_start ≤ address → address < arguments_start + 256 → IsSome (map.get m.memory address)
 
 -- each range holds numbers of 64 bits alone
 unfoldable pub IsWellFormed : AbstractState → Type 0
-IsWellFormed state = (r : ℕ) (x : Range) → state.ranges r ≡ Some x → IsRange x
+IsWellFormed state =
+    ((r : ℕ) (x : Range) → state.ranges r ≡ Some x → IsRange x) × ((w : ℕ) → IsRange (state.words.ranges w))
 
 -- ---- the start
 
@@ -70,7 +77,7 @@ record Begins (n r : ℕ) (x : Range) : Type 0 where
   in_range : In value x
   fits : IsRange x
 
-begins : (n r : ℕ) (x : Range) → n ≤ 256 → start_state.ranges r ≡ Some x → Begins n r x
+begins : (n r : ℕ) (x : Range) → n ≤ 256 → (start_state One).ranges r ≡ Some x → Begins n r x
 begins n r x short h =
     elim (eqb_tells r 1) [
       | inl (e, same) ↦
@@ -109,9 +116,9 @@ begins n r x short h =
           ]
     ]
 
-pub IsWellFormed-start : IsWellFormed start_state
+pub IsWellFormed-start : (profile : Profile) → IsWellFormed (start_state profile)
 unfolding IsWellFormed
-IsWellFormed-start r x h = (begins 0 r x (omega arith) h).fits
+IsWellFormed-start profile = (λ r x h. (begins 0 r x (omega arith) h).fits, λ w. record { below = omega arith })
 
 pub padded_length : (bytes : List ℕ) → length bytes ≤ 256 → length (bytes ++ replicate (256 - length bytes) 0) ≡ 256
 padded_length bytes short =
@@ -119,23 +126,6 @@ padded_length bytes short =
     length-append bytes (replicate (256 - length bytes) 0)
     ∙ ap (λ (n : ℕ). length bytes + n) (length-replicate {A = ℕ} (256 - length bytes) 0)
     ∙ whole
-
-pub start_means : (call : Call) → IsCall call → Abstracts start_state (start call)
-start_means call is = record {
-  ranges = λ r x h.
-      let b = begins (length call.arguments) r x is.short h in
-      record {
-        value = b.value;
-        is = map.get-from_entries nat_cmp_total (first_registers (length call.arguments)) r ∙ b.is;
-        in_range = b.in_range;
-      };
-  initialized = λ address h. absurd cc;
-  arguments = λ address low high.
-      let padded : List ℕ = call.arguments ++ replicate (256 - length call.arguments) 0 in
-      let long : length padded ≡ 256 = padded_length call.arguments is.short in
-      let found = find_enumerate arguments_start padded address low (omega (arith, high, long)) in
-      is_some_of _ _ (map.get-from_entries nat_cmp_total (enumerate_from arguments_start padded) address ∙ found);
-}
 
 -- ---- accesses
 
@@ -187,10 +177,34 @@ start_bytes call is a byte e =
     let same : get_or padded (a - arguments_start) 0 ≡ byte = some_is _ _ (sym found ∙ at) in
     subst (λ (b : ℕ). b < 256) same (padded_small call.arguments (256 - length call.arguments) is.bytes (a - arguments_start))
 
+pub start_means : (profile : Profile) (call : Call) → IsCall call → Abstracts (start_state profile) (start call)
+start_means profile call is = record {
+  ranges = λ r x h.
+      let b = begins (length call.arguments) r x is.short h in
+      record {
+        value = b.value;
+        is = map.get-from_entries nat_cmp_total (first_registers (length call.arguments)) r ∙ b.is;
+        in_range = b.in_range;
+      };
+  initialized = λ address h. absurd cc;
+  words = record { number = λ w bytes e. in_full (start call).memory (word_start w) bytes (start_bytes call is) e };
+  arguments = λ address low high.
+      let padded : List ℕ = call.arguments ++ replicate (256 - length call.arguments) 0 in
+      let long : length padded ≡ 256 = padded_length call.arguments is.short in
+      let found = find_enumerate arguments_start padded address low (omega (arith, high, long)) in
+      is_some_of _ _ (map.get-from_entries nat_cmp_total (enumerate_from arguments_start padded) address ∙ found);
+}
+
 -- ---- the machine goes on
 
 pub wider : (v : ℕ) (x y : Range) → x.lo ≤ y.lo → y.hi ≤ x.hi → In v y → In v x
 wider v x y low high i = let l = i.low in let h = i.high in record { low = omega arith; high = omega arith }
+
+-- what is known of the words of a state holds of one that is below it
+pub words_below : (memory : Memory) (state j : AbstractState) → HoldsWords memory state.words → IsBelow j state → HoldsWords memory j.words
+words_below memory state j holds below = record {
+  number = λ w bytes e. let known = below.words w in wider (from_le_bytes w64 bytes) (j.words.ranges w) (state.words.ranges w) known.0 known.1 (holds.number w bytes e);
+}
 
 -- the machine at another slot
 abbrev pub placed : Machine → ℕ → Machine
@@ -203,6 +217,7 @@ placed_means state j m slot means below = record {
       let holds = means.ranges r known.0 known.1 in
       record { value = holds.value; is = holds.is; in_range = wider holds.value y known.0 known.2 known.3 holds.in_range };
   initialized = λ address h. means.initialized address (below.initialized address h);
+  words = words_below m.memory state j means.words below;
   arguments = means.arguments;
 }
 
@@ -233,6 +248,7 @@ moved_means state j m slots dst value x means i below = record {
             }
       ];
   initialized = λ address h. means.initialized address (below.initialized address h);
+  words = words_below m.memory (with_range state dst (Some x)) j means.words below;
   arguments = means.arguments;
 }
 
@@ -256,7 +272,7 @@ unfolding IsWellFormed
 register_operand state m r means fit h =
     let x = some_here (state.ranges r) h in
     let holds = means.ranges r x.0 x.1 in
-    record { range = x.0; range_is = x.1; value = holds.value; value_is = holds.is; in_range = holds.in_range; fits = fit r x.0 x.1 }
+    record { range = x.0; range_is = x.1; value = holds.value; value_is = holds.is; in_range = holds.in_range; fits = fit.0 r x.0 x.1 }
 
 -- a single number of 64 bits
 pub single_operand : (value : ℕ) → value < 2 ^ 64 → Operand (Some (single value)) (Some value)
@@ -407,6 +423,18 @@ access_position state m d base offset size means fit small has inside =
 load_effect : (m : Machine) (size : Size) (signed : Bool) (dst base : Reg) (offset : ℤ) (a : ℕ) (bytes : List ℕ) → map.get m.frame.registers base.number ≡ Some a → bytes_at m.memory (address_of a offset) (bytes_of size) ≡ Some bytes → eqb dst.number 10 ≡ false → effect m (Load size signed dst base offset) ≡ Some (Continues (moved m (slots_of (Load size signed dst base offset)) dst.number (loaded size signed bytes)))
 load_effect m size signed dst base offset a bytes a-is bytes-is ten = rw (a-is, bytes-is, ten) refl
 
+-- what a load gives is of its range
+load_in : (state : AbstractState) (m : Machine) (size : Size) (signed : Bool) (a : ℕ) (range : Range) (bytes : List ℕ) → Abstracts state m → HoldsBytes m.memory → In a range → bytes_at m.memory a (bytes_of size) ≡ Some bytes → In (loaded size signed bytes) (range_after_load state size signed (Some range))
+load_in state m B signed a range bytes means small i e = loaded_in B signed bytes (bytes_small m.memory a 1 bytes small e)
+load_in state m H signed a range bytes means small i e = loaded_in H signed bytes (bytes_small m.memory a 2 bytes small e)
+load_in state m W signed a range bytes means small i e = loaded_in W signed bytes (bytes_small m.memory a 4 bytes small e)
+load_in state m Dw true a range bytes means small i e = loaded_in Dw true bytes (bytes_small m.memory a 8 bytes small e)
+load_in state m Dw false a range bytes means small i e = word_loaded m.memory state.words a range bytes means.words small i e
+
+ap_range : (state : AbstractState) (size : Size) (signed : Bool) (bytes : List ℕ) {x y : Option Range} → x ≡ y → In (loaded size signed bytes) (range_after_load state size signed x) → In (loaded size signed bytes) (range_after_load state size signed y)
+ap_range state size signed bytes same i =
+    subst (λ (o : Option Range). In (loaded size signed bytes) (range_after_load state size signed o)) same i
+
 pub load_moves : (state : AbstractState) (m : Machine) (d : ℕ) (size : Size) (signed : Bool) (dst base : Reg) (offset : ℤ) → Abstracts state m → d < frames → IsWellFormed state → HoldsBytes m.memory → FitsSigned w16 offset → has_all state.ranges (base.number ∷ []) ≡ true → in_bounds d (address_range state base.number offset) (bytes_of size) ≡ true → is_initialized state.initialized (address_range state base.number offset) (bytes_of size) ≡ true → eqb dst.number 10 ≡ false → Moves state m (Load size signed dst base offset) dst.number
 load_moves state m d size signed dst base offset means shallow fit small_memory small has inside there ten =
     let p = access_position state m d base.number offset (bytes_of size) means fit small (and_true _ _ has).0 inside in
@@ -415,9 +443,9 @@ load_moves state m d size signed dst base offset means shallow fit small_memory 
     record {
       value = loaded size signed found.0;
       goes = load_effect m size signed dst base offset p.base_value found.0 p.base_is found.1 ten;
-      range = loaded_range size signed;
+      range = range_after_load state size signed (address_range state base.number offset);
       after_is = refl;
-      in_range = loaded_in size signed found.0 (bytes_small m.memory (address_of p.base_value offset) (bytes_of size) found.0 small_memory found.1);
+      in_range = ap_range state size signed found.0 (sym p.range_is) (load_in state m size signed (address_of p.base_value offset) p.range found.0 means small_memory p.in_range found.1);
     }
 
 -- the machine after an instruction that stored bytes
@@ -436,7 +464,9 @@ pub record Stores (state : AbstractState) (m : Machine) (x : Insn) : Type 0 wher
   pub small : (i : ℕ) → get_or bytes i 0 < 256
   pub range : Range
   pub in_range : In address range
-  pub after_is : after_insn state x ≡ after_store state (Some range) (length bytes)
+  pub stored_is : Range
+  pub leaves : Leaves bytes stored_is
+  pub after_is : after_insn state x ≡ after_store state (Some range) (length bytes) stored_is
 
 low_small : (i k n j : ℕ) → get_or (bytes_low_first i k n) j 0 < 256
 low_small i zero n j = omega arith
@@ -464,13 +494,28 @@ store_inside state m d base offset size value at p =
     ∙ ap (λ (n : ℕ). is_in_bounds d (address_of p.base_value offset) n) (stored_long size value)
     ∙ access_inside d p.range (address_of p.base_value offset) (bytes_of size) p.in_range p.inside
 
-stored_after : (state : AbstractState) (m : Machine) (d base : ℕ) (offset : ℤ) (size : Size) (value : ℕ) → (p : Place state m d base offset (bytes_of size)) → after_store state (address_range state base offset) (bytes_of size) ≡ after_store state (Some p.range) (length (stored_bytes size value))
-stored_after state m d base offset size value p =
-    ap (λ (o : Option Range). after_store state o (bytes_of size)) p.range_is
-    ∙ ap (λ (n : ℕ). after_store state (Some p.range) n) (sym (stored_long size value))
+stored_after : (state : AbstractState) (m : Machine) (d base : ℕ) (offset : ℤ) (size : Size) (value : ℕ) (x : Range) → (p : Place state m d base offset (bytes_of size)) → after_store state (address_range state base offset) (bytes_of size) x ≡ after_store state (Some p.range) (length (stored_bytes size value)) x
+stored_after state m d base offset size value x p =
+    ap (λ (o : Option Range). after_store state o (bytes_of size) x) p.range_is
+    ∙ ap (λ (n : ℕ). after_store state (Some p.range) n x) (sym (stored_long size value))
 
-pub imm_stores : (state : AbstractState) (m : Machine) (d : ℕ) (size : Size) (base : Reg) (offset imm : ℤ) → Abstracts state m → IsWellFormed state → RunsAt d m → FitsSigned w16 offset → has_all state.ranges (base.number ∷ []) ≡ true → in_bounds d (address_range state base.number offset) (bytes_of size) ≡ true → Stores state m (StoreImm size base offset imm)
-imm_stores state m d size base offset imm means fit at small has inside =
+-- a store of 8 bytes leaves its number in the word
+leaves_of : (size : Size) (value : ℕ) (x : Range) → value < 2 ^ 64 → In value x → Leaves (stored_bytes size value) (stored_range size x)
+leaves_of B value x small i = inr refl
+leaves_of H value x small i = inr refl
+leaves_of W value x small i = inr refl
+leaves_of Dw value x small i =
+    inl (refl, subst (λ (n : ℕ). In n x) (sym (from_le_bytes-to_le_bytes_8 value small)) i)
+
+below_64 : (value : ℕ) (x : Range) → In value x → IsRange x → value < 2 ^ 64
+below_64 value x i fits = let high = i.high in let below = fits.below in omega (arith, high, below)
+
+ap_leaves : (size : Size) (value : ℕ) {x y : Option Range} → x ≡ y → Leaves (stored_bytes size value) (stored_range size (range_or_full x)) → Leaves (stored_bytes size value) (stored_range size (range_or_full y))
+ap_leaves size value same leaves =
+    subst (λ (o : Option Range). Leaves (stored_bytes size value) (stored_range size (range_or_full o))) same leaves
+
+pub imm_stores : (state : AbstractState) (m : Machine) (d : ℕ) (size : Size) (base : Reg) (offset imm : ℤ) → Abstracts state m → IsWellFormed state → RunsAt d m → FitsSigned w16 offset → cast_unsigned w64 imm < 2 ^ 64 → has_all state.ranges (base.number ∷ []) ≡ true → in_bounds d (address_range state base.number offset) (bytes_of size) ≡ true → Stores state m (StoreImm size base offset imm)
+imm_stores state m d size base offset imm means fit at small imm_small has inside =
     let p = access_position state m d base.number offset (bytes_of size) means fit small (and_true _ _ has).0 inside in
     record {
       address = address_of p.base_value offset;
@@ -479,7 +524,9 @@ imm_stores state m d size base offset imm means fit at small has inside =
       small = low_small 0 (byte_len (word_of size)) (cast_unsigned w64 imm);
       range = p.range;
       in_range = p.in_range;
-      after_is = stored_after state m d base.number offset size (cast_unsigned w64 imm) p;
+      stored_is = stored_range size (single (cast_unsigned w64 imm));
+      leaves = leaves_of size (cast_unsigned w64 imm) (single (cast_unsigned w64 imm)) imm_small (record { low = omega arith; high = omega arith });
+      after_is = stored_after state m d base.number offset size (cast_unsigned w64 imm) (stored_range size (single (cast_unsigned w64 imm))) p;
     }
 
 pub register_stores : (state : AbstractState) (m : Machine) (d : ℕ) (size : Size) (base : Reg) (offset : ℤ) (src : Reg) → Abstracts state m → IsWellFormed state → RunsAt d m → FitsSigned w16 offset → has_all state.ranges (base.number ∷ src.number ∷ []) ≡ true → in_bounds d (address_range state base.number offset) (bytes_of size) ≡ true → Stores state m (Store size base offset src)
@@ -494,7 +541,9 @@ register_stores state m d size base offset src means fit at small has inside =
       small = low_small 0 (byte_len (word_of size)) b.value;
       range = p.range;
       in_range = p.in_range;
-      after_is = stored_after state m d base.number offset size b.value p;
+      stored_is = stored_range size (range_or_full (state.ranges src.number));
+      leaves = ap_leaves size b.value (sym b.range_is) (leaves_of size b.value b.range (below_64 b.value b.range b.in_range b.fits) b.in_range);
+      after_is = stored_after state m d base.number offset size b.value (stored_range size (range_or_full (state.ranges src.number))) p;
     }
 
 -- bytes that a write initialized were written
@@ -509,8 +558,8 @@ written_there memory range address bytes k i h =
     let ih = i.high in
     is_some_of _ _ (stored_within memory address bytes k (omega arith) (omega arith))
 
-pub kept_means : (state j : AbstractState) (m : Machine) (slots address : ℕ) (bytes : List ℕ) (range : Range) → Abstracts state m → In address range → IsBelow j (after_store state (Some range) (length bytes)) → Abstracts j (kept m slots address bytes)
-kept_means state j m slots address bytes range means i below = record {
+pub kept_means : (state j : AbstractState) (m : Machine) (slots address : ℕ) (bytes : List ℕ) (range value : Range) → Abstracts state m → In address range → HoldsBytes (stored m.memory address bytes) → Leaves bytes value → IsBelow j (after_store state (Some range) (length bytes) value) → Abstracts j (kept m slots address bytes)
+kept_means state j m slots address bytes range value means i small leaves below = record {
   ranges = λ r y h.
       let known = below.ranges r y h in
       let holds = means.ranges r known.0 known.1 in
@@ -520,6 +569,7 @@ kept_means state j m slots address bytes range means i below = record {
         | inl new ↦ written_there m.memory range address bytes k i new
         | inr old ↦ stored_stays m.memory address bytes k (means.initialized k old)
       ];
+  words = words_below (stored m.memory address bytes) (after_store state (Some range) (length bytes) value) j (words_stored m.memory state.words address bytes range value means.words small i leaves) below;
   arguments = λ k p q. stored_stays m.memory address bytes k (means.arguments k p q);
 }
 
@@ -541,6 +591,7 @@ narrowed state m d value x means is i = record {
             means.ranges r y (sym (ap (λ (b : Bool). cond b (Some x) (state.ranges r)) e) ∙ h)
       ];
   initialized = means.initialized;
+  words = record { number = λ w bytes e. means.words.number w bytes e };
   arguments = means.arguments;
 }
 

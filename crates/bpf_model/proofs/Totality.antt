@@ -9,6 +9,7 @@ use Rattle.bpf_model.specs.Code.{insns_by_slot, insn_at}
 use Rattle.bpf_model.specs.Machine.{frames}
 use Rattle.bpf_model.specs.AbstractState.{start_state}
 use Rattle.bpf_model.specs.Verdict.{structure_fault, slot_structure_fault, Visit, visits, max_visits, visit_fault, dataflow_fault, IsFirst, IsFirstVisit, IsAccepted, IsRejected}
+use Rattle.bpf_model.specs.declared.profile.Profile.{Profile}
 use Rattle.bpf_model.proofs.Options.{some_is}
 use Rattle.bpf_model.proofs.Slots.{insn_at_less, first_at, few}
 use Rattle.bpf_model.proofs.Visits.{visit_there}
@@ -49,24 +50,24 @@ everywhere fault_at n low high k = elim (cases_lt k n) [ inl less ↦ low k less
 -- ---- the verdict
 
 -- visits without a fault have a bound
-accepts : (bytes : List ℕ) (code : List Insn) → IsCode bytes code → ((slot : ℕ) → structure_fault code slot ≡ None) → ((index : ℕ) → dataflow_fault code index ≡ None) → (bound : ℕ) × IsAccepted code bound
-accepts bytes code c structure dataflow =
-    let bound = some_bound code structure frames 0 start_state (first_at code (few bytes code c).0) in
+accepts : (profile : Profile) (bytes : List ℕ) (code : List Insn) → IsCode bytes code → ((slot : ℕ) → structure_fault code slot ≡ None) → ((index : ℕ) → dataflow_fault profile code index ≡ None) → (bound : ℕ) × IsAccepted profile code bound
+accepts profile bytes code c structure dataflow =
+    let bound = some_bound code structure frames 0 (start_state profile) (first_at code (few bytes code c).0) in
     (bound.0, record { structure = structure; dataflow = dataflow; longest = bound.1 })
 
 -- the first visit that has a fault
-first_visit : (code : List Insn) (fault : VerifyFault) (index : ℕ) → IsFirst (dataflow_fault code) fault index → (slot : ℕ) × IsFirstVisit code fault slot
-first_visit code fault index first =
-    let visit = visit_there index (slice_get (visits code) index) fault first.0 in
+first_visit : (profile : Profile) (code : List Insn) (fault : VerifyFault) (index : ℕ) → IsFirst (dataflow_fault profile code) fault index → (slot : ℕ) × IsFirstVisit profile code fault slot
+first_visit profile code fault index first =
+    let visit = visit_there index (slice_get (visits profile code) index) fault first.0 in
     (visit.0.slot, record { index = index; visit = visit.0; visit_is = visit.1; slot_is = refl; first = first })
 
 -- visit 65,537 has a fault, where there is one; so no later one is the first
-none_later : (code : List Insn) → ((k : ℕ) → k < max_visits + 1 → dataflow_fault code k ≡ None) → (k : ℕ) → dataflow_fault code k ≡ None
-none_later code none k =
+none_later : (profile : Profile) (code : List Insn) → ((k : ℕ) → k < max_visits + 1 → dataflow_fault profile code k ≡ None) → (k : ℕ) → dataflow_fault profile code k ≡ None
+none_later profile code none k =
     elim (cases_lt k (max_visits + 1)) [
       | inl less ↦ none k less
       | inr more ↦
-          ap (visit_fault k) (past (visits code) k (omega (arith, more, end_of (visits code) max_visits (λ e. stands e (none max_visits (omega arith))))))
+          ap (visit_fault k) (past (visits profile code) k (omega (arith, more, end_of (visits profile code) max_visits (λ e. stands e (none max_visits (omega arith))))))
     ] where
       past : (vs : List Visit) (i : ℕ) → length vs ≤ i → slice_get vs i ≡ None
       past [] i h = refl
@@ -78,25 +79,25 @@ none_later code none k =
       end_of (v ∷ vs) zero h = absurd (h (v, refl))
       end_of (v ∷ vs) (suc i) h = let rest = end_of vs i h in omega (arith, rest)
 
-      stands : ((v : Visit) × (slice_get (visits code) max_visits ≡ Some v)) → dataflow_fault code max_visits ≡ None → ⊥
+      stands : ((v : Visit) × (slice_get (visits profile code) max_visits ≡ Some v)) → dataflow_fault profile code max_visits ≡ None → ⊥
       stands (v, is) none = let some = sym (ap (visit_fault max_visits) is) ∙ none in cc
 
-pub decided : (bytes : List ℕ) (code : List Insn) → IsCode bytes code → ((bound : ℕ) × IsAccepted code bound) ⊎ ((fault : VerifyFault) × (slot : ℕ) × IsRejected code fault slot)
-decided bytes code c =
+pub decided : (profile : Profile) (bytes : List ℕ) (code : List Insn) → IsCode bytes code → ((bound : ℕ) × IsAccepted profile code bound) ⊎ ((fault : VerifyFault) × (slot : ℕ) × IsRejected profile code fault slot)
+decided profile bytes code c =
     elim (first_below (structure_fault code) (length (insns_by_slot code))) [
       | inl (fault, slot, first) ↦ inr (fault, slot, inl first)
       | inr structure ↦
-          flows (everywhere (structure_fault code) (length (insns_by_slot code)) structure (structure_beyond code)) (first_below (dataflow_fault code) (max_visits + 1))
+          flows (everywhere (structure_fault code) (length (insns_by_slot code)) structure (structure_beyond code)) (first_below (dataflow_fault profile code) (max_visits + 1))
     ] where
-      flows : ((slot : ℕ) → structure_fault code slot ≡ None) → ((fault : VerifyFault) × (index : ℕ) × IsFirst (dataflow_fault code) fault index) ⊎ ((k : ℕ) → k < max_visits + 1 → dataflow_fault code k ≡ None) → ((bound : ℕ) × IsAccepted code bound) ⊎ ((fault : VerifyFault) × (slot : ℕ) × IsRejected code fault slot)
+      flows : ((slot : ℕ) → structure_fault code slot ≡ None) → ((fault : VerifyFault) × (index : ℕ) × IsFirst (dataflow_fault profile code) fault index) ⊎ ((k : ℕ) → k < max_visits + 1 → dataflow_fault profile code k ≡ None) → ((bound : ℕ) × IsAccepted profile code bound) ⊎ ((fault : VerifyFault) × (slot : ℕ) × IsRejected profile code fault slot)
       flows structure (inl (fault, index, first)) =
-          let visit = first_visit code fault index first in inr (fault, visit.0, inr (structure, visit.1))
-      flows structure (inr none) = inl (accepts bytes code c structure (none_later code none))
+          let visit = first_visit profile code fault index first in inr (fault, visit.0, inr (structure, visit.1))
+      flows structure (inr none) = inl (accepts profile bytes code c structure (none_later profile code none))
 
 -- ---- there is one verdict
 
-pub same_bound : (code : List Insn) (a b : ℕ) → IsAccepted code a → IsAccepted code b → a ≡ b
-same_bound code a b x y = one_bound code x.structure frames 0 start_state a b x.longest y.longest
+pub same_bound : (profile : Profile) (code : List Insn) (a b : ℕ) → IsAccepted profile code a → IsAccepted profile code b → a ≡ b
+same_bound profile code a b x y = one_bound code x.structure frames 0 (start_state profile) a b x.longest y.longest
 
 fault_is : (x y : VerifyFault) → Some x ≡ Some y → x ≡ y
 fault_is x y e = cc
@@ -116,18 +117,18 @@ same_first fault_at x y s t p q =
 never_first : (fault_at : ℕ → Option VerifyFault) (x : VerifyFault) (s : ℕ) → ((k : ℕ) → fault_at k ≡ None) → IsFirst fault_at x s → ⊥
 never_first fault_at x s none p = let both = sym p.0 ∙ none s in cc
 
-same_visit : (code : List Insn) (x y : VerifyFault) (s t : ℕ) → IsFirstVisit code x s → IsFirstVisit code y t → (x ≡ y) × (s ≡ t)
-same_visit code x y s t p q =
-    let same = same_first (dataflow_fault code) x y p.index q.index p.first q.first in
-    let visit : Some p.visit ≡ Some q.visit = sym p.visit_is ∙ ap (slice_get (visits code)) same.1 ∙ q.visit_is in
+same_visit : (profile : Profile) (code : List Insn) (x y : VerifyFault) (s t : ℕ) → IsFirstVisit profile code x s → IsFirstVisit profile code y t → (x ≡ y) × (s ≡ t)
+same_visit profile code x y s t p q =
+    let same = same_first (dataflow_fault profile code) x y p.index q.index p.first q.first in
+    let visit : Some p.visit ≡ Some q.visit = sym p.visit_is ∙ ap (slice_get (visits profile code)) same.1 ∙ q.visit_is in
     (same.0, p.slot_is ∙ ap (λ (v : Visit). v.slot) (some_is p.visit q.visit visit) ∙ sym q.slot_is)
 
-pub same_fault : (code : List Insn) (x y : VerifyFault) (s t : ℕ) → IsRejected code x s → IsRejected code y t → (x ≡ y) × (s ≡ t)
-same_fault code x y s t (inl p) (inl q) = same_first (structure_fault code) x y s t p q
-same_fault code x y s t (inl p) (inr q) = absurd (never_first (structure_fault code) x s q.0 p)
-same_fault code x y s t (inr p) (inl q) = absurd (never_first (structure_fault code) y t p.0 q)
-same_fault code x y s t (inr p) (inr q) = same_visit code x y s t p.1 q.1
+pub same_fault : (profile : Profile) (code : List Insn) (x y : VerifyFault) (s t : ℕ) → IsRejected profile code x s → IsRejected profile code y t → (x ≡ y) × (s ≡ t)
+same_fault profile code x y s t (inl p) (inl q) = same_first (structure_fault code) x y s t p q
+same_fault profile code x y s t (inl p) (inr q) = absurd (never_first (structure_fault code) x s q.0 p)
+same_fault profile code x y s t (inr p) (inl q) = absurd (never_first (structure_fault code) y t p.0 q)
+same_fault profile code x y s t (inr p) (inr q) = same_visit profile code x y s t p.1 q.1
 
-pub not_both : (code : List Insn) (bound : ℕ) (x : VerifyFault) (s : ℕ) → IsAccepted code bound → IsRejected code x s → ⊥
-not_both code bound x s a (inl p) = never_first (structure_fault code) x s a.structure p
-not_both code bound x s a (inr p) = never_first (dataflow_fault code) x p.1.index a.dataflow p.1.first
+pub not_both : (profile : Profile) (code : List Insn) (bound : ℕ) (x : VerifyFault) (s : ℕ) → IsAccepted profile code bound → IsRejected profile code x s → ⊥
+not_both profile code bound x s a (inl p) = never_first (structure_fault code) x s a.structure p
+not_both profile code bound x s a (inr p) = never_first (dataflow_fault profile code) x p.1.index a.dataflow p.1.first

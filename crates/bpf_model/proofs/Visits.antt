@@ -11,6 +11,7 @@ use Rattle.bpf_model.specs.Code.{insn_at}
 use Rattle.bpf_model.specs.AbstractState.{AbstractState}
 use Rattle.bpf_model.specs.Dataflow.{Activation, state_at, called}
 use Rattle.bpf_model.specs.Verdict.{Visit, Visits, insn_dataflow_fault, visits_of, visits_of_callee, visits_at, visits_below, visits, max_visits, visit_fault, dataflow_fault, IsFirstVisit}
+use Rattle.bpf_model.specs.declared.profile.Profile.{Profile}
 
 -- no visit has a fault
 abbrev pub AllRight : List Visit → Type 0
@@ -56,9 +57,9 @@ none_from (v ∷ vs) n h all =
     let many = rest.1 in
     ((here.1, rest.0), omega (arith, many))
 
-pub all_right : (code : List Insn) → ((index : ℕ) → dataflow_fault code index ≡ None) → AllRight (visits code) × (length (visits code) ≤ max_visits)
-all_right code all =
-    let whole = none_from (visits code) 0 (omega arith) (λ i. let same : i ≡ 0 + i = omega arith in ap (λ (k : ℕ). visit_fault k (slice_get (visits code) i)) (sym same) ∙ all i) in
+pub all_right : (profile : Profile) (code : List Insn) → ((index : ℕ) → dataflow_fault profile code index ≡ None) → AllRight (visits profile code) × (length (visits profile code) ≤ max_visits)
+all_right profile code all =
+    let whole = none_from (visits profile code) 0 (omega arith) (λ i. let same : i ≡ 0 + i = omega arith in ap (λ (k : ℕ). visit_fault k (slice_get (visits profile code) i)) (sym same) ∙ all i) in
     let many = whole.1 in
     (whole.0, omega (arith, many))
 
@@ -76,10 +77,10 @@ right_fault (v ∷ vs) n (suc i) h few =
     let same : n + suc i ≡ n + 1 + i = omega arith in
     ap (λ (k : ℕ). visit_fault k (slice_get vs i)) same ∙ right_fault vs (n + 1) i h.1 (omega (arith, few))
 
-pub no_faults : (code : List Insn) → AllRight (visits code) → length (visits code) ≤ max_visits → (index : ℕ) → dataflow_fault code index ≡ None
-no_faults code right few index =
+pub no_faults : (profile : Profile) (code : List Insn) → AllRight (visits profile code) → length (visits profile code) ≤ max_visits → (index : ℕ) → dataflow_fault profile code index ≡ None
+no_faults profile code right few index =
     let same : index ≡ 0 + index = omega arith in
-    ap (λ (k : ℕ). visit_fault k (slice_get (visits code) index)) same ∙ right_fault (visits code) 0 index right (omega (arith, few))
+    ap (λ (k : ℕ). visit_fault k (slice_get (visits profile code) index)) same ∙ right_fault (visits profile code) 0 index right (omega (arith, few))
 
 -- ---- a first visit that has a fault
 
@@ -95,16 +96,16 @@ right_before (x ∷ xs) ys n (suc i) h few lt =
     ap (λ (k : ℕ). visit_fault k (slice_get (xs ++ ys) i)) same ∙ right_before xs ys (n + 1) i h.1 (omega (arith, few)) (omega (arith, lt))
 
 -- behind visits that have none comes one that has this fault
-pub first_visit : (code : List Insn) (fault : VerifyFault) (slot : ℕ) (first : List Visit) (visit : Visit) (rest : List Visit) → visits code ≡ first ++ visit ∷ rest → AllRight first → 0 + length first ≤ max_visits → visit_fault (0 + length first) (Some visit) ≡ Some fault → slot ≡ visit.slot → IsFirstVisit code fault slot
-first_visit code fault slot first visit rest whole right few fault_is slot_is =
+pub first_visit : (profile : Profile) (code : List Insn) (fault : VerifyFault) (slot : ℕ) (first : List Visit) (visit : Visit) (rest : List Visit) → visits profile code ≡ first ++ visit ∷ rest → AllRight first → 0 + length first ≤ max_visits → visit_fault (0 + length first) (Some visit) ≡ Some fault → slot ≡ visit.slot → IsFirstVisit profile code fault slot
+first_visit profile code fault slot first visit rest whole right few fault_is slot_is =
     record { index = length first; visit = visit; visit_is = here; slot_is = slot_is; first = (ap (visit_fault (length first)) here ∙ ap (λ (n : ℕ). visit_fault n (Some visit)) same ∙ fault_is, before) } where
-      here : slice_get (visits code) (length first) ≡ Some visit
+      here : slice_get (visits profile code) (length first) ≡ Some visit
       here = ap (λ (vs : List Visit). slice_get vs (length first)) whole ∙ get_behind first visit rest
 
       same : length first ≡ 0 + length first
       same = omega arith
 
-      before : (k : ℕ) → k < length first → dataflow_fault code k ≡ None
+      before : (k : ℕ) → k < length first → dataflow_fault profile code k ≡ None
       before k lt =
           let is : k ≡ 0 + k = omega arith in
           ap (λ (vs : List Visit). visit_fault k (slice_get vs k)) whole ∙ ap (λ (n : ℕ). visit_fault n (slice_get (first ++ visit ∷ rest) k)) is ∙ right_before first (visit ∷ rest) 0 k right few lt

@@ -2,7 +2,7 @@
 use Rattle.std.proofs.Common.{◌≡◌, ℕ, zero, suc, ◌+◌, ◌^◌, ◌<◌, ◌≤◌, Bool, true, false, ◌&&◌, length, cond, eqb, List, [], ◌∷◌, ◌++◌, Option, Some, None, refl, sym, ap, subst, ◌∙◌, arith, inl, inr, map, filter, fold}
 use Rattle.std.specs.Prelude.{nat_le}
 use Rattle.std.specs.Int.{w64, cast_unsigned}
-use Rattle.std.specs.List.{AllByRecursion}
+use Rattle.std.specs.List.{AllByRecursion, list_any}
 use Rattle.std.specs.Option.{option_map}
 use Rattle.std.proofs.lemmas.Bool.Decides.{eqb_tells, leb_tells}
 use Rattle.bpf_num.specs.declared.AluOp.{AluOp}
@@ -15,17 +15,22 @@ use Rattle.bpf_decode.specs.declared.insn.Insn.TheVariants.{Alu, Swap, LoadImm, 
 use Rattle.bpf_decode.specs.declared.insn.Source.{Source}
 use Rattle.bpf_decode.specs.declared.insn.Source.TheVariants as source
 use Rattle.bpf_decode.specs.Encoding.{IsInsn}
-use Rattle.reg_ranges.specs.Ranges.{Range, single, join_of, swap_range_of}
+use Rattle.reg_ranges.specs.Ranges.{Range, single, full, join_of, swap_range_of}
+use Rattle.bpf_num.specs.declared.AluWidth.TheVariants.{W64}
+use Rattle.bpf_decode.specs.declared.insn.Size.{Size}
+use Rattle.bpf_decode.specs.declared.insn.Size.TheVariants.{B, H, W, Dw}
+use Rattle.bpf_model.specs.Words.{Words, word_start, word_of, begins_at, may_write, stored_range, word_at}
+use Rattle.map_helpers.specs.Helpers.{fixed_size}
 use Rattle.reg_ranges.specs.Refine.{Ranges, refine_of}
 use Rattle.bpf_model.specs.Access.{bytes_of}
 use Rattle.bpf_model.specs.Code.{insns_by_slot, insn_at, target_of}
-use Rattle.bpf_model.specs.Machine.{frames, frame_end}
+use Rattle.bpf_model.specs.Machine.{frames, frame_end, is_in_frame}
 use Rattle.map_helpers.specs.declared.helper.Access.{Access}
 use Rattle.map_helpers.specs.declared.helper.Helper.{Helper}
 use Rattle.map_helpers.specs.declared.helper.Helper.TheVariants.{Get, Put, Del, Len, Next, Emit, Caller}
 use Rattle.map_helpers.specs.Helpers.{helper_of}
 use Rattle.bpf_model.specs.Step.{tested_immediate}
-use Rattle.bpf_model.specs.AbstractState.{AbstractState, Edge, entry_state, after_call, join_option, join, join_all, source_range, destination_range, transfer, with_range, alu_range, address_range, loaded_range, after_store, helper_max_answer, after_helper, tested_range, with_ranges, after_test, edge_if, edges}
+use Rattle.bpf_model.specs.AbstractState.{AbstractState, Edge, entry_state, after_call, join_option, join, join_all, source_range, destination_range, transfer, with_range, alu_range, address_range, range_after_load, range_or_full, after_store, helper_max_answer, after_helper, tested_range, with_ranges, after_test, edge_if, edges}
 use Rattle.bpf_model.specs.Dataflow.{Activation, activation, Exits, is_exit, entered, behind, edges_of, flows_to, incoming, state_at, exit_of, exits_below, exits}
 use Rattle.bpf_model.proofs.Options.{some_is, bind_some, map_some}
 use Rattle.bpf_model.proofs.Slots.{insn_fits}
@@ -48,7 +53,8 @@ join_option_well_formed (Some a) (Some b) fp fq x e =
 
 join_well_formed : (a b : AbstractState) → IsWellFormed a → IsWellFormed b → IsWellFormed (join a b)
 unfolding IsWellFormed
-join_well_formed a b fa fb r x e = join_option_well_formed (a.ranges r) (b.ranges r) (fa r) (fb r) x e
+join_well_formed a b fa fb =
+    (λ r x e. join_option_well_formed (a.ranges r) (b.ranges r) (fa.0 r) (fb.0 r) x e, λ w. IsRange-join (a.words.ranges w) (b.words.ranges w) (fa.1 w) (fb.1 w))
 
 fold_well_formed : (s : AbstractState) (ss : List AbstractState) → IsWellFormed s → AllByRecursion IsWellFormed ss → IsWellFormed (fold join s ss)
 fold_well_formed s [] fs all = fs
@@ -67,19 +73,19 @@ IsRange-single n h x e =
 source_range_well_formed : (state : AbstractState) (src : Source) → IsWellFormed state → ImmInRange src → IsRangeIfSome (source_range state src)
 unfolding IsWellFormed ImmInRange
 source_range_well_formed state (source.Imm value) fit small = IsRange-single (cast_unsigned w64 value) (small_64 value small)
-source_range_well_formed state (source.Reg reg) fit small = fit reg.number
+source_range_well_formed state (source.Reg reg) fit small = fit.0 reg.number
 
 tested_range_well_formed : (state : AbstractState) (narrow : Bool) (src : Source) → IsWellFormed state → ImmInRange src → IsRangeIfSome (tested_range state narrow src)
 unfolding IsWellFormed ImmInRange
 tested_range_well_formed state narrow (source.Imm value) fit small =
     IsRange-single (tested_immediate narrow value) (immediate_small narrow value small)
-tested_range_well_formed state narrow (source.Reg reg) fit small = fit reg.number
+tested_range_well_formed state narrow (source.Reg reg) fit small = fit.0 reg.number
 
 destination_range_well_formed : (state : AbstractState) (op : AluOp) (d : ℕ) → IsWellFormed state → IsRangeIfSome (destination_range state op d)
 unfolding IsWellFormed
 destination_range_well_formed state op d fit = cases (reads_destination op) where
   cases : (b : Bool) → IsRangeIfSome (cond b (state.ranges d) (Some (single 0)))
-  cases true = fit d
+  cases true = fit.0 d
   cases false = IsRange-single 0 (omega arith)
 
 alu_range_well_formed : (state : AbstractState) (width : AluWidth) (op : AluOp) (d : ℕ) (src : Source) → IsWellFormed state → ImmInRange src → IsRangeIfSome (alu_range state width op d src)
@@ -92,40 +98,78 @@ alu_range_well_formed state width op d src fit small r e =
 
 with_range_well_formed : (state : AbstractState) (d : ℕ) (o : Option Range) → IsWellFormed state → IsRangeIfSome o → IsWellFormed (with_range state d o)
 unfolding IsWellFormed
-with_range_well_formed state d o fit fo r x e =
-    elim (eqb_tells r d) [
-      | inl (t, same) ↦ fo x (sym (ap (λ (b : Bool). cond b o (state.ranges r)) t) ∙ e)
-      | inr (f, other) ↦ fit r x (sym (ap (λ (b : Bool). cond b o (state.ranges r)) f) ∙ e)
-    ]
+with_range_well_formed state d o fit fo = (
+  λ r x e.
+      elim (eqb_tells r d) [
+        | inl (t, same) ↦ fo x (sym (ap (λ (b : Bool). cond b o (state.ranges r)) t) ∙ e)
+        | inr (f, other) ↦ fit.0 r x (sym (ap (λ (b : Bool). cond b o (state.ranges r)) f) ∙ e)
+      ],
+  fit.1,
+)
 
 with_one : (state : AbstractState) (d : ℕ) (y : Range) → IsWellFormed state → IsRange y → IsWellFormed (with_range state d (Some y))
 with_one state d y fit fy =
     with_range_well_formed state d (Some y) fit (λ x e. subst (λ (z : Range). IsRange z) (some_is y x e) fy)
 
-after_store_well_formed : (state : AbstractState) (o : Option Range) (size : ℕ) → IsWellFormed state → IsWellFormed (after_store state o size)
+-- ---- words
+
+IsRange-full : IsRange (full W64)
+IsRange-full = record { below = omega arith }
+
+chosen_well_formed : (b : Bool) (x y : Range) → IsRange x → IsRange y → IsRange (cond b x y)
+chosen_well_formed true x y fx fy = fx
+chosen_well_formed false x y fx fy = fy
+
+stored_range_well_formed : (size : Size) (x : Range) → IsRange x → IsRange (stored_range size x)
+stored_range_well_formed B x fx = IsRange-full
+stored_range_well_formed H x fx = IsRange-full
+stored_range_well_formed W x fx = IsRange-full
+stored_range_well_formed Dw x fx = fx
+
+range_or_full_well_formed : (o : Option Range) → IsRangeIfSome o → IsRange (range_or_full o)
+range_or_full_well_formed None fo = IsRange-full
+range_or_full_well_formed (Some x) fo = fo x refl
+
+word_at_well_formed : (words : Words) (o : Option Range) → ((w : ℕ) → IsRange (words.ranges w)) → IsRange (word_at words o)
+word_at_well_formed words None fit = IsRange-full
+word_at_well_formed words (Some address) fit =
+    chosen_well_formed (begins_at words (Some address) (word_of address.lo)) (words.ranges (word_of address.lo)) (full W64) (fit (word_of address.lo)) IsRange-full
+
+range_after_load_well_formed : (state : AbstractState) (size : Size) (signed : Bool) (o : Option Range) → IsWellFormed state → IsRange (range_after_load state size signed o)
 unfolding IsWellFormed
-after_store_well_formed state o size fit = fit
+range_after_load_well_formed state B signed o fit = IsRange-loaded B signed
+range_after_load_well_formed state H signed o fit = IsRange-loaded H signed
+range_after_load_well_formed state W signed o fit = IsRange-loaded W signed
+range_after_load_well_formed state Dw true o fit = IsRange-loaded Dw true
+range_after_load_well_formed state Dw false o fit = word_at_well_formed state.words o fit.1
+
+after_store_well_formed : (state : AbstractState) (o : Option Range) (size : ℕ) (x : Range) → IsWellFormed state → IsRange x → IsWellFormed (after_store state o size x)
+unfolding IsWellFormed
+after_store_well_formed state o size x fit fx =
+    (fit.0, λ w. chosen_well_formed (begins_at state.words o w) x _ fx (chosen_well_formed (may_write o size w) (full W64) (state.words.ranges w) IsRange-full (fit.1 w)))
 
 after_helper_well_formed : (state : AbstractState) (most : ℕ) (written : List Access) → most < 2 ^ 64 → IsWellFormed state → IsWellFormed (after_helper state most written)
 unfolding IsWellFormed
-after_helper_well_formed state most written small fit r x e =
-    elim (eqb_tells r 0) [
-      | inl (t, same) ↦
-          let is : record { lo = 0; hi = most } ≡ x = some_is _ _ (sym (ap (λ (b : Bool). cond b (Some (record { lo = 0; hi = most })) (cond (nat_le 6 r) (state.ranges r) None)) t) ∙ e) in
-          subst (λ (y : Range). IsRange y) is (record { below = small })
-      | inr (f, other) ↦
-          let rest : cond (nat_le 6 r) (state.ranges r) None ≡ Some x = sym (ap (λ (b : Bool). cond b (Some (record { lo = 0; hi = most })) (cond (nat_le 6 r) (state.ranges r) None)) f) ∙ e in
-          elim (leb_tells 6 r) [
-            | inl (g, high) ↦ fit r x (sym (ap (λ (b : Bool). cond b (state.ranges r) None) g) ∙ rest)
-            | inr (g, low) ↦ absurd (let none = sym (ap (λ (b : Bool). cond b (state.ranges r) None) g) ∙ rest in cc)
-          ]
-    ]
+after_helper_well_formed state most written small fit = (registers, λ w. chosen_well_formed (list_any (λ (access : Access). may_write (state.ranges access.register) (fixed_size access.size) w) written) (full W64) (state.words.ranges w) IsRange-full (fit.1 w)) where
+  registers : (r : ℕ) (x : Range) → (after_helper state most written).ranges r ≡ Some x → IsRange x
+  registers r x e =
+      elim (eqb_tells r 0) [
+        | inl (t, same) ↦
+            let is : record { lo = 0; hi = most } ≡ x = some_is _ _ (sym (ap (λ (b : Bool). cond b (Some (record { lo = 0; hi = most })) (cond (nat_le 6 r) (state.ranges r) None)) t) ∙ e) in
+            subst (λ (y : Range). IsRange y) is (record { below = small })
+        | inr (f, other) ↦
+            let rest : cond (nat_le 6 r) (state.ranges r) None ≡ Some x = sym (ap (λ (b : Bool). cond b (Some (record { lo = 0; hi = most })) (cond (nat_le 6 r) (state.ranges r) None)) f) ∙ e in
+            elim (leb_tells 6 r) [
+              | inl (g, high) ↦ fit.0 r x (sym (ap (λ (b : Bool). cond b (state.ranges r) None) g) ∙ rest)
+              | inr (g, low) ↦ absurd (let none = sym (ap (λ (b : Bool). cond b (state.ranges r) None) g) ∙ rest in cc)
+            ]
+      ]
 
 swap_well_formed : (state : AbstractState) (d : ℕ) (f : Range → Range) → IsWellFormed state → ((a : Range) → IsRange a → IsRange (f a)) → IsRangeIfSome (option_map f (state.ranges d))
 unfolding IsWellFormed
 swap_well_formed state d f fit keeps x e =
     let a = map_some f (state.ranges d) x e in
-    subst (λ (y : Range). IsRange y) a.2 (keeps a.0 (fit d a.0 a.1))
+    subst (λ (y : Range). IsRange y) a.2 (keeps a.0 (fit.0 d a.0 a.1))
 
 -- ---- edges
 
@@ -146,7 +190,7 @@ with_ranges_well_formed state d (source.Reg reg) r fit fa fb = cases (eqb d reg.
 
 range_at : (state : AbstractState) (d : ℕ) (x : Range) → IsWellFormed state → state.ranges d ≡ Some x → IsRange x
 unfolding IsWellFormed
-range_at state d x fit e = fit d x e
+range_at state d x fit e = fit.0 d x e
 
 after_test_well_formed : (state : AbstractState) (narrow : Bool) (test : tests.Test) (d : ℕ) (src : Source) (taken : Bool) → IsWellFormed state → ImmInRange src → (s : AbstractState) → after_test state narrow test d src taken ≡ Some s → IsWellFormed s
 after_test_well_formed state narrow test d src taken fit small s e =
@@ -188,9 +232,11 @@ edges_well_formed b keeps slot state (Swap kind width dst) fit is =
     (with_range_well_formed state dst.number (option_map (swap_range_of kind width) (state.ranges dst.number)) fit (swap_well_formed state dst.number (swap_range_of kind width) fit (IsRange-swap kind width)), tt)
 edges_well_formed b keeps slot state (LoadImm dst value) fit is = (with_one state dst.number (single value) fit (record { below = is }), tt)
 edges_well_formed b keeps slot state (Load size signed dst base offset) fit is =
-    (with_one state dst.number (loaded_range size signed) fit (IsRange-loaded size signed), tt)
-edges_well_formed b keeps slot state (StoreImm size base offset imm) fit is = (after_store_well_formed state (address_range state base.number offset) (bytes_of size) fit, tt)
-edges_well_formed b keeps slot state (Store size base offset src) fit is = (after_store_well_formed state (address_range state base.number offset) (bytes_of size) fit, tt)
+    (with_one state dst.number (range_after_load state size signed (address_range state base.number offset)) fit (range_after_load_well_formed state size signed (address_range state base.number offset) fit), tt)
+edges_well_formed b keeps slot state (StoreImm size base offset imm) fit is =
+    (after_store_well_formed state (address_range state base.number offset) (bytes_of size) _ fit (stored_range_well_formed size (single (cast_unsigned w64 imm)) (record { below = small_64 imm is.1 })), tt)
+edges_well_formed b keeps slot state (Store size base offset src) fit is =
+    (after_store_well_formed state (address_range state base.number offset) (bytes_of size) _ fit (stored_range_well_formed size (range_or_full (state.ranges src.number)) (range_or_full_well_formed (state.ranges src.number) (λ x e. range_at state src.number x fit e))), tt)
 edges_well_formed b keeps slot state (Jump offset) fit is = edge_if_well_formed (target_of slot offset) (Some state) (same_state state fit)
 edges_well_formed b keeps slot state (JumpLong offset) fit is = edge_if_well_formed (target_of slot offset) (Some state) (same_state state fit)
 edges_well_formed b keeps slot state (Test narrow test dst src offset) fit is =
@@ -233,29 +279,32 @@ ExitsWellFormed exits = (entry : ℕ) (state : AbstractState) → IsWellFormed s
 
 pub entry_well_formed : (d : ℕ) (state : AbstractState) → d < frames → IsWellFormed state → IsWellFormed (entry_state d state)
 unfolding IsWellFormed
-entry_well_formed d state shallow fit r x e =
-    elim (eqb_tells r 10) [
-      | inl (t, same) ↦
-          let is : single (frame_end d) ≡ x = some_is _ _ (sym (ap (λ (b : Bool). cond b (Some (single (frame_end d))) (cond (nat_le 1 r && nat_le r 5) (state.ranges r) None)) t) ∙ e) in
-          subst (λ (y : Range). IsRange y) is (record { below = omega arith })
-      | inr (f, other) ↦
-          let rest : cond (nat_le 1 r && nat_le r 5) (state.ranges r) None ≡ Some x = sym (ap (λ (b : Bool). cond b (Some (single (frame_end d))) (cond (nat_le 1 r && nat_le r 5) (state.ranges r) None)) f) ∙ e in
-          chosen (nat_le 1 r && nat_le r 5) rest
-    ] where
-      chosen : (b : Bool) → cond b (state.ranges r) None ≡ Some x → IsRange x
-      chosen true h = fit r x h
-      chosen false h = absurd cc
+entry_well_formed d state shallow fit = (registers, fit.1) where
+  chosen : (r : ℕ) (x : Range) (b : Bool) → cond b (state.ranges r) None ≡ Some x → IsRange x
+  chosen r x true h = fit.0 r x h
+  chosen r x false h = absurd cc
+
+  registers : (r : ℕ) (x : Range) → (entry_state d state).ranges r ≡ Some x → IsRange x
+  registers r x e =
+      elim (eqb_tells r 10) [
+        | inl (t, same) ↦
+            let is : single (frame_end d) ≡ x = some_is _ _ (sym (ap (λ (b : Bool). cond b (Some (single (frame_end d))) (cond (nat_le 1 r && nat_le r 5) (state.ranges r) None)) t) ∙ e) in
+            subst (λ (y : Range). IsRange y) is (record { below = omega arith })
+        | inr (f, other) ↦
+            let rest : cond (nat_le 1 r && nat_le r 5) (state.ranges r) None ≡ Some x = sym (ap (λ (b : Bool). cond b (Some (single (frame_end d))) (cond (nat_le 1 r && nat_le r 5) (state.ranges r) None)) f) ∙ e in
+            chosen r x (nat_le 1 r && nat_le r 5) rest
+      ]
 
 after_call_well_formed : (d : ℕ) (state returned : AbstractState) → IsWellFormed state → IsWellFormed returned → IsWellFormed (after_call d state returned)
 unfolding IsWellFormed
-after_call_well_formed d state returned fit gives r x e = first (eqb r 0) e where
-  rest : (b : Bool) → cond b (state.ranges r) None ≡ Some x → IsRange x
-  rest true h = fit r x h
-  rest false h = absurd cc
+after_call_well_formed d state returned fit gives = (λ r x e. first r x (eqb r 0) e, λ w. chosen_well_formed (is_in_frame d (word_start w)) (full W64) (returned.words.ranges w) IsRange-full (gives.1 w)) where
+  rest : (r : ℕ) (x : Range) (b : Bool) → cond b (state.ranges r) None ≡ Some x → IsRange x
+  rest r x true h = fit.0 r x h
+  rest r x false h = absurd cc
 
-  first : (b : Bool) → cond b (returned.ranges 0) (cond (nat_le 6 r) (state.ranges r) None) ≡ Some x → IsRange x
-  first true h = gives 0 x h
-  first false h = rest (nat_le 6 r) h
+  first : (r : ℕ) (x : Range) (b : Bool) → cond b (returned.ranges 0) (cond (nat_le 6 r) (state.ranges r) None) ≡ Some x → IsRange x
+  first r x true h = gives.0 0 x h
+  first r x false h = rest r x (nat_le 6 r) h
 
 behind_well_formed : (a : Activation) → a.depth + 1 < frames → ExitsWellFormed a.exits → BehindWellFormed (behind a)
 behind_well_formed a shallow keeps target state s fit e =

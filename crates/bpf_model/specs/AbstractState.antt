@@ -12,6 +12,7 @@ use Rattle.bpf_num.specs.declared.jump.Test as tests
 use Rattle.bpf_decode.specs.declared.insn.Insn.{Insn}
 use Rattle.bpf_decode.specs.declared.insn.Insn.TheVariants.{Alu, Swap, LoadImm, Load, StoreImm, Store, Jump, JumpLong, Test, CallHelper, CallLocal, Exit}
 use Rattle.bpf_decode.specs.declared.insn.Size.{Size}
+use Rattle.bpf_decode.specs.declared.insn.Size.TheVariants.{B, H, W, Dw}
 use Rattle.bpf_decode.specs.declared.insn.Source.{Source}
 use Rattle.bpf_decode.specs.declared.insn.Source.TheVariants as source
 use Rattle.bpf_num.specs.Bind.{◌>>=◌}
@@ -22,28 +23,32 @@ use Rattle.bpf_model.specs.Access.{bytes_of}
 use Rattle.bpf_model.specs.Code.{slots_of, target_of}
 use Rattle.bpf_model.specs.Machine.{arguments_start, frame_end, is_in_frame, is_in_bounds}
 use Rattle.bpf_model.specs.Step.{tested_immediate}
+use Rattle.bpf_model.specs.Words.{Words, start_words, may_write, words_after, stored_range, word_at, join_words, words_without}
+use Rattle.bpf_model.specs.declared.profile.Profile.{Profile}
 use Rattle.map_helpers.specs.declared.helper.Access.{Access}
 use Rattle.map_helpers.specs.declared.helper.Extent.{Extent}
 use Rattle.map_helpers.specs.declared.helper.Extent.TheVariants.{Fixed, Second}
 use Rattle.map_helpers.specs.declared.helper.Helper.{Helper}
 use Rattle.map_helpers.specs.Helpers.{helper_of, arguments_of, fixed_size, reads, writes, max_answer}
 
--- The range of each register that holds a number for certain, and the bytes of the stack that are initialized for
--- certain, whatever the code is called with.
+-- The range of each register that holds a number for certain, the bytes of the stack that are initialized for certain,
+-- and what is known of the words of the stack, whatever the code is called with.
 pub record AbstractState : Type 0 where
   pub ranges : ℕ → Option Range
   pub initialized : ℕ → Bool
+  pub words : Words
 
 -- As a call begins: r1 has the address of the arguments, r2 their length, r10, the frame pointer, the
 -- end of the frame. (RFC 9669, 2.1)
-abbrev pub start_state : AbstractState
-start_state = record {
+abbrev pub start_state : Profile → AbstractState
+start_state profile = record {
   ranges = λ r.
       if r == 1 then Some (single arguments_start)
       else if r == 2 then Some (range 0 256)
       else if r == 10 then Some (single (frame_end 0))
       else None;
   initialized = λ a. false;
+  words = start_words profile;
 }
 
 -- The join of what two states say of a register.
@@ -57,6 +62,7 @@ abbrev pub join : AbstractState → AbstractState → AbstractState
 join a b = record {
   ranges = λ r. join_option (a.ranges r) (b.ranges r);
   initialized = λ address. a.initialized address && b.initialized address;
+  words = join_words a.words b.words;
 }
 
 -- The join of all these states; there is none where no edge leads to a slot.
@@ -234,16 +240,33 @@ abbrev pub loaded_range : Size → Bool → Range
 loaded_range size false = range 0 (2 ^ (8 * bytes_of size) - 1)
 loaded_range size true = full W64
 
+-- What a load gives: of 8 bytes what is known of the word there.
+abbrev pub range_after_load : AbstractState → Size → Bool → Option Range → Range
+range_after_load state B signed address = loaded_range B signed
+range_after_load state H signed address = loaded_range H signed
+range_after_load state W signed address = loaded_range W signed
+range_after_load state Dw true address = loaded_range Dw true
+range_after_load state Dw false address = word_at state.words address
+
 abbrev pub with_range : AbstractState → ℕ → Option Range → AbstractState
 with_range state dst range = record state { ranges = λ r. if r == dst then range else state.ranges r }
 
--- A store initializes its bytes where its address is a single number.
-abbrev pub after_store : AbstractState → Option Range → ℕ → AbstractState
-after_store state range size =
-    record state { initialized = λ address. is_written range size address || state.initialized address }
+-- What is known of the number that a register holds.
+abbrev pub range_or_full : Option Range → Range
+range_or_full None = full W64
+range_or_full (Some range) = range
+
+-- A store initializes its bytes where its address is a single number. The words that it may touch hold another number
+-- from then on: what was stored, where that is known.
+abbrev pub after_store : AbstractState → Option Range → ℕ → Range → AbstractState
+after_store state range size value =
+    record state {
+      initialized = λ address. is_written range size address || state.initialized address;
+      words = words_after state.words range size value;
+    }
 
 -- After a helper r0 holds a number up to its greatest answer, and r1 to r5 nothing. What it wrote is initialized where
--- its address is a single number.
+-- its address is a single number, and nothing is known of the words that it may have written.
 abbrev pub after_helper : AbstractState → ℕ → List Access → AbstractState
 after_helper state most written = record {
   ranges = λ r.
@@ -253,10 +276,17 @@ after_helper state most written = record {
   initialized = λ address.
       list_any (λ access. is_written (state.ranges access.register) (fixed_size access.size) address) written
       || state.initialized address;
+  words = record {
+    followed = state.words.followed;
+    ranges = λ w.
+        if list_any (λ access. may_write (state.ranges access.register) (fixed_size access.size) w) written then full W64
+        else state.words.ranges w;
+  };
 }
 
 -- As a function of the code is entered at depth d: r1 to r5 are its caller's, r10, the frame pointer, is the end of its
--- frame; no other register holds anything. What its callers initialized is initialized. (RFC 9669, 2.1)
+-- frame; no other register holds anything. What its callers initialized is initialized, and their words are known.
+-- (RFC 9669, 2.1)
 abbrev pub entry_state : ℕ → AbstractState → AbstractState
 entry_state d state = record {
   ranges = λ r.
@@ -264,11 +294,12 @@ entry_state d state = record {
       else if nat_le 1 r && nat_le r 5 then state.ranges r
       else None;
   initialized = state.initialized;
+  words = state.words;
 }
 
 -- Behind a call, given the state at it and that at the exit of the callee, whose frame is at depth d: r0 is the
--- callee's, r6 to r10 are the caller's own, r1 to r5 hold nothing. What is initialized at the exit is, but for the
--- callee's frame. (RFC 9669, 2.1)
+-- callee's, r6 to r10 are the caller's own, r1 to r5 hold nothing. What is initialized at the exit is, and words that
+-- are known there are, but for the callee's frame. (RFC 9669, 2.1)
 abbrev pub after_call : ℕ → AbstractState → AbstractState → AbstractState
 after_call d state returned = record {
   ranges = λ r.
@@ -276,6 +307,7 @@ after_call d state returned = record {
       else if nat_le 6 r then state.ranges r
       else None;
   initialized = λ address. returned.initialized address && not (is_in_frame d address);
+  words = words_without d returned.words;
 }
 
 -- The state behind an instruction. Jumps and tests write nothing; what a local call does, its callee says.
@@ -284,11 +316,12 @@ after_insn state (Alu width op dst src) = with_range state dst.number (alu_range
 after_insn state (Swap kind width dst) =
     with_range state dst.number (option_map (swap_range_of kind width) (state.ranges dst.number))
 after_insn state (LoadImm dst value) = with_range state dst.number (Some (single value))
-after_insn state (Load size signed dst base offset) = with_range state dst.number (Some (loaded_range size signed))
+after_insn state (Load size signed dst base offset) =
+    with_range state dst.number (Some (range_after_load state size signed (address_range state base.number offset)))
 after_insn state (StoreImm size base offset imm) =
-    after_store state (address_range state base.number offset) (bytes_of size)
+    after_store state (address_range state base.number offset) (bytes_of size) (stored_range size (single (cast_unsigned w64 imm)))
 after_insn state (Store size base offset src) =
-    after_store state (address_range state base.number offset) (bytes_of size)
+    after_store state (address_range state base.number offset) (bytes_of size) (stored_range size (range_or_full (state.ranges src.number)))
 after_insn state (Jump offset) = state
 after_insn state (JumpLong offset) = state
 after_insn state (Test narrow test dst src offset) = state

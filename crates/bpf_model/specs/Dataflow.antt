@@ -7,6 +7,7 @@ use Rattle.bpf_decode.specs.declared.insn.Insn.{Insn}
 use Rattle.bpf_decode.specs.declared.insn.Insn.TheVariants.{Alu, Swap, LoadImm, Load, StoreImm, Store, Jump, JumpLong, Test, CallHelper, CallLocal, Exit}
 use Rattle.bpf_model.specs.Code.{insns_by_slot, insn_at, target_of}
 use Rattle.bpf_model.specs.Machine.{frames}
+use Rattle.bpf_model.specs.declared.profile.Profile.{Profile}
 use Rattle.bpf_model.specs.AbstractState.{AbstractState, Edge, start_state, entry_state, after_call, join_all, edges, IsOneOf}
 
 -- The slot of the function that an instruction calls, if it calls one of the code.
@@ -142,5 +143,5 @@ HasBound code (suc left) entry state bound =
     IsLongest code (activation left (exits code left) entry state) (HasBound code left) bound
 
 -- The greatest number of instructions on a path of the code.
-abbrev pub IsBound : List Insn → ℕ → Type 0
-IsBound code bound = HasBound code frames 0 start_state bound
+abbrev pub IsBound : Profile → List Insn → ℕ → Type 0
+IsBound profile code bound = HasBound code frames 0 (start_state profile) bound

@@ -16,3 +16,5 @@ pub use Rattle.bpf_decode.specs.Encoding
 pub use Rattle.map_helpers.specs.Helpers
 pub use Rattle.map_helpers.specs.Effects
 pub use Rattle.tenant_maps.specs.Entries
+pub mod Profiles
+pub mod Words

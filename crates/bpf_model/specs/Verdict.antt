@@ -11,6 +11,8 @@ use Rattle.bpf_model.specs.Code.{slots_of, insns_by_slot, insn_at, target_of}
 use Rattle.map_helpers.specs.Helpers.{helper_of}
 use Rattle.bpf_model.specs.AbstractState.{AbstractState, start_state, has_operands, has_accesses, has_bytes}
 use Rattle.bpf_model.specs.Machine.{frames}
+use Rattle.bpf_model.specs.declared.profile.Profile.{Profile}
+use Rattle.bpf_model.specs.declared.profile.Profile.TheVariants.{One}
 use Rattle.bpf_model.specs.Dataflow.{Activation, activation, called, entered, exits, state_at, IsBound}
 
 -- Whether a jump leads to its own slot or an earlier one. Code may not loop. (RFC 9669, 4.3)
@@ -177,8 +179,8 @@ visits_in code (suc left) entry state =
     visits_below code (activation left (exits code left) entry state) (visits_in code left) (length (insns_by_slot code))
 
 -- The visits of code, in order.
-abbrev pub visits : List Insn → List Visit
-visits code = visits_in code frames 0 start_state
+abbrev pub visits : Profile → List Insn → List Visit
+visits profile code = visits_in code frames 0 (start_state profile)
 
 -- So many visits are made at most.
 abbrev pub max_visits : ℕ
@@ -189,39 +191,46 @@ visit_fault index None = None
 visit_fault index (Some visit) = if nat_le max_visits index then Some TooComplex else visit.fault
 
 -- What is wrong with the visit of an index, from 0.
-abbrev pub dataflow_fault : List Insn → ℕ → Option VerifyFault
-dataflow_fault code index = visit_fault index (slice_get (visits code) index)
+abbrev pub dataflow_fault : Profile → List Insn → ℕ → Option VerifyFault
+dataflow_fault profile code index = visit_fault index (slice_get (visits profile code) index)
 
 -- The slot, or the visit, is the least that has a fault, and it has this one.
 abbrev pub IsFirst : (ℕ → Option VerifyFault) → VerifyFault → ℕ → Type 0
 IsFirst fault_at fault index = (fault_at index ≡ Some fault) × ((k : ℕ) → k < index → fault_at k ≡ None)
 
 -- The first visit that has a fault is at this slot, and has this one.
-pub record IsFirstVisit (code : List Insn) (fault : VerifyFault) (slot : ℕ) : Type 0 where
+pub record IsFirstVisit (profile : Profile) (code : List Insn) (fault : VerifyFault) (slot : ℕ) : Type 0 where
   pub index : ℕ
   pub visit : Visit
-  pub visit_is : slice_get (visits code) index ≡ Some visit
+  pub visit_is : slice_get (visits profile code) index ≡ Some visit
   pub slot_is : slot ≡ visit.slot
-  pub first : IsFirst (dataflow_fault code) fault index
+  pub first : IsFirst (dataflow_fault profile code) fault index
 
 -- Code that is accepted: no slot and no visit has a fault, and the bound is that of its longest path.
-pub record IsAccepted (code : List Insn) (bound : ℕ) : Type 0 where
+pub record IsAccepted (profile : Profile) (code : List Insn) (bound : ℕ) : Type 0 where
   pub structure : (slot : ℕ) → structure_fault code slot ≡ None
-  pub dataflow : (index : ℕ) → dataflow_fault code index ≡ None
-  pub longest : IsBound code bound
+  pub dataflow : (index : ℕ) → dataflow_fault profile code index ≡ None
+  pub longest : IsBound profile code bound
 
 -- Code that is refused, for its first fault: of its structure, or else of its visits.
-abbrev pub IsRejected : List Insn → VerifyFault → ℕ → Type 0
-IsRejected code fault slot =
+abbrev pub IsRejected : Profile → List Insn → VerifyFault → ℕ → Type 0
+IsRejected profile code fault slot =
     IsFirst (structure_fault code) fault slot
-    ⊎ ((k : ℕ) → structure_fault code k ≡ None) × IsFirstVisit code fault slot
+    ⊎ ((k : ℕ) → structure_fault code k ≡ None) × IsFirstVisit profile code fault slot
 
--- The verdict on bytes: accepted with a bound.
-abbrev pub Accepts : List ℕ → ℕ → Type 0
-Accepts bytes bound = (code : List Insn) × IsCode bytes code × IsAccepted code bound
+-- The verdict of a profile on bytes: accepted with a bound.
+abbrev pub AcceptsUnder : Profile → List ℕ → ℕ → Type 0
+AcceptsUnder profile bytes bound = (code : List Insn) × IsCode bytes code × IsAccepted profile code bound
 
--- The verdict on bytes: refused, with the first fault and its slot. The decoder's come first.
-abbrev pub Refuses : List ℕ → VerifyFault → ℕ → Type 0
-Refuses bytes fault slot =
+-- The verdict of a profile on bytes: refused, with the first fault and its slot. The decoder's come first.
+abbrev pub RefusesUnder : Profile → List ℕ → VerifyFault → ℕ → Type 0
+RefusesUnder profile bytes fault slot =
     ((reason : DecodeFault) × IsRefused bytes reason slot × (fault ≡ Decode reason))
-    ⊎ ((code : List Insn) × IsCode bytes code × IsRejected code fault slot)
+    ⊎ ((code : List Insn) × IsCode bytes code × IsRejected profile code fault slot)
+
+-- The verdicts of the first profile.
+abbrev pub Accepts : List ℕ → ℕ → Type 0
+Accepts bytes bound = AcceptsUnder One bytes bound
+
+abbrev pub Refuses : List ℕ → VerifyFault → ℕ → Type 0
+Refuses bytes fault slot = RefusesUnder One bytes fault slot

@@ -18,6 +18,12 @@ pub const FRAMES: usize = 8;
 /// The bytes of all frames.
 pub const STACK_SIZE: usize = FRAMES * FRAME_SIZE;
 
+/// The bytes of a word.
+pub const WORD_SIZE: usize = 8;
+
+/// How many words the stack has.
+pub const STACK_WORDS: usize = STACK_SIZE / WORD_SIZE;
+
 /// Where the first frame begins.
 pub const FRAME_START: u64 = 0x1_0000_0000;
 

@@ -9,7 +9,7 @@ use Rattle.std.proofs.lemmas.List.{get_or-set_same, get_or-set_other, length-set
 use Rattle.bpf_decode.specs.declared.insn.Insn.{Insn}
 use Rattle.bpf_model.specs.Code.{insns_by_slot, insn_at}
 use Rattle.bpf_model.specs.AbstractState as model
-use Rattle.bpf_model.specs.AbstractState.{Edge, edges, join_all, IsOneOf}
+use Rattle.bpf_model.specs.AbstractState.{Edge, join_all, IsOneOf}
 use Rattle.bpf_model.specs.Dataflow.{Activation, called, entered, edges_of, flows_to, incoming, state_at, edges_at, exit_of, exits_below, Bounds, Takes, Path, HasBound}
 use Rattle.bpf_model.specs.Verdict.{Visit as ModelVisit, Visits, insn_dataflow_fault, visits_of, visits_of_callee, visits_at, visits_below, visits_in, visit_fault, max_visits}
 use Rattle.bpf_model.specs.declared.fault.VerifyFault.{VerifyFault}
@@ -25,41 +25,42 @@ use Rattle.bpf_verifier.specs.Represents.{state_of, Represents}
 use Rattle.bpf_verifier.specs.Slots.{or_exit}
 use Rattle.bpf_verifier.specs.Sweep.{Pending, visit_in, RepresentsVisit, pending_at, Flowed, HasAtLeast, OfSteps, AreFew, AreRight, Fails, Entered, activation_of, IsEntered, SweepAt, IsStart, Followed}
 use Rattle.bpf_verifier.proofs.Bits.{not_equal}
+use Rattle.bpf_verifier.proofs.States.{stack_of}
 use Rattle.bpf_verifier.proofs.Sweeps.{states_flow, least_flow, brought, steps_flow, length_flow, taken, taken_others}
 
 -- the arrays' state, as the definition has it
-pub same_state : (v : AbstractState) (m : model.AbstractState) → Represents v m → state_of v.ranges m.initialized ≡ m
-same_state v m h = λ i. record { ranges = λ r. h.ranges_are r i; initialized = m.initialized }
+pub same_state : {n_words : ℕ} → (v : AbstractState n_words) (m : model.AbstractState) → Represents v m → state_of v.ranges (stack_of m) ≡ m
+same_state {n_words} v m h = λ i. record { ranges = λ r. h.ranges_are r i; initialized = m.initialized; words = m.words }
 
-weaker : (o : Option Visit) (a b : ℕ) → b ≤ a → HasAtLeast o a → HasAtLeast o b
-weaker None a b h k = absurd k
-weaker (Some v) a b h k = omega (arith, h, k)
+weaker : {n_words : ℕ} → (o : Option (Visit n_words)) (a b : ℕ) → b ≤ a → HasAtLeast o a → HasAtLeast o b
+weaker {n_words} None a b h k = absurd k
+weaker {n_words} (Some v) a b h k = omega (arith, h, k)
 
 -- ---- what is pending as a function is entered
 
-pub start_long : (pending : Pending) (slots entry : ℕ) (visit : Box Visit Global) → IsStart pending slots entry visit → length pending ≡ slots
-start_long pending slots entry visit start =
+pub start_long : {n_words : ℕ} → (pending : Pending n_words) (slots entry : ℕ) (visit : Box (Visit n_words) Global) → IsStart pending slots entry visit → length pending ≡ slots
+start_long {n_words} pending slots entry visit start =
     ap length start ∙ length-set (replicate slots None) entry (Some visit) ∙ length-replicate slots None
 
-start_here : (pending : Pending) (slots entry : ℕ) (visit : Box Visit Global) → entry < slots → IsStart pending slots entry visit → pending_at pending entry ≡ Some visit.value
-start_here pending slots entry visit inside start =
-    let long = length-replicate {A = Option (Box Visit Global)} slots None in
-    ap (λ (l : Pending). pending_at l entry) start ∙ ap visit_in (get_or-set_same (replicate slots None) entry (Some visit) None (omega (arith, inside, long)))
+start_here : {n_words : ℕ} → (pending : Pending n_words) (slots entry : ℕ) (visit : Box (Visit n_words) Global) → entry < slots → IsStart pending slots entry visit → pending_at pending entry ≡ Some visit.value
+start_here {n_words} pending slots entry visit inside start =
+    let long = length-replicate {A = Option (Box (Visit n_words) Global)} slots None in
+    ap (λ (l : Pending n_words). pending_at l entry) start ∙ ap visit_in (get_or-set_same (replicate slots None) entry (Some visit) None (omega (arith, inside, long)))
 
-nothing_at : (slots t : ℕ) → pending_at (replicate slots None) t ≡ None
-nothing_at zero t = refl
-nothing_at (suc k) zero = refl
-nothing_at (suc k) (suc t) = nothing_at k t
+nothing_at : {n_words : ℕ} → (slots t : ℕ) → pending_at {n = n_words} (replicate slots None) t ≡ None
+nothing_at {n_words} zero t = refl
+nothing_at {n_words} (suc k) zero = refl
+nothing_at {n_words} (suc k) (suc t) = nothing_at {n_words = n_words} k t
 
-start_elsewhere : (pending : Pending) (slots entry : ℕ) (visit : Box Visit Global) → IsStart pending slots entry visit → (t : ℕ) → (t ≡ entry → ⊥) → pending_at pending t ≡ None
-start_elsewhere pending slots entry visit start t apart =
-    ap (λ (l : Pending). pending_at l t) start ∙ ap visit_in (get_or-set_other (replicate slots None) entry t (Some visit) None apart) ∙ nothing_at slots t
+start_elsewhere : {n_words : ℕ} → (pending : Pending n_words) (slots entry : ℕ) (visit : Box (Visit n_words) Global) → IsStart pending slots entry visit → (t : ℕ) → (t ≡ entry → ⊥) → pending_at pending t ≡ None
+start_elsewhere {n_words} pending slots entry visit start t apart =
+    ap (λ (l : Pending n_words). pending_at l t) start ∙ ap visit_in (get_or-set_other (replicate slots None) entry t (Some visit) None apart) ∙ nothing_at {n_words = n_words} slots t
 
-pub start_few : (pending : Pending) (slots entry visits : ℕ) (visit : Box Visit Global) → entry < slots → IsStart pending slots entry visit → visit.value.steps ≡ 0 → visits ≤ max_visits → AreFew visits visits pending 0
-start_few pending slots entry visits visit inside start none few = record {
+pub start_few : {n_words : ℕ} → (pending : Pending n_words) (slots entry visits : ℕ) (visit : Box (Visit n_words) Global) → entry < slots → IsStart pending slots entry visit → visit.value.steps ≡ 0 → visits ≤ max_visits → AreFew visits visits pending 0
+start_few {n_words} pending slots entry visits visit inside start none few = record {
   pending_few = λ t. elim (eqb_tells t entry) [
-    | inl (e, same) ↦ subst (λ (o : Option Visit). OfSteps (λ n. visits + n ≤ visits) o) (sym (ap (pending_at pending) same ∙ start_here pending slots entry visit inside start)) (omega (arith, none))
-    | inr (e, apart) ↦ subst (λ (o : Option Visit). OfSteps (λ n. visits + n ≤ visits) o) (sym (start_elsewhere pending slots entry visit start t apart)) tt
+    | inl (e, same) ↦ subst (λ (o : Option (Visit n_words)). OfSteps (λ n. visits + n ≤ visits) o) (sym (ap (pending_at pending) same ∙ start_here pending slots entry visit inside start)) (omega (arith, none))
+    | inr (e, apart) ↦ subst (λ (o : Option (Visit n_words)). OfSteps (λ n. visits + n ≤ visits) o) (sym (start_elsewhere pending slots entry visit start t apart)) tt
   ];
   bound_few = omega arith;
   visits_few = few;
@@ -114,29 +115,29 @@ module _ (f : Entered) where
 
     -- ---- the start
 
-    pub sweep_start : (pending : Pending) (slots : ℕ) (visit : Box Visit Global) → slots ≡ length (insns_by_slot f.code) → f.entry < slots → IsStart pending slots f.entry visit → visit.value.steps ≡ 0 → Represents visit.value.state f.state → SweepAt f f.entry pending (record { exit = None; bound = 0 }) f.base
-    sweep_start pending slots visit many inside start none state = record {
+    pub sweep_start : {n_words : ℕ} → (pending : Pending n_words) (slots : ℕ) (visit : Box (Visit n_words) Global) → slots ≡ length (insns_by_slot f.code) → f.entry < slots → IsStart pending slots f.entry visit → visit.value.steps ≡ 0 → Represents visit.value.state f.state → SweepAt f f.entry pending (record { exit = None; bound = 0 }) f.base
+    sweep_start {n_words} pending slots visit many inside start none state = record {
       long = ap length start ∙ length-set (replicate slots None) f.entry (Some visit) ∙ length-replicate slots None ∙ many;
       states = λ t low high. elim (eqb_tells t f.entry) [
         | inl (e, same) ↦ subst (λ (k : ℕ). RepresentsVisit (pending_at pending k) (join_all (incoming f.code A f.entry k))) (sym same) (
             let here : incoming f.code A f.entry f.entry ≡ f.state ∷ [] = idle_before f.entry (omega arith) f.entry ∙ ap (λ (b : Bool). cond b (f.state ∷ []) []) (eq-eqb f.entry f.entry refl) in
             subst (λ (ss : List model.AbstractState). RepresentsVisit (pending_at pending f.entry) (join_all ss)) (sym here)
-            (subst (λ (o : Option Visit). RepresentsVisit o (Some f.state)) (sym at_entry) state)
+            (subst (λ (o : Option (Visit n_words)). RepresentsVisit o (Some f.state)) (sym at_entry) state)
             )
         | inr (e, apart) ↦ (
             let here : incoming f.code A f.entry t ≡ [] = idle_before f.entry (omega arith) t ∙ ap (λ (b : Bool). cond b (f.state ∷ []) []) e in
             subst (λ (ss : List model.AbstractState). RepresentsVisit (pending_at pending t) (join_all ss)) (sym here)
-            (subst (λ (o : Option Visit). RepresentsVisit o None) (sym (others t apart)) tt)
+            (subst (λ (o : Option (Visit n_words)). RepresentsVisit o None) (sym (others t apart)) tt)
             )
       ];
       longest = λ t low high n s before own e less path takes one to. let from = path_from n before s path in absurd (omega (arith, from, less));
       met = λ t low high. elim (eqb_tells t f.entry) [
-        | inl (e, same) ↦ subst (λ (o : Option Visit). OfSteps (λ count. (n : ℕ) × Path f.code A B n count t) o) (sym (ap (pending_at pending) same ∙ at_entry)) (0, (same, none))
-        | inr (e, apart) ↦ subst (λ (o : Option Visit). OfSteps (λ count. (n : ℕ) × Path f.code A B n count t) o) (sym (others t apart)) tt
+        | inl (e, same) ↦ subst (λ (o : Option (Visit n_words)). OfSteps (λ count. (n : ℕ) × Path f.code A B n count t) o) (sym (ap (pending_at pending) same ∙ at_entry)) (0, (same, none))
+        | inr (e, apart) ↦ subst (λ (o : Option (Visit n_words)). OfSteps (λ count. (n : ℕ) × Path f.code A B n count t) o) (sym (others t apart)) tt
       ];
       right = subst AreRight (sym (visits_before f.entry (omega arith))) tt;
       count = let nil = ap length (visits_before f.entry (omega arith)) in omega (arith, nil);
-      exits_are = subst (λ (ss : List model.AbstractState). RepresentsVisit None (join_all ss)) (sym (exits_before f.entry (omega arith))) tt;
+      exits_are = subst (λ (ss : List model.AbstractState). RepresentsVisit {n = n_words} None (join_all ss)) (sym (exits_before f.entry (omega arith))) tt;
       enough = λ n t before own less path takes. let from = path_from n before t path in absurd (omega (arith, from, less));
       reached = inl (omega arith, refl);
     } where
@@ -148,8 +149,8 @@ module _ (f : Entered) where
 
     -- ---- the end
 
-    pub followed : (slot : ℕ) (pending : Pending) (returned : Returned) (visits : ℕ) → SweepAt f slot pending returned visits → slot ≡ length (insns_by_slot f.code) → Followed f returned visits
-    followed slot pending returned visits p end = record {
+    pub followed : {n_words : ℕ} → (slot : ℕ) (pending : Pending n_words) (returned : Returned n_words) (visits : ℕ) → SweepAt f slot pending returned visits → slot ≡ length (insns_by_slot f.code) → Followed f returned visits
+    followed {n_words} slot pending returned visits p end = record {
       right = subst (λ (n : ℕ). AreRight (visits_below f.code A V n)) end p.right;
       count = p.count ∙ ap (λ (n : ℕ). f.base + length (visits_below f.code A V n)) end;
       exits_are = subst (λ (n : ℕ). RepresentsVisit (visit_in returned.exit) (join_all (exits_below f.code A n))) end p.exits_are;
@@ -164,36 +165,36 @@ module _ (f : Entered) where
 
     -- ---- a slot
 
-    module _ (slot : ℕ) (old : Pending) (returned : Returned) (visits : ℕ) (p : SweepAt f slot old returned visits) (inside : slot < length old) where
-      longest_here : (o : Option Visit) → pending_at old slot ≡ o → (n count : ℕ) → Path f.code A B (suc n) count slot → HasAtLeast o count
+    module _ {n_words : ℕ} (slot : ℕ) (old : Pending n_words) (returned : Returned n_words) (visits : ℕ) (p : SweepAt f slot old returned visits) (inside : slot < length old) where
+      longest_here : (o : Option (Visit n_words)) → pending_at old slot ≡ o → (n count : ℕ) → Path f.code A B (suc n) count slot → HasAtLeast o count
       longest_here o e n count (s, d, before, own, path, takes, one, to, sum) =
           let less = (edge_within f.code A s d (is.structured s) one).0 in
-          subst (λ (q : Option Visit). HasAtLeast q count) e
+          subst (λ (q : Option (Visit n_words)). HasAtLeast q count) e
           (subst (HasAtLeast (pending_at old slot)) (sym sum) (p.longest slot (omega arith) inside n s before own d (omega (arith, less, to)) path takes one to))
 
-      most_here : (v : Visit) → pending_at old slot ≡ Some v → (n count : ℕ) → Path f.code A B n count slot → count ≤ v.steps
+      most_here : (v : Visit n_words) → pending_at old slot ≡ Some v → (n count : ℕ) → Path f.code A B n count slot → count ≤ v.steps
       most_here v e zero count path = let none = path.1 in omega (arith, none)
       most_here v e (suc n) count path = longest_here (Some v) e n count path
 
-      path_here : (v : Visit) → pending_at old slot ≡ Some v → (n : ℕ) × Path f.code A B n v.steps slot
+      path_here : (v : Visit n_words) → pending_at old slot ≡ Some v → (n : ℕ) × Path f.code A B n v.steps slot
       path_here v e = subst (OfSteps (λ count. (n : ℕ) × Path f.code A B n count slot)) e (p.met slot (omega arith) inside)
 
       -- the state of the slot
-      pub state_here : (v : Visit) → pending_at old slot ≡ Some v → (m : model.AbstractState) × (state_at f.code A slot ≡ Some m) × Represents v.state m
-      state_here v e = of (state_at f.code A slot) refl (subst (λ (o : Option Visit). RepresentsVisit o (state_at f.code A slot)) e (p.states slot (omega arith) inside)) where
+      pub state_here : (v : Visit n_words) → pending_at old slot ≡ Some v → (m : model.AbstractState) × (state_at f.code A slot ≡ Some m) × Represents v.state m
+      state_here v e = of (state_at f.code A slot) refl (subst (λ (o : Option (Visit n_words)). RepresentsVisit o (state_at f.code A slot)) e (p.states slot (omega arith) inside)) where
         of : (o : Option model.AbstractState) → state_at f.code A slot ≡ o → RepresentsVisit (Some v) (state_at f.code A slot) → (m : model.AbstractState) × (state_at f.code A slot ≡ Some m) × Represents v.state m
         of None q r = absurd (subst (RepresentsVisit (Some v)) q r)
         of (Some m) q r = (m, q, subst (RepresentsVisit (Some v)) q r)
 
       -- nothing is pending: no edge leads here
       none_here : pending_at old slot ≡ None → state_at f.code A slot ≡ None
-      none_here e = nothing (state_at f.code A slot) refl (subst (λ (o : Option Visit). RepresentsVisit o (state_at f.code A slot)) e (p.states slot (omega arith) inside)) where
-        nothing : (o : Option model.AbstractState) → state_at f.code A slot ≡ o → RepresentsVisit None (state_at f.code A slot) → state_at f.code A slot ≡ None
+      none_here e = nothing (state_at f.code A slot) refl (subst (λ (o : Option (Visit n_words)). RepresentsVisit o (state_at f.code A slot)) e (p.states slot (omega arith) inside)) where
+        nothing : (o : Option model.AbstractState) → state_at f.code A slot ≡ o → RepresentsVisit {n = n_words} None (state_at f.code A slot) → state_at f.code A slot ≡ None
         nothing None q r = q
-        nothing (Some m) q r = absurd (subst (RepresentsVisit None) q r)
+        nothing (Some m) q r = absurd (subst (RepresentsVisit {n = n_words} None) q r)
 
       -- an instruction begins where something has come to
-      pub begins_here : (v : Visit) → pending_at old slot ≡ Some v → (x : Insn) × (insn_at f.code slot ≡ Some x)
+      pub begins_here : (v : Visit n_words) → pending_at old slot ≡ Some v → (x : Insn) × (insn_at f.code slot ≡ Some x)
       begins_here v e = let path = path_here v e in led path.0 v.steps path.1 where
         led : (n count : ℕ) → Path f.code A B n count slot → (x : Insn) × (insn_at f.code slot ≡ Some x)
         led zero count path = subst (λ (t : ℕ). (x : Insn) × (insn_at f.code t ≡ Some x)) (sym path.0) (is.insn, is.begins)
@@ -215,7 +216,7 @@ module _ (f : Entered) where
           let both = sym e ∙ ap (insn_at f.code) (sym to) ∙ begins.1 in cc
 
       -- what the visit of a slot has done
-      pub record Visited (v : Visit) (own : ℕ) (new : Pending) (after : Returned) (count : ℕ) : Type 0 where
+      pub record Visited (v : Visit n_words) (own : ℕ) (new : Pending n_words) (after : Returned n_words) (count : ℕ) : Type 0 where
         pub takes : Takes f.code A B slot own
         pub flowed : Flowed (edges_at f.code A slot) (v.steps + own) (taken old slot) new
         pub right : AreRight (visits_at f.code A V slot)
@@ -223,7 +224,7 @@ module _ (f : Entered) where
         pub exits_are : RepresentsVisit (visit_in after.exit) (join_all (exits_below f.code A slot ++ exit_of (state_at f.code A slot) (insn_at f.code slot)))
         pub most : after.bound ≡ max returned.bound (v.steps + own)
 
-      module _ (v : Visit) (here : pending_at old slot ≡ Some v) (own : ℕ) (new : Pending) (after : Returned) (count : ℕ) (s : Visited v own new after count) where
+      module _ (v : Visit n_words) (here : pending_at old slot ≡ Some v) (own : ℕ) (new : Pending n_words) (after : Returned n_words) (count : ℕ) (s : Visited v own new after count) where
         long_mid : length (taken old slot) ≡ length old
         long_mid = length-set old slot None
 
@@ -236,7 +237,7 @@ module _ (f : Entered) where
         visited_longest : (t : ℕ) → suc slot ≤ t → t < length new → (n k before taken_by : ℕ) (e : Edge) → k < suc slot → Path f.code A B n before k → Takes f.code A B k taken_by → IsOneOf e (edges_at f.code A k) → e.target ≡ t → HasAtLeast (pending_at new t) (before + taken_by)
         visited_longest t low high n k before taken_by e less path takes one to =
             elim (cases_lt k slot) [
-              | inl lt ↦ least_flow t (v.steps + own) (edges_at f.code A slot) (taken old slot) new (before + taken_by) (within t high) s.flowed (subst (λ (o : Option Visit). HasAtLeast o (before + taken_by)) (sym (taken_others old slot t (omega (arith, low)))) (p.longest t (omega (arith, low)) (omega (arith, high, long_new)) n k before taken_by e lt path takes one to))
+              | inl lt ↦ least_flow t (v.steps + own) (edges_at f.code A slot) (taken old slot) new (before + taken_by) (within t high) s.flowed (subst (λ (o : Option (Visit n_words)). HasAtLeast o (before + taken_by)) (sym (taken_others old slot t (omega (arith, low)))) (p.longest t (omega (arith, low)) (omega (arith, high, long_new)) n k before taken_by e lt path takes one to))
               | inr le ↦ (
                   let same : k ≡ slot = omega (arith, less, le) in
                   let most = most_here v here n before (subst (Path f.code A B n before) same path) in
@@ -274,7 +275,7 @@ module _ (f : Entered) where
         sweep_visited = record {
           long = long_new ∙ p.long;
           states = λ t low high.
-              states_flow t (v.steps + own) (edges_at f.code A slot) (taken old slot) new (incoming f.code A slot t) (within t high) s.flowed (subst (λ (o : Option Visit). RepresentsVisit o (join_all (incoming f.code A slot t))) (sym (taken_others old slot t (omega (arith, low)))) (p.states t (omega (arith, low)) (omega (arith, high, long_new))));
+              states_flow t (v.steps + own) (edges_at f.code A slot) (taken old slot) new (incoming f.code A slot t) (within t high) s.flowed (subst (λ (o : Option (Visit n_words)). RepresentsVisit o (join_all (incoming f.code A slot t))) (sym (taken_others old slot t (omega (arith, low)))) (p.states t (omega (arith, low)) (omega (arith, high, long_new))));
           longest = visited_longest;
           met = λ t low high.
               let path = path_here v here in
@@ -298,11 +299,11 @@ module _ (f : Entered) where
             let long = length-set old slot None in
             let same : incoming f.code A (suc slot) t ≡ incoming f.code A slot t = ap (λ (es : List Edge). incoming f.code A slot t ++ flows_to t es) no_edges ∙ append-nil (incoming f.code A slot t) in
             subst (λ (ss : List model.AbstractState). RepresentsVisit (pending_at (taken old slot) t) (join_all ss)) (sym same)
-            (subst (λ (o : Option Visit). RepresentsVisit o (join_all (incoming f.code A slot t))) (sym (taken_others old slot t (omega (arith, low)))) (p.states t (omega (arith, low)) (omega (arith, high, long))));
+            (subst (λ (o : Option (Visit n_words)). RepresentsVisit o (join_all (incoming f.code A slot t))) (sym (taken_others old slot t (omega (arith, low)))) (p.states t (omega (arith, low)) (omega (arith, high, long))));
         longest = λ t low high n k before own e less path takes one to.
             let long = length-set old slot None in
             elim (cases_lt k slot) [
-              | inl lt ↦ subst (λ (o : Option Visit). HasAtLeast o (before + own)) (sym (taken_others old slot t (omega (arith, low)))) (p.longest t (omega (arith, low)) (omega (arith, high, long)) n k before own e lt path takes one to)
+              | inl lt ↦ subst (λ (o : Option (Visit n_words)). HasAtLeast o (before + own)) (sym (taken_others old slot t (omega (arith, low)))) (p.longest t (omega (arith, low)) (omega (arith, high, long)) n k before own e lt path takes one to)
               | inr le ↦ let same : k ≡ slot = omega (arith, less, le) in absurd (no_path n before (subst (Path f.code A B n before) same path))
             ];
         met = λ t low high.
@@ -371,7 +372,7 @@ module _ (f : Entered) where
                 )
           ]
 
-      pub fails_own : (v : Visit) (x : Insn) (m : model.AbstractState) (fault : VerifyFault) → insn_at f.code slot ≡ Some x → state_at f.code A slot ≡ Some m → visits ≤ max_visits → visit_fault visits (Some (record { slot = slot; fault = insn_dataflow_fault A.depth m x })) ≡ Some fault → Fails f.base (visits_in f.code (suc f.left) f.entry f.state) fault slot
+      pub fails_own : (v : Visit n_words) (x : Insn) (m : model.AbstractState) (fault : VerifyFault) → insn_at f.code slot ≡ Some x → state_at f.code A slot ≡ Some m → visits ≤ max_visits → visit_fault visits (Some (record { slot = slot; fault = insn_dataflow_fault A.depth m x })) ≡ Some fault → Fails f.base (visits_in f.code (suc f.left) f.entry f.state) fault slot
       fails_own v x m fault x-is known few bad =
           let whole = visits_apart (length (insns_by_slot f.code)) (insn_at_less f.code slot x x-is) in
           let count = p.count in
@@ -423,13 +424,13 @@ insn_there code slots slot r same is (y, begins) =
 
 -- ---- what is pending at the start
 
-module _ (pending : Pending) (slots entry : ℕ) (visit : Box Visit Global) (inside : entry < slots) (start : IsStart pending slots entry visit) where
+module _ {n_words : ℕ} (pending : Pending n_words) (slots entry : ℕ) (visit : Box (Visit n_words) Global) (inside : entry < slots) (start : IsStart pending slots entry visit) where
   pub long_start : length pending ≡ slots
   long_start = ap length start ∙ length-set (replicate slots None) entry (Some visit) ∙ length-replicate slots None
 
   pub few_start : (visits : ℕ) → visit.value.steps ≡ 0 → visits ≤ max_visits → AreFew visits visits pending 0
   few_start visits none few = record { pending_few = at; bound_few = omega arith; visits_few = few } where
-    nothing : (k t : ℕ) → pending_at (replicate k None) t ≡ None
+    nothing : (k t : ℕ) → pending_at {n = n_words} (replicate k None) t ≡ None
     nothing zero t = refl
     nothing (suc k) zero = refl
     nothing (suc k) (suc t) = nothing k t
@@ -438,30 +439,30 @@ module _ (pending : Pending) (slots entry : ℕ) (visit : Box Visit Global) (ins
     at t =
         elim (eqb_tells t entry) [
           | inl (e, same) ↦ (
-              let long = length-replicate {A = Option (Box Visit Global)} slots None in
-              let here : pending_at pending t ≡ Some visit.value = ap (pending_at pending) same ∙ ap (λ (l : Pending). pending_at l entry) start ∙ ap visit_in (get_or-set_same (replicate slots None) entry (Some visit) None (omega (arith, inside, long))) in
+              let long = length-replicate {A = Option (Box (Visit n_words) Global)} slots None in
+              let here : pending_at pending t ≡ Some visit.value = ap (pending_at pending) same ∙ ap (λ (l : Pending n_words). pending_at l entry) start ∙ ap visit_in (get_or-set_same (replicate slots None) entry (Some visit) None (omega (arith, inside, long))) in
               subst (OfSteps (λ n. visits + n ≤ visits)) (sym here) (omega (arith, none))
               )
           | inr (e, apart) ↦ (
-              let gone : pending_at pending t ≡ None = ap (λ (l : Pending). pending_at l t) start ∙ ap visit_in (get_or-set_other (replicate slots None) entry t (Some visit) None apart) ∙ nothing slots t in
+              let gone : pending_at pending t ≡ None = ap (λ (l : Pending n_words). pending_at l t) start ∙ ap visit_in (get_or-set_other (replicate slots None) entry t (Some visit) None apart) ∙ nothing slots t in
               subst (OfSteps (λ n. visits + n ≤ visits)) (sym gone) tt
               )
         ]
 
 -- few of the whole are few
-pub few_whole : (base visits : ℕ) (pending : Pending) (bound : ℕ) → AreFew base visits pending bound → AreFew 0 visits pending bound
-few_whole base visits pending bound few = record {
+pub few_whole : {n_words : ℕ} → (base visits : ℕ) (pending : Pending n_words) (bound : ℕ) → AreFew base visits pending bound → AreFew 0 visits pending bound
+few_whole {n_words} base visits pending bound few = record {
   pending_few = λ t. less (pending_at pending t) (few.pending_few t);
   bound_few = let low = few.bound_few in omega (arith, low);
   visits_few = few.visits_few;
 } where
-  less : (o : Option Visit) → OfSteps (λ n. base + n ≤ visits) o → OfSteps (λ n. 0 + n ≤ visits) o
+  less : (o : Option (Visit n_words)) → OfSteps (λ n. base + n ≤ visits) o → OfSteps (λ n. 0 + n ≤ visits) o
   less None h = tt
   less (Some v) h = omega (arith, h)
 
 -- the sweep as it starts
-pub started : (f : Entered) → IsEntered f → (pending : Pending) (slots : List (Option Insn)) (visit : Box Visit Global) (entry visits : ℕ) → slots ≡ insns_by_slot f.code → f.entry ≡ entry → f.base ≡ visits → entry < length slots → IsStart pending (length slots) entry visit → visit.value.steps ≡ 0 → Represents visit.value.state f.state → SweepAt f entry pending (record { exit = None; bound = 0 }) visits
-started f is pending slots visit entry visits at same base inside start none rep =
+pub started : {n_words : ℕ} → (f : Entered) → IsEntered f → (pending : Pending n_words) (slots : List (Option Insn)) (visit : Box (Visit n_words) Global) (entry visits : ℕ) → slots ≡ insns_by_slot f.code → f.entry ≡ entry → f.base ≡ visits → entry < length slots → IsStart pending (length slots) entry visit → visit.value.steps ≡ 0 → Represents visit.value.state f.state → SweepAt f entry pending (record { exit = None; bound = 0 }) visits
+started {n_words} f is pending slots visit entry visits at same base inside start none rep =
     subst (λ (k : ℕ). SweepAt f k pending (record { exit = None; bound = 0 }) visits) same
     (subst (λ (k : ℕ). SweepAt f f.entry pending (record { exit = None; bound = 0 }) k) base
     (sweep_start f is pending (length slots) visit (ap length at) (omega (arith, same, inside)) (subst (λ (k : ℕ). IsStart pending (length slots) k visit) (sym same) start) none rep))

@@ -9,3 +9,4 @@ pub mod Functions
 pub mod Visiting
 pub mod Verdicts
 pub mod Plain
+pub mod StackWords

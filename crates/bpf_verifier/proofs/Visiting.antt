@@ -22,19 +22,21 @@ use Rattle.bpf_model.proofs.Slots.{first_at}
 use Rattle.bpf_model.proofs.Visits.{visits_here, first_visit}
 use Rattle.bpf_verifier.specs.declared.dataflow.Visit.{Visit}
 use Rattle.bpf_verifier.specs.declared.dataflow.Returned.{Returned}
-use Rattle.bpf_verifier.specs.FrameBytes.{AreBitsOf}
-use Rattle.bpf_verifier.specs.Represents.{state_of, Represents}
+use Rattle.bpf_verifier.specs.Represents.{Stack, IsStackOf, state_of, Represents}
 use Rattle.bpf_verifier.specs.Sweep.{Pending, visit_in, RepresentsVisit, pending_at, VisitJoined, Brings, Flowed, IsStructured, AreRight, Fails, Entered, activation_of, IsEntered, SweepAt, Followed, callee_of, CalledBack, FailsInCall, IsRunning}
 use Rattle.bpf_verifier.specs.Observed.{IsActive}
-use Rattle.bpf_verifier.proofs.Sweeps.{visit_of, taken, own_bytes, own_bytes_are}
+use Rattle.bpf_model.specs.declared.profile.Profile.{Profile}
+use Rattle.bpf_model.specs.Profiles.{followed_words}
+use Rattle.bpf_verifier.proofs.States.{stack_of, is_stack}
+use Rattle.bpf_verifier.proofs.Sweeps.{visit_of, taken, own_stack, own_stack_is}
 use Rattle.bpf_verifier.proofs.Functions.{same_state, state_here, sweep_visited, fails_own, fails_in_call}
 
 -- what a fault is found by, for whatever bits the words have
-abbrev Finds : Visit → Insn → ℕ → Option VerifyFault → Type 0
-Finds v x d fault = (init : ℕ → Bool) → AreBitsOf v.state.initialized.words init → insn_dataflow_fault d (state_of v.state.ranges init) x ≡ fault
+abbrev Finds : {n_words : ℕ} → Visit n_words → Insn → ℕ → Option VerifyFault → Type 0
+Finds {n_words} v x d fault = (stack : Stack) → IsStackOf v.state.initialized.words n_words v.state.words.ranges stack → insn_dataflow_fault d (state_of v.state.ranges stack) x ≡ fault
 
-pub at_next : (f : Entered) (slot : ℕ) (pending : Pending) (returned : Returned) (visits : ℕ) → SweepAt f (suc slot) pending returned visits → SweepAt f (slot + 1) pending returned visits
-at_next f slot pending returned visits h =
+pub at_next : {n_words : ℕ} → (f : Entered) (slot : ℕ) (pending : Pending n_words) (returned : Returned n_words) (visits : ℕ) → SweepAt f (suc slot) pending returned visits → SweepAt f (slot + 1) pending returned visits
+at_next {n_words} f slot pending returned visits h =
     let same : suc slot ≡ slot + 1 = omega arith in subst (λ (k : ℕ). SweepAt f k pending returned visits) same h
 
 no_exit : (o : Option model.AbstractState) (x : Insn) → is_exit x ≡ false → exit_of o (Some x) ≡ []
@@ -76,7 +78,7 @@ call_has_frame d m offset none =
     let sees = no_fault_of_four (has_operands m (insn.CallLocal offset)) (has_accesses d m (insn.CallLocal offset)) (has_bytes m (insn.CallLocal offset)) (calls_local (insn.CallLocal offset) && nat_le frames (d + 1)) UninitRegister BadAccess UninitBytes CallDepth none in
     leb-false frames (d + 1) sees.3
 
-module _ (f : Entered) (is : IsEntered f) (slot : ℕ) (old : Pending) (returned : Returned) (visits : ℕ) (p : SweepAt f slot old returned visits) (inside : slot < length old) (v : Visit) (here : pending_at old slot ≡ Some v) (x : Insn) (x-is : insn_at f.code slot ≡ Some x) (d : ℕ) (depth : d ≡ (activation_of f).depth) where
+module _ {n_words : ℕ} (f : Entered) (is : IsEntered f) (slot : ℕ) (old : Pending n_words) (returned : Returned n_words) (visits : ℕ) (p : SweepAt f slot old returned visits) (inside : slot < length old) (v : Visit n_words) (here : pending_at old slot ≡ Some v) (x : Insn) (x-is : insn_at f.code slot ≡ Some x) (d : ℕ) (depth : d ≡ (activation_of f).depth) where
   -- the state, and its fault
   pub found_here : (fault : Option VerifyFault) → Finds v x d fault → (m : model.AbstractState) × (state_at f.code (activation_of f) slot ≡ Some m) × Represents v.state m × (insn_dataflow_fault (activation_of f).depth m x ≡ fault)
   found_here fault finds =
@@ -84,24 +86,24 @@ module _ (f : Entered) (is : IsEntered f) (slot : ℕ) (old : Pending) (returned
         known.0,
         known.1,
         known.2,
-        ap (λ (n : ℕ). insn_dataflow_fault n known.0 x) (sym depth) ∙ ap (λ (s : model.AbstractState). insn_dataflow_fault d s x) (sym (same_state v.state known.0 known.2)) ∙ finds (known.0).initialized (known.2).initialized_are,
+        ap (λ (n : ℕ). insn_dataflow_fault n known.0 x) (sym depth) ∙ ap (λ (s : model.AbstractState). insn_dataflow_fault d s x) (sym (same_state v.state known.0 known.2)) ∙ finds (stack_of known.0) (is_stack v.state known.0 known.2),
       )
 
-  pub begin_fails : (fault : VerifyFault) → visits ≤ max_visits → ((init : ℕ → Bool) → AreBitsOf v.state.initialized.words init → visit_fault visits (Some (record { slot = slot; fault = insn_dataflow_fault d (state_of v.state.ranges init) x })) ≡ Some fault) → Fails f.base (visits_in f.code (suc f.left) f.entry f.state) fault slot
+  pub begin_fails : (fault : VerifyFault) → visits ≤ max_visits → ((stack : Stack) → IsStackOf v.state.initialized.words n_words v.state.words.ranges stack → visit_fault visits (Some (record { slot = slot; fault = insn_dataflow_fault d (state_of v.state.ranges stack) x })) ≡ Some fault) → Fails f.base (visits_in f.code (suc f.left) f.entry f.state) fault slot
   begin_fails fault few bad =
       let known = state_here f is slot old returned visits p inside v here in
       fails_own f is slot old returned visits p inside v x known.0 fault x-is known.1 few
       (ap (λ (n : ℕ). visit_fault visits (Some (record { slot = slot; fault = insn_dataflow_fault n known.0 x }))) (sym depth)
       ∙ ap (λ (s : model.AbstractState). visit_fault visits (Some (record { slot = slot; fault = insn_dataflow_fault d s x }))) (sym (same_state v.state known.0 known.2))
-      ∙ bad (known.0).initialized (known.2).initialized_are)
+      ∙ bad (stack_of known.0) (is_stack v.state known.0 known.2))
 
   edges_here : (m : model.AbstractState) → state_at f.code (activation_of f) slot ≡ Some m → edges_at f.code (activation_of f) slot ≡ edges (behind (activation_of f)) slot m x
   edges_here m known =
       ap (λ (o : Option model.AbstractState). edges_of (activation_of f) slot o (insn_at f.code slot)) known ∙ ap (edges_of (activation_of f) slot (Some m)) x-is
 
-  module _ (new : Pending) (after : Returned) (count : ℕ) (finds : Finds v x d None) where
+  module _ (new : Pending n_words) (after : Returned n_words) (count : ℕ) (finds : Finds v x d None) where
     -- an instruction that calls no function and is no exit
-    pub other_visited : ((offset : ℤ) → x ≡ insn.CallLocal offset → ⊥) → (x ≡ insn.Exit → ⊥) → ((b : ℕ → model.AbstractState → Option model.AbstractState) (init : ℕ → Bool) → AreBitsOf v.state.initialized.words init → Flowed (edges b slot (state_of v.state.ranges init) x) (v.steps + 1) (taken old slot) new) → count ≡ visits + 1 → after.exit ≡ returned.exit → after.bound ≡ max returned.bound (v.steps + 1) → SweepAt f (slot + 1) new after count
+    pub other_visited : ((offset : ℤ) → x ≡ insn.CallLocal offset → ⊥) → (x ≡ insn.Exit → ⊥) → ((b : ℕ → model.AbstractState → Option model.AbstractState) (stack : Stack) → IsStackOf v.state.initialized.words n_words v.state.words.ranges stack → Flowed (edges b slot (state_of v.state.ranges stack) x) (v.steps + 1) (taken old slot) new) → count ≡ visits + 1 → after.exit ≡ returned.exit → after.bound ≡ max returned.bound (v.steps + 1) → SweepAt f (slot + 1) new after count
     other_visited nc ne flows counted same most =
         let m = found_here None finds in
         let none = other_called slot x nc in
@@ -111,10 +113,10 @@ module _ (f : Entered) (is : IsEntered f) (slot : ℕ) (old : Pending) (returned
         let nothing : exit_of (state_at f.code (activation_of f) slot) (insn_at f.code slot) ≡ [] = ap (exit_of (state_at f.code (activation_of f) slot)) x-is ∙ no_exit (state_at f.code (activation_of f) slot) x (other_no_exit x ne) in
         at_next f slot new after count (sweep_visited f is slot old returned visits p inside v here 1 new after count (record {
           takes = own;
-          flowed = subst (λ (es : List Edge). Flowed es (v.steps + 1) (taken old slot) new) (sym (edges_here m.0 m.1)) (subst (λ (s : model.AbstractState). Flowed (edges (behind (activation_of f)) slot s x) (v.steps + 1) (taken old slot) new) (same_state v.state m.0 m.2) (flows (behind (activation_of f)) (m.0).initialized (m.2).initialized_are));
+          flowed = subst (λ (es : List Edge). Flowed es (v.steps + 1) (taken old slot) new) (sym (edges_here m.0 m.1)) (subst (λ (s : model.AbstractState). Flowed (edges (behind (activation_of f)) slot s x) (v.steps + 1) (taken old slot) new) (same_state v.state m.0 m.2) (flows (behind (activation_of f)) (stack_of m.0) (is_stack v.state m.0 m.2)));
           right = subst AreRight (sym all) (m.3, tt);
           count_is = omega (arith, counted, long);
-          exits_are = subst (λ (o : Option (Box Visit Global)). RepresentsVisit (visit_in o) (join_all (exits_below f.code (activation_of f) slot ++ exit_of (state_at f.code (activation_of f) slot) (insn_at f.code slot)))) (sym same) (subst (λ (ss : List model.AbstractState). RepresentsVisit (visit_in returned.exit) (join_all (exits_below f.code (activation_of f) slot ++ ss))) (sym nothing) (subst (λ (ss : List model.AbstractState). RepresentsVisit (visit_in returned.exit) (join_all ss)) (sym (append-nil (exits_below f.code (activation_of f) slot))) p.exits_are));
+          exits_are = subst (λ (o : Option (Box (Visit n_words) Global)). RepresentsVisit (visit_in o) (join_all (exits_below f.code (activation_of f) slot ++ exit_of (state_at f.code (activation_of f) slot) (insn_at f.code slot)))) (sym same) (subst (λ (ss : List model.AbstractState). RepresentsVisit (visit_in returned.exit) (join_all (exits_below f.code (activation_of f) slot ++ ss))) (sym nothing) (subst (λ (ss : List model.AbstractState). RepresentsVisit (visit_in returned.exit) (join_all ss)) (sym (append-nil (exits_below f.code (activation_of f) slot))) p.exits_are));
           most = most;
         }))
 
@@ -138,7 +140,7 @@ module _ (f : Entered) (is : IsEntered f) (slot : ℕ) (old : Pending) (returned
         }))
 
     -- a local call whose callee was followed
-    pub call_visited : (offset : ℤ) → x ≡ insn.CallLocal offset → (back : Returned) → ((m : model.AbstractState) → Represents v.state m → insn_dataflow_fault (activation_of f).depth m (insn.CallLocal offset) ≡ None → CalledBack f slot offset m (visits + 1) (Some back) count) → ((of : model.AbstractState) (gone : Option model.AbstractState) → Represents v.state of → RepresentsVisit (visit_in back.exit) gone → Flowed (edge_if (Some (slot + 1)) (option_map (after_call (d + 1) of) gone)) (v.steps + (1 + back.bound)) (taken old slot) new) → after.exit ≡ returned.exit → after.bound ≡ max returned.bound (v.steps + (1 + back.bound)) → SweepAt f (slot + 1) new after count
+    pub call_visited : (offset : ℤ) → x ≡ insn.CallLocal offset → (back : Returned n_words) → ((m : model.AbstractState) → Represents v.state m → insn_dataflow_fault (activation_of f).depth m (insn.CallLocal offset) ≡ None → CalledBack f slot offset m (visits + 1) (Some back) count) → ((of : model.AbstractState) (gone : Option model.AbstractState) → Represents v.state of → RepresentsVisit (visit_in back.exit) gone → Flowed (edge_if (Some (slot + 1)) (option_map (after_call (d + 1) of) gone)) (v.steps + (1 + back.bound)) (taken old slot) new) → after.exit ≡ returned.exit → after.bound ≡ max returned.bound (v.steps + (1 + back.bound)) → SweepAt f (slot + 1) new after count
     call_visited offset call back calls resumes same most =
         let m = found_here None finds in
         let none : insn_dataflow_fault (activation_of f).depth m.0 (insn.CallLocal offset) ≡ None = ap (insn_dataflow_fault (activation_of f).depth m.0) (sym call) ∙ m.3 in
@@ -161,12 +163,12 @@ module _ (f : Entered) (is : IsEntered f) (slot : ℕ) (old : Pending) (returned
           flowed = subst (λ (es : List Edge). Flowed es (v.steps + (1 + back.bound)) (taken old slot) new) (sym edges_are) (resumes m.0 (join_all (exits f.code f.left t s)) m.2 gone);
           right = subst AreRight (sym all) (m.3, g.right);
           count_is = omega (arith, counted, long);
-          exits_are = subst (λ (o : Option (Box Visit Global)). RepresentsVisit (visit_in o) (join_all (exits_below f.code (activation_of f) slot ++ exit_of (state_at f.code (activation_of f) slot) (insn_at f.code slot)))) (sym same) (subst (λ (ss : List model.AbstractState). RepresentsVisit (visit_in returned.exit) (join_all (exits_below f.code (activation_of f) slot ++ ss))) (sym nothing) (subst (λ (ss : List model.AbstractState). RepresentsVisit (visit_in returned.exit) (join_all ss)) (sym (append-nil (exits_below f.code (activation_of f) slot))) p.exits_are));
+          exits_are = subst (λ (o : Option (Box (Visit n_words) Global)). RepresentsVisit (visit_in o) (join_all (exits_below f.code (activation_of f) slot ++ exit_of (state_at f.code (activation_of f) slot) (insn_at f.code slot)))) (sym same) (subst (λ (ss : List model.AbstractState). RepresentsVisit (visit_in returned.exit) (join_all (exits_below f.code (activation_of f) slot ++ ss))) (sym nothing) (subst (λ (ss : List model.AbstractState). RepresentsVisit (visit_in returned.exit) (join_all ss)) (sym (append-nil (exits_below f.code (activation_of f) slot))) p.exits_are));
           most = most;
         }))
 
     -- a local call that can't be followed
-    pub call_lands : (offset : ℤ) → x ≡ insn.CallLocal offset → ((m : model.AbstractState) → Represents v.state m → insn_dataflow_fault (activation_of f).depth m (insn.CallLocal offset) ≡ None → CalledBack f slot offset m (visits + 1) None count) → ⊥
+    pub call_lands : (offset : ℤ) → x ≡ insn.CallLocal offset → ((m : model.AbstractState) → Represents v.state m → insn_dataflow_fault (activation_of f).depth m (insn.CallLocal offset) ≡ None → CalledBack {n = n_words} f slot offset m (visits + 1) None count) → ⊥
     call_lands offset call calls =
         let m = found_here None finds in
         calls m.0 m.2 (ap (insn_dataflow_fault (activation_of f).depth m.0) (sym call) ∙ m.3)
@@ -187,31 +189,33 @@ is_callee f is slot offset m t l visits x-is leads =
     record { structured = is.structured; insn = begins.0; begins = begins.1 }
 
 -- and runs one deeper
-pub callee_running : (slots : List (Option Insn)) (before left slot t : ℕ) (offset : ℤ) (visits : ℕ) (f : Entered) (m : model.AbstractState) → IsRunning slots before f → state_at f.code (activation_of f) slot ≡ Some m → insn_at f.code slot ≡ Some (insn.CallLocal offset) → target_of slot offset ≡ Some t → before ≡ suc left → before < 8 → IsRunning slots left (callee_of f m t left visits)
-callee_running slots before left slot t offset visits f m running known x-is leads one deep =
+pub callee_running : (words : ℕ) (slots : List (Option Insn)) (before left slot t : ℕ) (offset : ℤ) (visits : ℕ) (f : Entered) (m : model.AbstractState) → IsRunning words slots before f → state_at f.code (activation_of f) slot ≡ Some m → insn_at f.code slot ≡ Some (insn.CallLocal offset) → target_of slot offset ≡ Some t → before ≡ suc left → before < 8 → IsRunning words slots left (callee_of f m t left visits)
+callee_running words slots before left slot t offset visits f m running known x-is leads one deep =
     let deeper : suc (7 - before) ≡ 7 - left = omega (arith, one, deep) in
     let within : left + suc (7 - before) ≡ frames - 1 = omega (arith, one, deep) in
     record {
       slots_are = running.slots_are;
       left_is = refl;
       entered = is_callee f running.entered slot offset m t left visits x-is leads;
-      active = subst (λ (d : ℕ). IsActive f.code d (activation_of (callee_of f m t left visits))) deeper (activation_of f, slot, m, insn.CallLocal offset, t, left, running.active, known, x-is, leads, within, refl);
+      profile = running.profile;
+      follows = running.follows;
+      active = subst (λ (d : ℕ). IsActive running.profile f.code d (activation_of (callee_of f m t left visits))) deeper (activation_of f, slot, m, insn.CallLocal offset, t, left, running.active, known, x-is, leads, within, refl);
     }
 
 -- ---- a state for what the arrays hold
 
-pub own_state : (v : Visit) → (m : model.AbstractState) × Represents v.state m
-own_state v =
-    (state_of v.state.ranges (own_bytes v.state.initialized.words), record { ranges_are = λ r. refl; initialized_are = own_bytes_are v.state.initialized.words })
+pub own_state : {n_words : ℕ} → (v : Visit n_words) → (m : model.AbstractState) × Represents v.state m
+own_state {n_words} v =
+    (state_of v.state.ranges (own_stack v.state), record { ranges_are = λ r. refl; initialized_are = (own_stack_is v.state).initialized_are; words_are = (own_stack_is v.state).words_are })
 
-pub own_exit : (o : Option (Box Visit Global)) → (gone : Option model.AbstractState) × RepresentsVisit (visit_in o) gone
-own_exit None = (None, tt)
-own_exit (Some b) = let m = own_state b.value in (Some m.0, m.1)
+pub own_exit : {n_words : ℕ} → (o : Option (Box (Visit n_words) Global)) → (gone : Option model.AbstractState) × RepresentsVisit (visit_in o) gone
+own_exit {n_words} None = (None, tt)
+own_exit {n_words} (Some b) = let m = own_state b.value in (Some m.0, m.1)
 
 -- a fault that is found of a copy
-pub finds_same : (v w : Visit) (x : Insn) (d : ℕ) (fault : Option VerifyFault) → v ≡ w → ((init : ℕ → Bool) → AreBitsOf v.state.initialized.words init → insn_dataflow_fault d (state_of v.state.ranges init) x ≡ fault) → (init : ℕ → Bool) → AreBitsOf w.state.initialized.words init → insn_dataflow_fault d (state_of w.state.ranges init) x ≡ fault
-finds_same v w x d fault e finds =
-    subst (λ (u : Visit). (init : ℕ → Bool) → AreBitsOf u.state.initialized.words init → insn_dataflow_fault d (state_of u.state.ranges init) x ≡ fault) e finds
+pub finds_same : {n_words : ℕ} → (v w : Visit n_words) (x : Insn) (d : ℕ) (fault : Option VerifyFault) → v ≡ w → ((stack : Stack) → IsStackOf v.state.initialized.words n_words v.state.words.ranges stack → insn_dataflow_fault d (state_of v.state.ranges stack) x ≡ fault) → (stack : Stack) → IsStackOf w.state.initialized.words n_words w.state.words.ranges stack → insn_dataflow_fault d (state_of w.state.ranges stack) x ≡ fault
+finds_same {n_words} v w x d fault e finds =
+    subst (λ (u : Visit n_words). (stack : Stack) → IsStackOf u.state.initialized.words n_words u.state.words.ranges stack → insn_dataflow_fault d (state_of u.state.ranges stack) x ≡ fault) e finds
 
 -- an error that is handed on
 pub handed_on : {X E : Type 0} (r : Result X E) (x : E) (P : E → Type 0) → IfErr r (λ e. e ≡ x) → P x → IfErr r P
@@ -219,28 +223,28 @@ handed_on (Ok y) x P same h = tt
 handed_on (Err e) x P same h = subst P (sym same) h
 
 -- what a call that was followed counts
-pub called_few : (o : Option Returned) (back : Returned) (left before after : ℕ) → o ≡ Some back → IfSome o (λ b. (0 < left) × (before + b.bound ≤ after) × (after ≤ max_visits)) → (0 < left) × (before + back.bound ≤ after) × (after ≤ max_visits)
-called_few o back left before after e h =
-    subst (λ (q : Option Returned). IfSome q (λ b. (0 < left) × (before + b.bound ≤ after) × (after ≤ max_visits))) e h
+pub called_few : {n_words : ℕ} → (o : Option (Returned n_words)) (back : Returned n_words) (left before after : ℕ) → o ≡ Some back → IfSome o (λ b. (0 < left) × (before + b.bound ≤ after) × (after ≤ max_visits)) → (0 < left) × (before + back.bound ≤ after) × (after ≤ max_visits)
+called_few {n_words} o back left before after e h =
+    subst (λ (q : Option (Returned n_words)). IfSome q (λ b. (0 < left) × (before + b.bound ≤ after) × (after ≤ max_visits))) e h
 
 -- what flowed behind a visit that was taken out, in the terms of the visit
-pub flowed_from : (es : List Edge) (steps counted : ℕ) (old new : Pending) (slot : ℕ) (z : Option (Box Visit Global)) → z ≡ None → steps ≡ counted → Flowed es steps (set old slot z) new → Flowed es counted (taken old slot) new
-flowed_from es steps counted old new slot z gone same h =
-    subst (λ (q : Option (Box Visit Global)). Flowed es counted (set old slot q) new) gone (subst (λ (n : ℕ). Flowed es n (set old slot z) new) same h)
+pub flowed_from : {n_words : ℕ} → (es : List Edge) (steps counted : ℕ) (old new : Pending n_words) (slot : ℕ) (z : Option (Box (Visit n_words) Global)) → z ≡ None → steps ≡ counted → Flowed es steps (set old slot z) new → Flowed es counted (taken old slot) new
+flowed_from {n_words} es steps counted old new slot z gone same h =
+    subst (λ (q : Option (Box (Visit n_words) Global)). Flowed es counted (set old slot q) new) gone (subst (λ (n : ℕ). Flowed es n (set old slot z) new) same h)
 
-pub is_none_of : (o : Option Returned) → ((back : Returned) → o ≡ Some back → ⊥) → o ≡ None
-is_none_of None h = refl
-is_none_of (Some back) h = absurd (h back refl)
+pub is_none_of : {n_words : ℕ} → (o : Option (Returned n_words)) → ((back : Returned n_words) → o ≡ Some back → ⊥) → o ≡ None
+is_none_of {n_words} None h = refl
+is_none_of {n_words} (Some back) h = absurd (h back refl)
 
 -- behind a call whose callee returns
-pub resumed_brings : (d : ℕ) (e b : Box Visit Global) (before : Visit) (steps : ℕ) → ((of exit : model.AbstractState) → Represents before.state of → Represents e.value.state exit → Represents b.value.state (after_call d of exit)) → b.value.steps ≡ steps → (of : model.AbstractState) (gone : Option model.AbstractState) → Represents before.state of → RepresentsVisit (visit_in (Some e)) gone → Brings (Some b) (option_map (after_call d of) gone) steps
-resumed_brings d e b before steps makes same of None rep out = absurd out
-resumed_brings d e b before steps makes same of (Some exit) rep out = (makes of exit rep out, same)
+pub resumed_brings : {n_words : ℕ} → (d : ℕ) (e b : Box (Visit n_words) Global) (before : Visit n_words) (steps : ℕ) → ((of exit : model.AbstractState) → Represents before.state of → Represents e.value.state exit → Represents b.value.state (after_call d of exit)) → b.value.steps ≡ steps → (of : model.AbstractState) (gone : Option model.AbstractState) → Represents before.state of → RepresentsVisit (visit_in (Some e)) gone → Brings (Some b) (option_map (after_call d of) gone) steps
+resumed_brings {n_words} d e b before steps makes same of None rep out = absurd out
+resumed_brings {n_words} d e b before steps makes same of (Some exit) rep out = (makes of exit rep out, same)
 
 -- where it doesn't
-pub not_resumed : (d steps : ℕ) (of : model.AbstractState) (gone : Option model.AbstractState) → RepresentsVisit None gone → Brings None (option_map (after_call d of) gone) steps
-not_resumed d steps of None out = tt
-not_resumed d steps of (Some exit) out = absurd out
+pub not_resumed : (n_words : ℕ) → (d steps : ℕ) (of : model.AbstractState) (gone : Option model.AbstractState) → RepresentsVisit {n = n_words} None gone → Brings {n = n_words} None (option_map (after_call d of) gone) steps
+not_resumed n_words d steps of None out = tt
+not_resumed n_words d steps of (Some exit) out = absurd out
 
 -- what a result says, said otherwise
 pub if_ok : {X E : Type 0} (r : Result X E) (P Q : X → Type 0) → IfOk r P → ((x : X) → P x → Q x) → IfOk r Q
@@ -254,22 +258,24 @@ if_err (Err e) P Q h f = f e h
 -- ---- the whole code
 
 -- the function that begins at slot 0, as a call begins
-abbrev pub main_of : List Insn → Entered
-main_of code = record { code = code; left = 7; entry = 0; state = start_state; base = 0 }
+abbrev pub main_of : Profile → List Insn → Entered
+main_of profile code = record { code = code; left = 7; entry = 0; state = start_state profile; base = 0 }
 
-pub is_main : (code : List Insn) → IsStructured code → 0 < length (insns_by_slot code) → IsEntered (main_of code)
-is_main code structured some =
+pub is_main : (profile : Profile) (code : List Insn) → IsStructured code → 0 < length (insns_by_slot code) → IsEntered (main_of profile code)
+is_main profile code structured some =
     let first = first_at code some in record { structured = structured; insn = first.0; begins = first.1 }
 
-pub main_running : (slots : List (Option Insn)) (code : List Insn) → slots ≡ insns_by_slot code → IsStructured code → 0 < length slots → IsRunning slots 7 (main_of code)
-main_running slots code same structured some = record {
+pub main_running : (profile : Profile) (words : ℕ) (slots : List (Option Insn)) (code : List Insn) → followed_words profile ≡ words → slots ≡ insns_by_slot code → IsStructured code → 0 < length slots → IsRunning words slots 7 (main_of profile code)
+main_running profile words slots code follows same structured some = record {
   slots_are = same;
   left_is = refl;
-  entered = is_main code structured (subst (λ (l : List (Option Insn)). 0 < length l) same some);
+  entered = is_main profile code structured (subst (λ (l : List (Option Insn)). 0 < length l) same some);
+  profile = profile;
+  follows = follows;
   active = refl;
 }
 
 -- the first visit that fails is the verdict's
-pub fails_first : (code : List Insn) (fault : VerifyFault) (slot : ℕ) → Fails 0 (visits code) fault slot → IsFirstVisit code fault slot
-fails_first code fault slot f =
-    first_visit code fault slot f.first f.visit f.rest f.whole f.right f.few f.fault_is f.slot_is
+pub fails_first : (profile : Profile) (code : List Insn) (fault : VerifyFault) (slot : ℕ) → Fails 0 (visits profile code) fault slot → IsFirstVisit profile code fault slot
+fails_first profile code fault slot f =
+    first_visit profile code fault slot f.first f.visit f.rest f.whole f.right f.few f.fault_is f.slot_is

@@ -10,3 +10,4 @@ pub use Rattle.bpf_model.specs.Run
 pub use Rattle.bpf_model.specs.Verdict
 pub mod Reading
 pub mod Slots
+pub mod StackWords

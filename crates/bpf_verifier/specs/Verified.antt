@@ -1,16 +1,19 @@
--- Statement: what a procedure is to its callers: its code as bytes, and the bound on its steps.
+-- Statement: what a procedure is to its callers: its code as bytes, the bound on its steps, and the profile
+-- under which it was accepted.
 use Rattle.std.specs.Prelude.{◌≡◌, ℕ, ◌≤◌, Bool, true, false, List}
 use Rattle.std.specs.List.{list_any}
 use Rattle.bpf_decode.specs.declared.insn.Insn.{Insn}
 use Rattle.bpf_decode.specs.declared.insn.Insn.TheVariants.{CallLocal}
 use Rattle.bpf_decode.specs.Faults.{IsCode}
 use Rattle.bpf_model.specs.Run.{IsSafe}
+use Rattle.bpf_model.specs.declared.profile.Profile.{Profile}
 use Rattle.bpf_verifier.specs.declared.flat.FlatInsn.{FlatInsn}
 use Rattle.bpf_verifier.specs.Flat.{IsTable}
 
 pub record Verified : Type 0 where
   pub bytes : List ℕ
   pub bound : ℕ
+  pub profile : Profile
 
 -- A call of a function of the code's own.
 abbrev pub is_local_call : Insn → Bool

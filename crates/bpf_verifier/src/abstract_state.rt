@@ -1,32 +1,40 @@
-//! The abstract state at a slot: the ranges of the registers and the initialized bytes of the stack.
+//! The abstract state at a slot: the ranges of the registers, the initialized bytes of the stack and its words.
 
 use crate::frame_bytes::FrameBytes;
 use crate::registers::RegisterRanges;
+use crate::stack_words::StackWords;
 use bpf_decode::{Reg, Source};
 use bpf_model::layout::{ARGUMENTS_START, FRAME_END, FRAME_START, STACK_END, frame_end};
 use reg_ranges::Range;
 
-/// The range of each register that holds a number for certain, and which bytes of the stack are
-/// initialized for certain.
+/// The range of each register that holds a number for certain, which bytes of the stack are initialized for
+/// certain, and what is known of the words of the stack that are followed, all 512 or none.
 #[derive(Clone, Copy)]
-pub struct AbstractState {
+pub struct AbstractState<const WORDS: usize> {
     pub ranges: RegisterRanges,
     pub initialized: FrameBytes,
+    pub words: StackWords<WORDS>,
 }
 
-impl AbstractState {
+impl<const WORDS: usize> AbstractState<WORDS> {
     ghost use Rattle.std.specs.Prelude.{◌≡◌, ℕ, ◌<◌, ◌≤◌, ◌==◌, if◌then◌else◌, false, Some, Option};
     ghost use Rattle.std.specs.Option.{option_map, is_some};
     ghost use Rattle.std.specs.Int.{w64, cast_unsigned};
     ghost use Rattle.reg_ranges.specs.RangeOf.{range_of};
     ghost use Rattle.bpf_decode.specs.declared.insn.Source.{Source};
+    ghost use Rattle.bpf_num.specs.declared.AluWidth.TheVariants.{W64};
+    ghost use Rattle.reg_ranges.specs.Ranges.{full};
+    ghost use Rattle.bpf_model.specs.declared.profile.Profile.{Profile};
+    ghost use Rattle.bpf_model.specs.Profiles.{followed_words};
+    ghost use Rattle.bpf_verifier.specs.StackWords.{word_range};
     ghost use Rattle.bpf_model.specs.Machine.{frame_start, frame_end};
     ghost use Rattle.bpf_model.specs.AbstractState.{AbstractState as ModelState, start_state, entry_state, after_call, has_all, source_operands};
     ghost use Rattle.bpf_verifier.specs.Represents.{Represents, RepresentsOption, ranges_of, join_with};
 
     /// As a call begins.
-    pub(crate) fn at_start() -> AbstractState
-        ensures { Represents result start_state }
+    pub(crate) fn at_start() -> AbstractState<WORDS>
+        requires { WORDS ≤ 512 }
+        ensures { (profile : Profile) → followed_words profile ≡ WORDS → Represents result (start_state profile) }
     {
         AbstractState {
             ranges: RegisterRanges::from_array([
@@ -43,6 +51,7 @@ impl AbstractState {
                 Some(Range::single(FRAME_END)),
             ]),
             initialized: FrameBytes::none(),
+            words: StackWords::none(),
         }
     }
 
@@ -64,6 +73,16 @@ impl AbstractState {
         address >= FRAME_START
             && address < STACK_END
             && self.initialized.contains((address - FRAME_START) as usize)
+    }
+
+    /// The range of the number that a word of the stack holds, from 0 on. That of a word of which nothing is known, or
+    /// that is not followed, is full.
+    pub fn word(&self, word: usize) -> Range
+        ensures followed { (of : ModelState) → Represents self.now of → word < WORDS →
+            range_of result ≡ of.words.ranges word }
+        ensures other { WORDS ≤ word → range_of result ≡ full W64 }
+    {
+        self.words.get(word)
     }
 
     /// Whether a register holds a number for certain.
@@ -99,12 +118,15 @@ impl AbstractState {
     }
 
     /// Becomes the other state.
-    pub(crate) fn copy_from(&mut self, other: &AbstractState)
+    pub(crate) fn copy_from(&mut self, other: &AbstractState<WORDS>)
         ensures ranges { self.new.ranges ≡ other.now.ranges }
         ensures initialized { self.new.initialized.words ≡ other.now.initialized.words }
+        ensures words { (w : ℕ) → w < WORDS →
+            word_range self.new.words.ranges w ≡ word_range other.now.words.ranges w }
     {
         self.ranges.copy_from(&other.ranges);
         self.initialized.copy_from(&other.initialized);
+        self.words.copy_from(&other.words);
     }
 
     /// Gives a register a range, or none.
@@ -112,22 +134,24 @@ impl AbstractState {
         ensures ranges { (r : ℕ) → ranges_of self.new.ranges r ≡
             (if r == register.number then option_map range_of range else ranges_of self.old.ranges r) }
         ensures initialized { self.new.initialized ≡ self.old.initialized }
+        ensures words { self.new.words ≡ self.old.words }
     {
         self.ranges.set(register.number as usize, range);
     }
 
     /// Keeps what is certain in both states.
     #[inline(never)]
-    pub(crate) fn join(&mut self, other: &AbstractState)
+    pub(crate) fn join(&mut self, other: &AbstractState<WORDS>)
         ensures { (a b : ModelState) → Represents self.old a → Represents other.now b →
             Represents self.new (join_with (Some a) b) }
     {
         self.ranges.join(&other.ranges);
         self.initialized.intersect(&other.initialized);
+        self.words.join(&other.words);
     }
 
     /// The state in which a function is entered at a depth, by a call in this state.
-    pub(crate) fn entry_state(&self, depth: u32) -> AbstractState
+    pub(crate) fn entry_state(&self, depth: u32) -> AbstractState<WORDS>
         requires { depth < 8 }
         ensures { (of : ModelState) → Represents self.now of →
             Represents result (entry_state depth of) }
@@ -147,11 +171,12 @@ impl AbstractState {
                 Some(Range::single(frame_end(depth))),
             ]),
             initialized: self.initialized,
+            words: self.words,
         }
     }
 
     /// Goes over a call of a function at a depth, given the join over its exits.
-    pub(crate) fn after_call(&mut self, depth: u32, returned: &AbstractState)
+    pub(crate) fn after_call(&mut self, depth: u32, returned: &AbstractState<WORDS>)
         requires { depth < 8 }
         ensures { (of exit : ModelState) → Represents self.old of → Represents returned.now exit →
             Represents self.new (after_call depth of exit) }
@@ -171,5 +196,7 @@ impl AbstractState {
         ]);
         self.initialized = returned.initialized;
         self.initialized.remove_frame(depth);
+        self.words = returned.words;
+        self.words.remove_frame(depth);
     }
 }

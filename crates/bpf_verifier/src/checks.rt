@@ -29,7 +29,7 @@ pub fn bytes_of(size: Size) -> u32
     }
 }
 
-impl AbstractState {
+impl<const WORDS: usize> AbstractState<WORDS> {
     ghost use Rattle.std.specs.Prelude.{◌≡◌, ℕ, ◌≤◌, ◌<◌, Bool, true, None, Some, Option};
     ghost use Rattle.std.specs.Option.{option_map};
     ghost use Rattle.reg_ranges.specs.Ranges.{Range as ModelRange};
@@ -37,7 +37,7 @@ impl AbstractState {
     ghost use Rattle.bpf_model.specs.Access.{bytes_of};
     ghost use Rattle.bpf_model.specs.AbstractState.{operands, has_all, has_operands, has_accesses, has_bytes, in_bounds, is_initialized, max_size, access_in_bounds, access_initialized, all_in_bounds, are_initialized, address_range};
     ghost use Rattle.bpf_model.specs.Verdict.{insn_dataflow_fault};
-    ghost use Rattle.bpf_verifier.specs.FrameBytes.{AreBitsOf};
+    ghost use Rattle.bpf_verifier.specs.Represents.{Stack, IsStackOf};
     ghost use Rattle.bpf_verifier.specs.Represents.{ranges_of, state_of};
 
     /// What is wrong with an instruction that is reached in the frame of a depth: an operand, then an
@@ -45,8 +45,8 @@ impl AbstractState {
     #[inline(always)]
     pub(crate) fn insn_dataflow_fault(&self, depth: u32, insn: &Insn) -> Option<VerifyFault>
         requires { depth < 8 }
-        ensures { (init : ℕ → Bool) → AreBitsOf self.now.initialized.words init →
-            result ≡ insn_dataflow_fault depth (state_of self.now.ranges init) insn.now }
+        ensures { (stack : Stack) → IsStackOf self.now.initialized.words WORDS self.now.words.ranges stack →
+            result ≡ insn_dataflow_fault depth (state_of self.now.ranges stack) insn.now }
     {
         if !self.has_operands(insn) {
             return Some(VerifyFault::UninitRegister);
@@ -90,8 +90,8 @@ impl AbstractState {
     #[inline(always)]
     fn has_accesses(&self, depth: u32, insn: &Insn) -> bool
         requires { depth < 8 }
-        ensures { (init : ℕ → Bool) → result ≡
-            has_accesses depth (state_of self.now.ranges init) insn.now }
+        ensures { (stack : Stack) → result ≡
+            has_accesses depth (state_of self.now.ranges stack) insn.now }
     {
         match insn {
             Insn::Load {
@@ -125,10 +125,10 @@ impl AbstractState {
 
     #[inline(always)]
     fn has_bytes(&self, insn: &Insn) -> bool
-        requires { (depth : ℕ) × (depth < 8) × ((init : ℕ → Bool) →
-            has_accesses depth (state_of self.now.ranges init) insn.now ≡ true) }
-        ensures { (init : ℕ → Bool) → AreBitsOf self.now.initialized.words init →
-            result ≡ has_bytes (state_of self.now.ranges init) insn.now }
+        requires { (depth : ℕ) × (depth < 8) × ((stack : Stack) →
+            has_accesses depth (state_of self.now.ranges stack) insn.now ≡ true) }
+        ensures { (stack : Stack) → IsStackOf self.now.initialized.words WORDS self.now.words.ranges stack →
+            result ≡ has_bytes (state_of self.now.ranges stack) insn.now }
     {
         match insn {
             Insn::Load {
@@ -148,8 +148,8 @@ impl AbstractState {
     /// Whether all bytes that a load or a store may touch are in bounds.
     fn has_access(&self, depth: u32, size: Size, base: Reg, offset: i16) -> bool
         requires { depth < 8 }
-        ensures { (init : ℕ → Bool) → result ≡
-            in_bounds depth (address_range (state_of self.now.ranges init) base.number offset)
+        ensures { (stack : Stack) → result ≡
+            in_bounds depth (address_range (state_of self.now.ranges stack) base.number offset)
             (bytes_of size) }
     {
         is_in_bounds(
@@ -161,11 +161,11 @@ impl AbstractState {
 
     /// Whether all bytes that a load may read are initialized.
     fn has_bytes_at(&self, size: Size, base: Reg, offset: i16) -> bool
-        requires { (depth : ℕ) × (depth < 8) × ((init : ℕ → Bool) →
-            in_bounds depth (address_range (state_of self.now.ranges init) base.number offset)
+        requires { (depth : ℕ) × (depth < 8) × ((stack : Stack) →
+            in_bounds depth (address_range (state_of self.now.ranges stack) base.number offset)
             (bytes_of size) ≡ true) }
-        ensures { (init : ℕ → Bool) → AreBitsOf self.now.initialized.words init → result ≡
-            is_initialized init (address_range (state_of self.now.ranges init) base.number offset)
+        ensures { (stack : Stack) → IsStackOf self.now.initialized.words WORDS self.now.words.ranges stack → result ≡
+            is_initialized stack.initialized (address_range (state_of self.now.ranges stack) base.number offset)
             (bytes_of size) }
     {
         self.is_initialized(self.address_range(base, offset), u64::from(bytes_of(size)))
@@ -174,9 +174,9 @@ impl AbstractState {
     /// The range of the address that a load or a store accesses: what its base may hold and its offset;
     /// none where the base may hold nothing.
     pub fn address_range(&self, base: Reg, offset: i16) -> Option<Range>
-        ensures { (init : ℕ → Bool) →
+        ensures { (stack : Stack) →
             option_map range_of result ≡
-            address_range (state_of self.now.ranges init) base.number offset }
+            address_range (state_of self.now.ranges stack) base.number offset }
     {
         let range = self.ranges.get(base)?;
         Some(offset_by(range, i64::from(offset).cast_unsigned()))
@@ -207,8 +207,8 @@ impl AbstractState {
     fn access_initialized(&self, access: Access) -> bool
         requires { (depth : ℕ) × (depth < 8) ×
             (access_in_bounds depth (ranges_of self.now.ranges) access ≡ true) }
-        ensures { (init : ℕ → Bool) → AreBitsOf self.now.initialized.words init →
-            result ≡ access_initialized init (ranges_of self.now.ranges) access }
+        ensures { (stack : Stack) → IsStackOf self.now.initialized.words WORDS self.now.words.ranges stack →
+            result ≡ access_initialized stack.initialized (ranges_of self.now.ranges) access }
     {
         match self.max_size(access.size) {
             Some(size) => size == 0 || self.is_initialized(self.range_of(access.register), size),
@@ -231,8 +231,8 @@ impl AbstractState {
     fn are_initialized(&self, accesses: &[Access]) -> bool
         requires { (depth : ℕ) × (depth < 8) ×
             (all_in_bounds depth (ranges_of self.now.ranges) accesses.now ≡ true) }
-        ensures { (init : ℕ → Bool) → AreBitsOf self.now.initialized.words init →
-            result ≡ are_initialized init (ranges_of self.now.ranges) accesses.now }
+        ensures { (stack : Stack) → IsStackOf self.now.initialized.words WORDS self.now.words.ranges stack →
+            result ≡ are_initialized stack.initialized (ranges_of self.now.ranges) accesses.now }
     {
         for access in accesses {
             if !self.access_initialized(*access) {
@@ -246,8 +246,8 @@ impl AbstractState {
     fn is_initialized(&self, range: Option<Range>, size: u64) -> bool
         requires { (depth : ℕ) × (depth < 8) ×
             (in_bounds depth (option_map range_of range) size ≡ true) }
-        ensures { (init : ℕ → Bool) → AreBitsOf self.now.initialized.words init →
-            result ≡ is_initialized init (option_map range_of range) size }
+        ensures { (stack : Stack) → IsStackOf self.now.initialized.words WORDS self.now.words.ranges stack →
+            result ≡ is_initialized stack.initialized (option_map range_of range) size }
     {
         let Some(range) = range else {
             return false;

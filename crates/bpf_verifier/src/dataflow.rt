@@ -8,10 +8,10 @@ ghost use Rattle.bpf_decode.specs.declared.insn.Insn.TheVariants.{CallLocal};
 ghost use Rattle.bpf_model.specs.Code.{insns_by_slot, insn_at};
 ghost use Rattle.bpf_model.specs.AbstractState.{AbstractState as ModelState, edge_if, edges, after_test, after_call, start_state, entry_state};
 ghost use Rattle.bpf_model.specs.Dataflow.{IsBound, state_at};
+ghost use Rattle.bpf_model.specs.Profiles.{followed_words};
 ghost use Rattle.bpf_model.specs.Verdict.{insn_dataflow_fault, visits_in, visit_fault, max_visits, dataflow_fault, IsFirstVisit};
 ghost use Rattle.bpf_model.specs.declared.fault.VerifyFault.TheVariants.{Memory};
-ghost use Rattle.bpf_verifier.specs.FrameBytes.{AreBitsOf};
-ghost use Rattle.bpf_verifier.specs.Represents.{Represents, RepresentsOption, state_of};
+ghost use Rattle.bpf_verifier.specs.Represents.{Represents, RepresentsOption, Stack, IsStackOf, state_of};
 ghost use Rattle.bpf_verifier.specs.Slots.{or_exit};
 ghost use Rattle.bpf_verifier.specs.Sweep.{visit_in, RepresentsVisit, Brings, VisitJoined, Flowed, AreFew, SweepAt, IsStart, IsStructured, Fails, Entered, IsEntered, activation_of, nothing_returned, Followed, CalledBack, FailsInCall, IsRunning};
 
@@ -20,7 +20,7 @@ use crate::observer::Observer;
 use crate::slots::{Slots, target_of};
 use bpf_decode::{Insn, Reg, Source};
 use bpf_model::layout::FRAMES;
-use bpf_model::{Refusal, VerifyFault};
+use bpf_model::{Profile, Refusal, VerifyFault};
 use bpf_num::Test;
 use std::alloc::{AllocError, Global};
 
@@ -30,19 +30,19 @@ const MAX_VISITS: u32 = 65_536;
 /// What the edges so far have brought to a slot: the join of their states, and the instructions of the
 /// longest path before it.
 #[derive(Clone, Copy)]
-pub struct Visit {
-    pub state: AbstractState,
+pub struct Visit<const WORDS: usize> {
+    pub state: AbstractState<WORDS>,
     pub steps: u32,
 }
 
-impl Visit {
+impl<const WORDS: usize> Visit<WORDS> {
     ghost use Rattle.std.specs.Prelude.{◌≡◌, Some};
     ghost use Rattle.bpf_model.specs.AbstractState.{AbstractState as ModelState};
     ghost use Rattle.bpf_verifier.specs.Represents.{Represents};
     ghost use Rattle.bpf_verifier.specs.Sweep.{VisitJoined};
 
     /// Joins what one more edge brings.
-    fn join(&mut self, other: &Visit)
+    fn join(&mut self, other: &Visit<WORDS>)
         ensures { (of : ModelState) → Represents other.now.state of →
             VisitJoined (Some self.old) of other.now.steps (Some self.new) }
     {
@@ -54,31 +54,33 @@ impl Visit {
 /// What a function gives to its caller: the join over its exits, where it has one, and the
 /// instructions of its longest path.
 #[derive(Drop)]
-pub struct Returned {
-    pub exit: Option<Box<Visit>>,
+pub struct Returned<const WORDS: usize> {
+    pub exit: Option<Box<Visit<WORDS>>>,
     pub bound: u32,
 }
 
 /// How many visits were made, and the memory of one that is done with, for the next.
 #[derive(Drop)]
-struct Pass {
+struct Pass<const WORDS: usize> {
     alloc: Global,
-    spare: Option<Box<Visit>>,
+    spare: Option<Box<Visit<WORDS>>>,
     visits: u32,
 }
 
-impl Pass {
+impl<const WORDS: usize> Pass<WORDS> {
     ghost use Rattle.std.specs.Prelude.{◌≡◌, ◌⊎◌, ℕ, ◌+◌, ◌-◌, ◌<◌, ◌≤◌, Bool, Some, None, IfOk, IfErr};
     ghost use Rattle.bpf_model.specs.AbstractState.{AbstractState as ModelState, entry_state};
     ghost use Rattle.bpf_model.specs.Verdict.{insn_dataflow_fault, visit_fault, max_visits};
-    ghost use Rattle.bpf_verifier.specs.FrameBytes.{AreBitsOf};
-    ghost use Rattle.bpf_verifier.specs.Represents.{Represents, state_of};
+    ghost use Rattle.bpf_verifier.specs.StackWords.{word_range};
+    ghost use Rattle.bpf_verifier.specs.Represents.{Represents, Stack, IsStackOf, state_of};
 
     /// A copy of a visit.
-    fn copy_of(&mut self, visit: &Visit) -> Result<Box<Visit>, AllocError>
+    fn copy_of(&mut self, visit: &Visit<WORDS>) -> Result<Box<Visit<WORDS>>, AllocError>
         ensures ranges { IfOk result (λ copy. copy.value.state.ranges ≡ visit.now.state.ranges) }
         ensures initialized { IfOk result (λ copy.
             copy.value.state.initialized.words ≡ visit.now.state.initialized.words) }
+        ensures words { IfOk result (λ copy. (w : ℕ) → w < WORDS →
+            word_range copy.value.state.words.ranges w ≡ word_range visit.now.state.words.ranges w) }
         ensures steps { IfOk result (λ copy. copy.value.steps ≡ visit.now.steps) }
         ensures visits { self.new.visits ≡ self.old.visits }
     {
@@ -93,7 +95,11 @@ impl Pass {
     }
 
     /// The visit with which a function is entered at a depth, by a call in this state.
-    fn entry_visit(&mut self, depth: u32, state: &AbstractState) -> Result<Box<Visit>, AllocError>
+    fn entry_visit(
+        &mut self,
+        depth: u32,
+        state: &AbstractState<WORDS>,
+    ) -> Result<Box<Visit<WORDS>>, AllocError>
         requires { depth < 8 }
         ensures state { IfOk result (λ callee. (of : ModelState) → Represents state.now of →
             Represents callee.value.state (entry_state depth of)) }
@@ -114,20 +120,20 @@ impl Pass {
         depth: u32,
         slot: usize,
         insn: &Insn,
-        state: &AbstractState,
+        state: &AbstractState<WORDS>,
     ) -> Result<(), Refusal>
         requires deep { depth < 8 }
         requires short { slot < 1024 }
         requires few { self.old.visits ≤ max_visits }
-        ensures right { IfOk result (λ _. (init : ℕ → Bool) → AreBitsOf state.now.initialized.words init →
-            insn_dataflow_fault depth (state_of state.now.ranges init) insn.now ≡ None) }
+        ensures right { IfOk result (λ _. (stack : Stack) → IsStackOf state.now.initialized.words WORDS state.now.words.ranges stack →
+            insn_dataflow_fault depth (state_of state.now.ranges stack) insn.now ≡ None) }
         ensures count { IfOk result (λ _. (self.new.visits ≡ self.old.visits + 1)
             × (self.old.visits < max_visits)) }
         ensures refused { IfErr result (λ refusal. (refusal.slot ≡ slot) ×
-            ((init : ℕ → Bool) → AreBitsOf state.now.initialized.words init →
+            ((stack : Stack) → IsStackOf state.now.initialized.words WORDS state.now.words.ranges stack →
             visit_fault self.old.visits (Some (record {
               slot = slot;
-              fault = insn_dataflow_fault depth (state_of state.now.ranges init) insn.now;
+              fault = insn_dataflow_fault depth (state_of state.now.ranges stack) insn.now;
             })) ≡ Some refusal.fault)) }
     {
         if self.visits >= MAX_VISITS {
@@ -149,22 +155,24 @@ impl Pass {
 
 /// Checks each visit, by its abstract state, and counts the steps. Returns the bound, or the first
 /// fault. `Memory` may come at any allocation.
-pub fn check_dataflow<O: Observer>(
+pub fn check_dataflow<O: Observer<WORDS>, const WORDS: usize>(
     alloc: Global,
+    profile: Profile,
     slots: &Slots,
     observer: &mut O,
 ) -> Result<u32, Refusal>
     requires some { 0 < length slots.now }
     requires few { length slots.now ≤ 1024 }
     requires code { (code : List Insn) × (slots.now ≡ insns_by_slot code) × IsStructured code }
+    requires follows { followed_words profile ≡ WORDS }
     ensures right { IfOk result (λ _. (code : List Insn) → slots.now ≡ insns_by_slot code →
         IsStructured code →
-        (index : ℕ) → dataflow_fault code index ≡ None) }
+        (index : ℕ) → dataflow_fault profile code index ≡ None) }
     ensures bound { IfOk result (λ bound. (code : List Insn) → slots.now ≡ insns_by_slot code →
-        IsStructured code → IsBound code bound) }
+        IsStructured code → IsBound profile code bound) }
     ensures refused { IfErr result (λ refusal. (refusal.fault ≡ Memory) ⊎
         ((code : List Insn) → slots.now ≡ insns_by_slot code → IsStructured code →
-        IsFirstVisit code refusal.fault refusal.slot)) }
+        IsFirstVisit profile code refusal.fault refusal.slot)) }
 {
     let mut pass = Pass {
         alloc,
@@ -182,30 +190,30 @@ pub fn check_dataflow<O: Observer>(
 
 /// Follows a function from its slot on, where so many frames are left for those that it calls.
 #[cycle(calls)]
-fn follow<O: Observer>(
-    pass: &mut Pass,
+fn follow<O: Observer<WORDS>, const WORDS: usize>(
+    pass: &mut Pass<WORDS>,
     observer: &mut O,
     slots: &Slots,
     left: u32,
     entry: usize,
-    visit: Box<Visit>,
-) -> Result<Returned, Refusal>
+    visit: Box<Visit<WORDS>>,
+) -> Result<Returned<WORDS>, Refusal>
     requires short { length slots.now ≤ 1024 }
     requires deep { left < 8 }
     requires inside { entry < length slots.now }
     requires steps { visit.value.steps ≡ 0 }
     requires few { pass.old.visits ≤ max_visits }
-    requires running { (f : Entered) × IsRunning slots.now left f × (f.entry ≡ entry)
+    requires running { (f : Entered) × IsRunning WORDS slots.now left f × (f.entry ≡ entry)
         × (f.base ≡ pass.old.visits) × Represents visit.value.state f.state }
     ensures few { IfOk result (λ returned. (pass.old.visits + returned.bound ≤ pass.new.visits)
         × (pass.new.visits ≤ max_visits)) }
     ensures right { IfOk result (λ returned. (f : Entered) → slots.now ≡ insns_by_slot f.code →
         f.left ≡ left → f.entry ≡ entry → f.base ≡ pass.old.visits → IsEntered f →
-        Represents visit.value.state f.state → Followed f returned pass.new.visits) }
+        Represents visit.entry.value.state f.state → Followed f returned pass.new.visits) }
     ensures refused { IfErr result (λ refusal. (refusal.fault ≡ Memory) ⊎
         ((f : Entered) → slots.now ≡ insns_by_slot f.code →
         f.left ≡ left → f.entry ≡ entry → f.base ≡ pass.old.visits → IsEntered f →
-        Represents visit.value.state f.state →
+        Represents visit.entry.value.state f.state →
         Fails f.base (visits_in f.code (suc f.left) f.entry f.state) refusal.fault refusal.slot)) }
 {
     let mut pending = pending_at_entry(pass.alloc, slots.len(), entry, visit)?;
@@ -214,20 +222,20 @@ fn follow<O: Observer>(
 
 /// Visits the slots of a function, ascending from its own on.
 #[cycle(calls)]
-fn sweep<O: Observer>(
-    pass: &mut Pass,
+fn sweep<O: Observer<WORDS>, const WORDS: usize>(
+    pass: &mut Pass<WORDS>,
     observer: &mut O,
     slots: &Slots,
     left: u32,
     entry: usize,
-    pending: &mut [Option<Box<Visit>>],
-) -> Result<Returned, Refusal>
+    pending: &mut [Option<Box<Visit<WORDS>>>],
+) -> Result<Returned<WORDS>, Refusal>
     requires short { length slots.now ≤ 1024 }
     requires deep { left < 8 }
     requires inside { entry < length slots.now }
     requires long { length pending.old ≡ length slots.now }
     requires few { AreFew pass.old.visits pass.old.visits pending.old 0 }
-    requires running { (f : Entered) × IsRunning slots.now left f
+    requires running { (f : Entered) × IsRunning WORDS slots.now left f
         × SweepAt f entry pending.old nothing_returned pass.old.visits }
     ensures few { IfOk result (λ returned. (pass.old.visits + returned.bound ≤ pass.new.visits)
         × (pass.new.visits ≤ max_visits)) }
@@ -251,40 +259,53 @@ fn sweep<O: Observer>(
 }
 
 /// What is pending as a function is entered, for each of so many slots.
-fn pending_at_entry(
+fn pending_at_entry<const WORDS: usize>(
     alloc: Global,
     slots: usize,
     entry: usize,
-    visit: Box<Visit>,
-) -> Result<Vec<Option<Box<Visit>>>, AllocError>
+    visit: Box<Visit<WORDS>>,
+) -> Result<Vec<Option<Box<Visit<WORDS>>>>, AllocError>
     requires { entry < slots }
-    ensures { IfOk result (λ pending. IsStart pending.items slots entry visit) }
+    ensures { IfOk result (λ pending. IsStart pending.items slots entry visit.entry) }
 {
     let mut pending = Vec::new(alloc);
-    pending.resize_with(slots, || None)?;
+    pending.resize_with(
+        slots,
+        || -> Option<Box<Visit<WORDS>>>
+            ensures { result ≡ None }
+        { no_visit_like(&visit) },
+    )?;
     pending[entry] = Some(visit);
     Ok(pending)
+}
+
+/// No visit, where one like this may be.
+#[inline(always)]
+fn no_visit_like<const WORDS: usize>(_visit: &Visit<WORDS>) -> Option<Box<Visit<WORDS>>>
+    ensures { result ≡ None }
+{
+    None
 }
 
 /// Visits a slot, where something has reached it. Each kind of instruction that is frequent has the visit as a
 /// copy of its own, in which all that the visit asks of the kind is known.
 #[cycle(calls)]
 #[inline(always)]
-fn visit_by_kind<O: Observer>(
-    pass: &mut Pass,
+fn visit_by_kind<O: Observer<WORDS>, const WORDS: usize>(
+    pass: &mut Pass<WORDS>,
     observer: &mut O,
     slots: &Slots,
     left: u32,
-    pending: &mut [Option<Box<Visit>>],
+    pending: &mut [Option<Box<Visit<WORDS>>>],
     slot: usize,
-    returned: &mut Returned,
+    returned: &mut Returned<WORDS>,
 ) -> Result<(), Refusal>
     requires short { length slots.now ≤ 1024 }
     requires deep { left < 8 }
     requires inside { slot < length slots.now }
     requires long { length pending.old ≡ length slots.now }
     requires few { AreFew 0 pass.old.visits pending.old returned.old.bound }
-    requires running { (f : Entered) × IsRunning slots.now left f
+    requires running { (f : Entered) × IsRunning WORDS slots.now left f
         × SweepAt f slot pending.old returned.old pass.old.visits }
     ensures long { IfOk result (λ _. length pending.new ≡ length pending.old) }
     ensures few { IfOk result (λ _. (base : ℕ) →
@@ -317,15 +338,15 @@ fn visit_by_kind<O: Observer>(
 /// Visits a slot, where something has reached it.
 #[cycle(calls)]
 #[inline(always)]
-fn visit_slot<O: Observer>(
-    pass: &mut Pass,
+fn visit_slot<O: Observer<WORDS>, const WORDS: usize>(
+    pass: &mut Pass<WORDS>,
     observer: &mut O,
     slots: &Slots,
     left: u32,
-    pending: &mut [Option<Box<Visit>>],
+    pending: &mut [Option<Box<Visit<WORDS>>>],
     slot: usize,
     insn: Insn,
-    returned: &mut Returned,
+    returned: &mut Returned<WORDS>,
 ) -> Result<(), Refusal>
     requires short { length slots.now ≤ 1024 }
     requires deep { left < 8 }
@@ -333,7 +354,7 @@ fn visit_slot<O: Observer>(
     requires long { length pending.old ≡ length slots.now }
     requires insn { insn ≡ or_exit (slice_index_or slots.now slot None) }
     requires few { AreFew 0 pass.old.visits pending.old returned.old.bound }
-    requires running { (f : Entered) × IsRunning slots.now left f
+    requires running { (f : Entered) × IsRunning WORDS slots.now left f
         × SweepAt f slot pending.old returned.old pass.old.visits }
     ensures long { IfOk result (λ _. length pending.new ≡ length pending.old) }
     ensures few { IfOk result (λ _. (base : ℕ) →
@@ -379,20 +400,20 @@ fn visit_slot<O: Observer>(
 /// Follows the function that a local call leads to. There is none where the call leads out of the code
 /// or no frame is left, which the checks have refused.
 #[cycle(calls)]
-fn call<O: Observer>(
-    pass: &mut Pass,
+fn call<O: Observer<WORDS>, const WORDS: usize>(
+    pass: &mut Pass<WORDS>,
     observer: &mut O,
     slots: &Slots,
     left: u32,
     slot: usize,
     offset: i32,
-    state: &AbstractState,
-) -> Result<Option<Returned>, Refusal>
+    state: &AbstractState<WORDS>,
+) -> Result<Option<Returned<WORDS>>, Refusal>
     requires short { length slots.now ≤ 1024 }
     requires deep { left < 8 }
     requires inside { slot < length slots.now }
     requires few { pass.old.visits ≤ max_visits }
-    requires running { (f : Entered) × (of : ModelState) × IsRunning slots.now left f
+    requires running { (f : Entered) × (of : ModelState) × IsRunning WORDS slots.now left f
         × Represents state.now of × (state_at f.code (activation_of f) slot ≡ Some of)
         × (insn_at f.code slot ≡ Some (CallLocal offset)) }
     ensures none { IfOk result (λ callee. callee ≡ None → pass.new.visits ≡ pass.old.visits) }
@@ -420,20 +441,20 @@ fn call<O: Observer>(
 }
 
 /// Goes on behind a call, where its callee returns.
-fn resume(
-    pass: &mut Pass,
-    pending: &mut [Option<Box<Visit>>],
+fn resume<const WORDS: usize>(
+    pass: &mut Pass<WORDS>,
+    pending: &mut [Option<Box<Visit<WORDS>>>],
     slot: usize,
     depth: u32,
-    mut visit: Box<Visit>,
-    exit: Option<Box<Visit>>,
+    mut visit: Box<Visit<WORDS>>,
+    exit: Option<Box<Visit<WORDS>>>,
 )
     requires deep { depth < 8 }
     requires short { slot < 1024 }
-    ensures flowed { (of : ModelState) (exits : Option ModelState) → Represents visit.value.state of →
-        RepresentsVisit (visit_in exit) exits →
+    ensures flowed { (of : ModelState) (exits : Option ModelState) → Represents visit.entry.value.state of →
+        RepresentsVisit (visit_in exit.entry) exits →
         Flowed (edge_if (Some (slot + 1)) (option_map (after_call depth of) exits))
-        visit.value.steps pending.old pending.new }
+        visit.entry.value.steps pending.old pending.new }
     ensures visits { pass.new.visits ≡ pass.old.visits }
 {
     let behind = match exit {
@@ -449,19 +470,19 @@ fn resume(
 
 /// Takes a visit over all edges out of an instruction that calls no function and is no exit.
 #[inline(always)]
-fn flow(
-    pending: &mut [Option<Box<Visit>>],
-    pass: &mut Pass,
+fn flow<const WORDS: usize>(
+    pending: &mut [Option<Box<Visit<WORDS>>>],
+    pass: &mut Pass<WORDS>,
     slot: usize,
     insn: &Insn,
-    mut visit: Box<Visit>,
+    mut visit: Box<Visit<WORDS>>,
 ) -> Result<(), AllocError>
     requires { slot < 1024 }
-    ensures flowed { OnOk result ((behind : ℕ → ModelState → Option ModelState) (init : ℕ → Bool) →
+    ensures flowed { OnOk result ((behind : ℕ → ModelState → Option ModelState) (stack : Stack) →
         ((offset : ℤ) → insn.now ≡ CallLocal offset → ⊥) →
-        AreBitsOf visit.value.state.initialized.words init →
-        Flowed (edges behind slot (state_of visit.value.state.ranges init) insn.now)
-        visit.value.steps pending.old pending.new) }
+        IsStackOf visit.entry.value.state.initialized.words WORDS visit.entry.value.state.words.ranges stack →
+        Flowed (edges behind slot (state_of visit.entry.value.state.ranges stack) insn.now)
+        visit.entry.value.steps pending.old pending.new) }
     ensures visits { pass.new.visits ≡ pass.old.visits }
 {
     match insn {
@@ -498,24 +519,24 @@ fn flow(
 
 /// The visits on both edges of a test, first the one that isn't taken; none on an edge that can't be.
 #[inline(always)]
-fn split(
-    mut visit: Box<Visit>,
-    pass: &mut Pass,
+fn split<const WORDS: usize>(
+    mut visit: Box<Visit<WORDS>>,
+    pass: &mut Pass<WORDS>,
     narrow: bool,
     test: Test,
     dst: Reg,
     src: Source,
-) -> Result<(Option<Box<Visit>>, Option<Box<Visit>>), AllocError>
-    ensures onward { IfOk result (λ edges. (init : ℕ → Bool) →
-        AreBitsOf visit.value.state.initialized.words init →
+) -> Result<(Option<Box<Visit<WORDS>>>, Option<Box<Visit<WORDS>>>), AllocError>
+    ensures onward { IfOk result (λ edges. (stack : Stack) →
+        IsStackOf visit.entry.value.state.initialized.words WORDS visit.entry.value.state.words.ranges stack →
         Brings edges.0
-        (after_test (state_of visit.value.state.ranges init) narrow test dst.number src false)
-        visit.value.steps) }
-    ensures taken { IfOk result (λ edges. (init : ℕ → Bool) →
-        AreBitsOf visit.value.state.initialized.words init →
+        (after_test (state_of visit.entry.value.state.ranges stack) narrow test dst.number src false)
+        visit.entry.value.steps) }
+    ensures taken { IfOk result (λ edges. (stack : Stack) →
+        IsStackOf visit.entry.value.state.initialized.words WORDS visit.entry.value.state.words.ranges stack →
         Brings edges.1
-        (after_test (state_of visit.value.state.ranges init) narrow test dst.number src true)
-        visit.value.steps) }
+        (after_test (state_of visit.entry.value.state.ranges stack) narrow test dst.number src true)
+        visit.entry.value.steps) }
     ensures visits { pass.new.visits ≡ pass.old.visits }
 {
     let (onward, taken) = visit.state.ranges_on_edges(narrow, test, dst, src);
@@ -544,13 +565,13 @@ fn split(
 
 /// Takes a visit over an edge, where there are such a slot and such a visit.
 #[inline(always)]
-fn push(
-    pending: &mut [Option<Box<Visit>>],
-    pass: &mut Pass,
+fn push<const WORDS: usize>(
+    pending: &mut [Option<Box<Visit<WORDS>>>],
+    pass: &mut Pass<WORDS>,
     target: Option<usize>,
-    visit: Option<Box<Visit>>,
+    visit: Option<Box<Visit<WORDS>>>,
 )
-    ensures flowed { (of : Option ModelState) (steps : ℕ) → Brings visit of steps →
+    ensures flowed { (of : Option ModelState) (steps : ℕ) → Brings visit.entry of steps →
         Flowed (edge_if target of) steps pending.old pending.new }
     ensures visits { pass.new.visits ≡ pass.old.visits }
 {
@@ -563,9 +584,13 @@ fn push(
 
 /// Joins a visit into what is there, or puts it there.
 #[inline(always)]
-fn join_into(place: &mut Option<Box<Visit>>, visit: Box<Visit>, pass: &mut Pass)
-    ensures visit { (of : ModelState) → Represents visit.value.state of →
-        VisitJoined (visit_in place.old) of visit.value.steps (visit_in place.new) }
+fn join_into<const WORDS: usize>(
+    place: &mut Option<Box<Visit<WORDS>>>,
+    visit: Box<Visit<WORDS>>,
+    pass: &mut Pass<WORDS>,
+)
+    ensures visit { (of : ModelState) → Represents visit.entry.value.state of →
+        VisitJoined (visit_in place.old) of visit.entry.value.steps (visit_in place.new) }
     ensures visits { pass.new.visits ≡ pass.old.visits }
 {
     match place {

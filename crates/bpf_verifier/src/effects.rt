@@ -3,6 +3,8 @@
 ghost use Rattle.std.specs.Prelude.{◌≡◌};
 ghost use Rattle.reg_ranges.specs.RangeOf.{range_of};
 ghost use Rattle.bpf_model.specs.AbstractState.{loaded_range, transfer};
+ghost use Rattle.bpf_model.specs.Words.{stored_range};
+ghost use Rattle.bpf_verifier.specs.StackWords.{is_word_load};
 
 use crate::abstract_state::AbstractState;
 use crate::checks::bytes_of;
@@ -13,21 +15,22 @@ use bpf_num::{AluOp, AluWidth, Test};
 use map_helpers::{Access, Helper};
 use reg_ranges::{Range, refine_edges, swap_range, transfer32, transfer64};
 
-impl AbstractState {
+impl<const WORDS: usize> AbstractState<WORDS> {
     ghost use Rattle.std.specs.Prelude.{◌≡◌, ℕ, ◌+◌, ◌<◌, ◌||◌, Bool, true, false};
     ghost use Rattle.std.specs.Option.{option_map};
     ghost use Rattle.reg_ranges.specs.RangeOf.{range_of, ranges_of as pair_of};
     ghost use Rattle.bpf_model.specs.Machine.{frame_start};
+    ghost use Rattle.bpf_model.specs.Words.{stored_range};
     ghost use Rattle.bpf_model.specs.Access.{bytes_of};
-    ghost use Rattle.bpf_model.specs.AbstractState.{after_insn, after_store, address_range, after_helper, after_test, with_ranges, alu_range, source_range, tested_range, is_written};
-    ghost use Rattle.bpf_verifier.specs.FrameBytes.{has_byte, AreBitsOf};
-    ghost use Rattle.bpf_verifier.specs.Represents.{Represents, state_of};
+    ghost use Rattle.bpf_model.specs.AbstractState.{after_insn, after_store, range_after_load, range_or_full, address_range, after_helper, after_test, with_ranges, alu_range, source_range, tested_range, is_written};
+    ghost use Rattle.bpf_verifier.specs.FrameBytes.{has_byte};
+    ghost use Rattle.bpf_verifier.specs.Represents.{Represents, Stack, IsStackOf, ranges_of, state_of};
 
     /// Goes over an instruction, by the edge to the slot behind it.
     #[inline(always)]
     pub(crate) fn after_insn(&mut self, insn: &Insn)
-        ensures { (init : ℕ → Bool) → AreBitsOf self.old.initialized.words init →
-            Represents self.new (after_insn (state_of self.old.ranges init) insn.now) }
+        ensures { (stack : Stack) → IsStackOf self.old.initialized.words WORDS self.old.words.ranges stack →
+            Represents self.new (after_insn (state_of self.old.ranges stack) insn.now) }
     {
         match insn {
             Insn::Alu {
@@ -51,20 +54,30 @@ impl AbstractState {
                 size,
                 signed,
                 dst,
-                ..
-            } => self.set(*dst, Some(loaded_range(*size, *signed))),
+                base,
+                offset,
+            } => {
+                let range = self.range_after_load(*size, *signed, *base, *offset);
+                self.set(*dst, Some(range));
+            }
             Insn::StoreImm {
                 size,
                 base,
                 offset,
-                ..
-            } => self.store(*size, *base, *offset),
+                imm,
+            } => {
+                let value = Range::single(i64::from(*imm).cast_unsigned());
+                self.store(*size, *base, *offset, value);
+            }
             Insn::Store {
                 size,
                 base,
                 offset,
-                ..
-            } => self.store(*size, *base, *offset),
+                src,
+            } => {
+                let value = self.number_of(*src);
+                self.store(*size, *base, *offset, value);
+            }
             Insn::CallHelper { helper } => match Helper::of(*helper) {
                 Some(helper) => self.after_helper(helper.max_answer(), helper.writes()),
                 None => self.after_helper(0, &[]),
@@ -80,9 +93,9 @@ impl AbstractState {
     /// What an arithmetic instruction makes of its operands.
     #[inline(always)]
     fn alu_range(&self, width: AluWidth, op: AluOp, dst: Reg, src: Source) -> Option<Range>
-        ensures { (init : ℕ → Bool) →
+        ensures { (stack : Stack) →
             option_map range_of result ≡
-            alu_range (state_of self.now.ranges init) width op dst.number src }
+            alu_range (state_of self.now.ranges stack) width op dst.number src }
     {
         let b = self.source_range(src)?;
         let a = if op.reads_destination() {
@@ -95,8 +108,8 @@ impl AbstractState {
 
     #[inline(always)]
     fn source_range(&self, src: Source) -> Option<Range>
-        ensures { (init : ℕ → Bool) →
-            option_map range_of result ≡ source_range (state_of self.now.ranges init) src }
+        ensures { (stack : Stack) →
+            option_map range_of result ≡ source_range (state_of self.now.ranges stack) src }
     {
         match src {
             Source::Imm(value) => Some(Range::single(i64::from(value).cast_unsigned())),
@@ -105,14 +118,15 @@ impl AbstractState {
     }
 
     /// After a helper r0 has its answer, and r1 to r5 hold nothing. What it wrote is initialized
-    /// where its address is a single number.
+    /// where its address is a single number, and nothing is known of the words that it may have written.
     fn after_helper(&mut self, max_answer: u64, writes: &[Access])
-        ensures { (init : ℕ → Bool) → AreBitsOf self.old.initialized.words init →
-            Represents self.new (after_helper (state_of self.old.ranges init) max_answer writes.now) }
+        ensures { (stack : Stack) → IsStackOf self.old.initialized.words WORDS self.old.words.ranges stack →
+            Represents self.new (after_helper (state_of self.old.ranges stack) max_answer writes.now) }
     {
         for access in writes {
             let range = self.range_of(access.register);
             self.initialize(range, access.size.fixed());
+            self.words.forget(range, access.size.fixed());
         }
         self.ranges = RegisterRanges::from_array([
             Some(Range::new(0, max_answer)),
@@ -129,20 +143,50 @@ impl AbstractState {
         ]);
     }
 
-    /// Initializes what a store writes.
-    fn store(&mut self, size: Size, base: Reg, offset: i16)
-        ensures { (init : ℕ → Bool) → AreBitsOf self.old.initialized.words init →
-            Represents self.new (after_store (state_of self.old.ranges init)
-            (address_range (state_of self.old.ranges init) base.number offset) (bytes_of size)) }
+    /// What a load gives: of 8 bytes what is known of the word there.
+    fn range_after_load(&self, size: Size, signed: bool, base: Reg, offset: i16) -> Range
+        ensures { (stack : Stack) → IsStackOf self.now.initialized.words WORDS self.now.words.ranges stack →
+            range_of result ≡ range_after_load (state_of self.now.ranges stack) size signed
+            (address_range (state_of self.now.ranges stack) base.number offset) }
+    {
+        if WORDS == 0 {
+            return loaded_range(size, signed);
+        }
+        if is_word(size, signed) {
+            self.words.at(self.address_range(base, offset))
+        } else {
+            loaded_range(size, signed)
+        }
+    }
+
+    /// What is known of the number that a register holds.
+    fn number_of(&self, register: Reg) -> Range
+        ensures { range_of result ≡ range_or_full (ranges_of self.now.ranges register.number) }
+    {
+        match self.ranges.get(register) {
+            Some(range) => range,
+            None => Range::new(0, u64::MAX),
+        }
+    }
+
+    /// Initializes what a store writes, and notes the number that it stores.
+    fn store(&mut self, size: Size, base: Reg, offset: i16, value: Range)
+        ensures { (stack : Stack) → IsStackOf self.old.initialized.words WORDS self.old.words.ranges stack →
+            Represents self.new (after_store (state_of self.old.ranges stack)
+            (address_range (state_of self.old.ranges stack) base.number offset) (bytes_of size)
+            (stored_range size (range_of value))) }
     {
         let range = self.address_range(base, offset);
         self.initialize(range, bytes_of(size));
+        self.words
+            .store(range, bytes_of(size), stored_range(size, value));
     }
 
     /// Initializes the bytes of the stack that a write writes, where its address is a single
     /// number.
     fn initialize(&mut self, range: Option<Range>, size: u32)
         ensures ranges { self.new.ranges ≡ self.old.ranges }
+        ensures words { self.new.words ≡ self.old.words }
         ensures initialized { (i : ℕ) → i < 4096 → has_byte self.new.initialized.words i ≡
             (is_written (option_map range_of range) size (frame_start 0 + i)
             || has_byte self.old.initialized.words i) }
@@ -169,12 +213,12 @@ impl AbstractState {
         dst: Reg,
         src: Source,
     ) -> (Option<(Range, Range)>, Option<(Range, Range)>)
-        ensures onward { (init : ℕ → Bool) →
-            option_map (λ r. with_ranges (state_of self.now.ranges init) dst.number src (pair_of r)) result.0 ≡
-            after_test (state_of self.now.ranges init) narrow test dst.number src false }
-        ensures taken { (init : ℕ → Bool) →
-            option_map (λ r. with_ranges (state_of self.now.ranges init) dst.number src (pair_of r)) result.1 ≡
-            after_test (state_of self.now.ranges init) narrow test dst.number src true }
+        ensures onward { (stack : Stack) →
+            option_map (λ r. with_ranges (state_of self.now.ranges stack) dst.number src (pair_of r)) result.0 ≡
+            after_test (state_of self.now.ranges stack) narrow test dst.number src false }
+        ensures taken { (stack : Stack) →
+            option_map (λ r. with_ranges (state_of self.now.ranges stack) dst.number src (pair_of r)) result.1 ≡
+            after_test (state_of self.now.ranges stack) narrow test dst.number src true }
     {
         let (Some(a), Some(b)) = (self.ranges.get(dst), self.tested_range(narrow, src)) else {
             return (None, None);
@@ -185,9 +229,9 @@ impl AbstractState {
     /// Gives the operands of a test these ranges. Where both are one register, it keeps its own.
     #[inline(always)]
     pub(crate) fn set_tested(&mut self, dst: Reg, src: Source, ranges: (Range, Range))
-        ensures { (init : ℕ → Bool) → AreBitsOf self.old.initialized.words init →
+        ensures { (stack : Stack) → IsStackOf self.old.initialized.words WORDS self.old.words.ranges stack →
             Represents self.new
-            (with_ranges (state_of self.old.ranges init) dst.number src (pair_of ranges)) }
+            (with_ranges (state_of self.old.ranges stack) dst.number src (pair_of ranges)) }
     {
         let (a, b) = ranges;
         match src {
@@ -203,8 +247,8 @@ impl AbstractState {
 
     /// What a test compares with.
     fn tested_range(&self, narrow: bool, src: Source) -> Option<Range>
-        ensures { (init : ℕ → Bool) →
-            option_map range_of result ≡ tested_range (state_of self.now.ranges init) narrow src }
+        ensures { (stack : Stack) →
+            option_map range_of result ≡ tested_range (state_of self.now.ranges stack) narrow src }
     {
         match src {
             Source::Imm(value) => Some(Range::single(if narrow {
@@ -224,6 +268,23 @@ fn transfer(width: AluWidth, op: AluOp, a: Range, b: Range) -> Range
     match width {
         AluWidth::W32 => transfer32(op, a, b),
         AluWidth::W64 => transfer64(op, a, b),
+    }
+}
+
+/// Whether a load takes 8 bytes as they are.
+fn is_word(size: Size, signed: bool) -> bool
+    ensures { result ≡ is_word_load size signed }
+{
+    matches!(size, Size::Dw) && !signed
+}
+
+/// What is known of a number that a store writes: nothing, unless it writes all 8 bytes.
+fn stored_range(size: Size, value: Range) -> Range
+    ensures { range_of result ≡ stored_range size (range_of value) }
+{
+    match size {
+        Size::Dw => value,
+        _ => Range::new(0, u64::MAX),
     }
 }
 

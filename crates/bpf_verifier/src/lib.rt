@@ -14,12 +14,13 @@ mod procedure;
 mod reading;
 mod registers;
 mod slots;
+mod stack_words;
 mod structure;
 
 pub use abstract_state::AbstractState;
-pub use bpf_model::{Refusal, VerifyFault};
+pub use bpf_model::{Profile, Refusal, VerifyFault};
 pub use flat::FlatInsn;
 pub use law::verified_code_cannot_go_wrong;
 pub use observer::{Observer, Unobserved};
-pub use procedure::{Procedure, verify, verify_observed};
+pub use procedure::{Procedure, UNFOLLOWED, verify, verify_observed, verify2};
 pub use slots::Slots;

@@ -1,10 +1,12 @@
 -- Internal: an input at one correct replica, and what holds of every world.
-use Rattle.std.specs.Prelude.{◌≡◌, ℕ, ◌==◌, ◌+◌, ◌≤◌, List, [], ◌∷◌, ◌++◌, position, Option, Some, None, Ok, Err}
+use Rattle.std.specs.Prelude.{◌≡◌, ℕ, ◌==◌, ◌+◌, ◌≤◌, List, [], ◌∷◌, ◌++◌, position, Option, Some, None, Result, Ok, Err}
 use Rattle.host_types.specs.Configuration.{Configuration, IsConfiguration}
 use Rattle.replica_core.specs.Facts.{RowFacts}
 use Rattle.replica_core.specs.Steps.{Goes, Stops}
 use Rattle.replica_core.specs.declared.halt.Halt.{Halt}
 use Rattle.replica_core.specs.declared.row.Input.{Input}
+use Rattle.replica_journal.specs.declared.unkept.Unkept.{Unkept}
+use Rattle.replica_journal.specs.declared.unkept.Unkept.TheVariants as unkept
 use Rattle.byz_world.specs.declared.fault.WorldFault.TheVariants as faults
 use Rattle.byz_world.specs.Worlds.{Answer, MemberFacts}
 
@@ -31,6 +33,12 @@ MemberSteps m input (Ok None) t = MemberStops m input t
 MemberSteps m input (Err faults.NoSuchReplica) t = ⊥
 MemberSteps m input (Err faults.NoSuchOutput) t = ⊥
 MemberSteps m input (Err faults.Memory) t = Unit {0}
+
+-- what an event gives of a step: the row, none where the replica halted
+abbrev pub IsAnswerOf : Result RowFacts Unkept → Answer → Type 0
+IsAnswerOf (Ok row) r = r ≡ Ok (Some row)
+IsAnswerOf (Err (unkept.Halted halt)) r = r ≡ Ok None
+IsAnswerOf (Err unkept.Memory) r = r ≡ Err faults.Memory
 
 -- the index of the correct replica of an id
 abbrev pub index_in : List MemberFacts → ℕ → Option ℕ

@@ -1,6 +1,6 @@
 //! A correct replica and its rows.
 
-ghost use Rattle.std.specs.Prelude.{◌≡◌, ◌<◌, ◌++◌, ◌∷◌, [], Some, slice_get, IfErr, IfOk, IsSomeAnd, OnOk};
+ghost use Rattle.std.specs.Prelude.{◌≡◌, ◌<◌, [], slice_get, IfOk, IsSomeAnd};
 ghost use Rattle.std.specs.Option.{option_copied};
 ghost use Rattle.host_types.specs.Configuration.{replicas_for};
 ghost use Rattle.lms_tree.specs.Keys.{IsKeyOf};
@@ -8,15 +8,15 @@ ghost use Rattle.pbft_codec.specs.declared.signed.Role.TheVariants as roles;
 ghost use Rattle.seal.specs.Signers.{key_of};
 ghost use Rattle.replica_core.specs.Steps.{first_with};
 ghost use Rattle.replica_core.specs.declared.row.Input.TheVariants as inputs;
-ghost use Rattle.byz_world.specs.Handing.{MemberSteps};
+ghost use Rattle.byz_world.specs.Handing.{IsAnswerOf, MemberSteps};
 ghost use Rattle.byz_world.specs.Worlds.{facts_of, outcome_of, output_at};
-ghost use Rattle.byz_world.specs.declared.fault.WorldFault.TheVariants as faults;
 
 use crate::fault::WorldFault;
 use crate::report::Outcome;
 use host_types::{Config, ReplicaId};
 use lms_tree::Signer;
 use replica_core::{Output, Replica, Row};
+use replica_journal::{Keeper, Unkept};
 use seal::Checked;
 use std::alloc::{AllocError, Global};
 use std::marker::Model;
@@ -26,8 +26,7 @@ use std::sync::Arc;
 #[derive(Drop)]
 pub(crate) struct Member {
     id: ReplicaId,
-    replica: Replica,
-    rows: Vec<Row>,
+    keeper: Keeper,
 }
 
 impl Model for Member {
@@ -40,9 +39,9 @@ impl Model for Member {
 
     ghost coded = { Prim.hlevel (codes, service_code) };
 
-    ghost view = { λ m. record { replica = m.replica; rows = m.rows.items } };
+    ghost view = { λ m. record { replica = m.keeper.replica; rows = m.keeper.rows } };
 
-    ghost invariant = { λ m. m.id.0 ≡ m.replica.me };
+    ghost invariant = { λ m. m.id.0 ≡ m.keeper.replica.me };
 }
 
 impl Member {
@@ -57,9 +56,8 @@ impl Member {
         requires key { IsSomeAnd (key_of config.now.value roles.Replica id.0) (λ key. IsKeyOf key signer) }
         ensures { IfOk result (λ m. m ≡ record { replica = first_with config.now.value id.0 signer; rows = [] }) }
     {
-        let replica = Replica::new(alloc, config, id, signer)?;
-        let rows = Vec::new(alloc);
-        Ok(Member { id, replica, rows })
+        let keeper = Keeper::new(alloc, config, id, signer)?;
+        Ok(Member { id, keeper })
     }
 
     pub(crate) fn id(&self) -> ReplicaId
@@ -71,7 +69,7 @@ impl Member {
     pub(crate) fn replica(&self) -> &Replica
         ensures { result.now ≡ self.now.replica }
     {
-        &self.replica
+        self.keeper.replica()
     }
 
     /// Takes a message: the row that it gives, if it gives one.
@@ -81,10 +79,7 @@ impl Member {
         ensures config { self.new.replica.config ≡ self.old.replica.config }
         ensures id { self.new.replica.me ≡ self.old.replica.me }
     {
-        match self.replica.take(message) {
-            Ok(row) => self.keep(row),
-            Err(_) => Ok(None),
-        }
+        answer(self.keeper.take(message))
     }
 
     /// Takes a timeout: the row that it gives, if it gives one.
@@ -93,22 +88,7 @@ impl Member {
         ensures config { self.new.replica.config ≡ self.old.replica.config }
         ensures id { self.new.replica.me ≡ self.old.replica.me }
     {
-        match self.replica.timeout() {
-            Ok(row) => self.keep(row),
-            Err(_) => Ok(None),
-        }
-    }
-
-    /// Keeps a row, and returns one more handle of it.
-    fn keep(&mut self, row: Row) -> Result<Option<Row>, WorldFault>
-        ensures kept { OnOk result (self.new ≡ record self.old { rows = self.old.rows ++ row ∷ [] }) }
-        ensures answer { IfOk result (λ answer. answer ≡ Some row) }
-        ensures memory { IfErr result (λ fault. fault ≡ faults.Memory) }
-        ensures replica { self.new.replica ≡ self.old.replica }
-    {
-        let copy = row.copy()?;
-        self.rows.push(row)?;
-        Ok(Some(copy))
+        answer(self.keeper.timeout())
     }
 
     /// The output of this number, over all rows.
@@ -116,7 +96,7 @@ impl Member {
         ensures { option_copied result ≡ output_at self.now.rows number }
     {
         let mut left = number;
-        for row in &self.rows {
+        for row in self.keeper.rows() {
             let outputs = row.outputs();
             if left < outputs.len() as u64 {
                 return item_at(outputs, left);
@@ -132,9 +112,20 @@ impl Member {
     {
         Outcome {
             id: self.id,
-            halted: self.replica.status().halted,
-            rows: self.rows,
+            halted: self.keeper.replica().status().halted,
+            rows: self.keeper.into_rows(),
         }
+    }
+}
+
+// What an event gives of a step.
+fn answer(stepped: Result<Row, Unkept>) -> Result<Option<Row>, WorldFault>
+    ensures { IsAnswerOf stepped result }
+{
+    match stepped {
+        Ok(row) => Ok(Some(row)),
+        Err(Unkept::Halted(_)) => Ok(None),
+        Err(Unkept::Memory) => Err(WorldFault::Memory),
     }
 }
 

@@ -1,4 +1,4 @@
--- Statement: what a replica keeps of checkpoints, as the protocol's core keeps it, and what is done with it
+-- Layer: what a replica keeps of checkpoints, as the protocol's core keeps it, and what is done with it
 -- (Castro and Liskov, section 4.3).
 use Rattle.std.specs.Prelude.{◌≡◌, ◌↔◌, ℕ, ◌==◌, ◌<◌, ◌≤◌, Bool, true, false, not, map, cond, nat_lt, nat_le, List, [], ◌∷◌, find, Option, Some, None, IsSome, bytes_eq, if◌then◌else◌}
 use Rattle.std.specs.List.{filter_map}

@@ -7,7 +7,7 @@ use bpf_asm::{assemble, print};
 use bpf_decode::{decode_all, encode_all};
 use bpf_machine::{Finished, run};
 use bpf_model::layout::ARGUMENTS_SIZE;
-use bpf_verifier::Procedure;
+use bpf_verifier::{Procedure, Profile};
 use host_types::ClientId;
 use std::alloc::Global;
 use std::io::{Read, Write};
@@ -39,27 +39,29 @@ pub fn disasm<I: Read, O: Write>(
     write_line(writer, print(alloc, &code)?)
 }
 
-/// Reads code in hex and writes the verdict. With `is_explained` it also writes what the verifier knows at each
+/// Reads code in hex and writes a profile's verdict. With `is_explained` it also writes what the verifier knows at each
 /// visit and, of refused code, why: the verdict's line is then written before a refusal is returned.
 pub fn verify<I: Read, O: Write>(
     alloc: Global,
+    profile: Profile,
     is_explained: bool,
     reader: &mut I,
     writer: &mut O,
 ) -> Result<(), CodeFailure> {
     let code = read_code(alloc, reader)?;
     if is_explained {
-        return explain(alloc, &code, writer);
+        return explain(alloc, profile, &code, writer);
     }
-    write_verdict(alloc, &code, writer)?;
+    write_verdict(alloc, profile, &code, writer)?;
     Ok(())
 }
 
-/// Reads code in hex, verifies it and runs it over an empty map: a client calls it with the arguments, which are
+/// Reads code in hex, verifies it under a profile and runs it over an empty map: a client calls it with the arguments, which are
 /// hex too, at most 256 bytes. Writes the verdict, and then the result, the steps and the output. The verdict is
 /// all that is written before memory runs out in the run.
 pub fn exec<I: Read, O: Write>(
     alloc: Global,
+    profile: Profile,
     arguments: &str,
     client: ClientId,
     reader: &mut I,
@@ -70,7 +72,7 @@ pub fn exec<I: Read, O: Write>(
     if arguments.len() > ARGUMENTS_SIZE {
         return Err(CodeFailure::ArgsTooLong);
     }
-    let procedure = write_verdict(alloc, &code, writer)?;
+    let procedure = write_verdict(alloc, profile, &code, writer)?;
     let mut map = TenantMap::new(alloc);
     let finished = run(&procedure, &arguments, client, &mut map)?;
     write_ending(alloc, &finished, writer)
@@ -82,13 +84,17 @@ fn read_code<I: Read>(alloc: Global, reader: &mut I) -> Result<Vec<u8>, CodeFail
     read_hex(alloc, &input)
 }
 
-/// Verifies the code and writes the verdict.
+/// Verifies the code under a profile and writes the verdict.
 pub(crate) fn write_verdict<O: Write>(
     alloc: Global,
+    profile: Profile,
     code: &[u8],
     writer: &mut O,
 ) -> Result<Procedure, CodeFailure> {
-    let procedure = bpf_verifier::verify(alloc, code)?;
+    let procedure = match profile {
+        Profile::One => bpf_verifier::verify(alloc, code)?,
+        Profile::Two => bpf_verifier::verify2(alloc, code)?,
+    };
     let bound = procedure.bound();
     write_line(writer, format!(in alloc; "accepted bound {bound}\n")?)?;
     Ok(procedure)

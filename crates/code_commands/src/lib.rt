@@ -1,7 +1,7 @@
 //! What one does with code alone: to assemble a text, to print code as one, to verify it, with what the verifier
 //! knows at each visit, and to run it over an empty map. Each command reads its input to the end and writes lines.
 //!
-//!     exec(alloc, "", ClientId(16), &mut reader, &mut writer)?;
+//!     exec(alloc, Profile::One, "", ClientId(16), &mut reader, &mut writer)?;
 #![tactic(auto)]
 
 mod commands;
@@ -11,5 +11,6 @@ mod input;
 mod numbers;
 mod reason;
 
+pub use bpf_verifier::Profile;
 pub use commands::{asm, disasm, exec, verify};
 pub use failure::CodeFailure;

@@ -52,11 +52,11 @@ struct MemoryAccess {
 }
 
 /// Why the code was refused. The last visit is that of the fault, where the fault is one of a visit.
-pub(crate) fn reason(
+pub(crate) fn reason<const WORDS: usize>(
     alloc: Global,
     code: &[u8],
     refusal: Refusal,
-    last: Option<&Reached>,
+    last: Option<&Reached<WORDS>>,
 ) -> Result<String, AllocError> {
     let slot = refusal.slot;
     match (refusal.fault, last) {
@@ -167,7 +167,10 @@ fn target_of(slot: u32, insn: &Insn) -> i64 {
 }
 
 /// Which register is read that may hold nothing.
-fn reason_of_register(alloc: Global, last: &Reached) -> Result<String, AllocError> {
+fn reason_of_register<const WORDS: usize>(
+    alloc: Global,
+    last: &Reached<WORDS>,
+) -> Result<String, AllocError> {
     for register in registers_read(&last.insn) {
         if let Some(register) = register {
             if last.state.range_of(register).is_none() {
@@ -214,7 +217,10 @@ fn register_of(src: Source) -> Option<u8> {
 }
 
 /// Which access may leave the stack and the arguments, and by how much.
-fn reason_of_access(alloc: Global, last: &Reached) -> Result<String, AllocError> {
+fn reason_of_access<const WORDS: usize>(
+    alloc: Global,
+    last: &Reached<WORDS>,
+) -> Result<String, AllocError> {
     for access in memory_accesses(alloc, last)? {
         if let Some(excess) = excess(alloc, last.depth, access)? {
             let access = text_of(alloc, access)?;
@@ -225,7 +231,10 @@ fn reason_of_access(alloc: Global, last: &Reached) -> Result<String, AllocError>
 }
 
 /// Which byte of the stack is read that may not be initialized.
-fn reason_of_bytes(alloc: Global, last: &Reached) -> Result<String, AllocError> {
+fn reason_of_bytes<const WORDS: usize>(
+    alloc: Global,
+    last: &Reached<WORDS>,
+) -> Result<String, AllocError> {
     for access in memory_accesses(alloc, last)? {
         if access.kind == AccessKind::Write || access.range.lo >= ARGUMENTS_START {
             continue;
@@ -242,7 +251,10 @@ fn reason_of_bytes(alloc: Global, last: &Reached) -> Result<String, AllocError> 
 }
 
 /// The memory that an instruction may access, in the order in which it is checked.
-fn memory_accesses(alloc: Global, last: &Reached) -> Result<Vec<MemoryAccess>, AllocError> {
+fn memory_accesses<const WORDS: usize>(
+    alloc: Global,
+    last: &Reached<WORDS>,
+) -> Result<Vec<MemoryAccess>, AllocError> {
     let mut all = Vec::new(alloc);
     let (size, base, offset, kind) = match last.insn {
         Insn::Load {
@@ -285,9 +297,9 @@ fn memory_accesses(alloc: Global, last: &Reached) -> Result<Vec<MemoryAccess>, A
 }
 
 /// Adds the memory that a helper touches.
-fn push_accesses(
+fn push_accesses<const WORDS: usize>(
     all: &mut Vec<MemoryAccess>,
-    state: &AbstractState,
+    state: &AbstractState<WORDS>,
     accesses: &[Access],
     kind: AccessKind,
 ) -> Result<(), AllocError> {

@@ -1,7 +1,9 @@
 //! A call: one request, until its reply is accepted.
 
-ghost use Rattle.std.specs.Prelude.{◌≡◌, ◌≤◌, Some, length, IfOk};
+ghost use Rattle.std.specs.Prelude.{◌≡◌, ◌≤◌, ◌+◌, ◌↔◌, ◌⊎◌, Some, length, IfErr, IfOk, IsErrOf};
+ghost use Rattle.lms_tree.specs.Keys.{leaf_count};
 ghost use Rattle.client_session.specs.Sessions.{accepted_by};
+ghost use Rattle.client_session.specs.declared.fault.SessionFault.TheVariants as faults;
 
 use client_session::{Session, SessionFault};
 use host_types::{Bytes, Config, ReplicaId, Reply};
@@ -27,6 +29,9 @@ pub fn call<R: Wait>(
     requires op { length op ≤ 1048576 }
     ensures accepted { IfOk result (λ reply. accepted_by session.new ≡ Some reply) }
     ensures config { session.new.config ≡ session.old.config }
+    ensures time { IfOk result (λ reply. reply.time ≡ session.old.time + 1) }
+    ensures exhausted { IsErrOf result faults.Exhausted ↔ (session.old.signer.next_leaf ≡ leaf_count session.old.signer) }
+    ensures unchanged { IsErrOf result faults.Exhausted → session.new ≡ session.old }
 {
     let request = session.request(op)?;
     post_to_all(rt, alloc, host, &request)?;
@@ -39,7 +44,9 @@ fn post_to_all<R: Wait>(
     alloc: Global,
     host: &Host,
     request: &Checked,
-) -> Result<(), SessionFault> {
+) -> Result<(), SessionFault>
+    ensures { IfErr result (λ fault. (fault ≡ faults.Closed) ⊎ (fault ≡ faults.Memory)) }
+{
     for id in 0..host.config().replica_count() {
         let bytes = Vec::from_slice(alloc, request.bytes())?;
         match host.post(rt, ReplicaId(id), Bytes::from_vec(bytes)) {
@@ -61,6 +68,8 @@ fn wait_for_reply<R: Wait>(
     requires config { session.old.config ≡ host.now }
     ensures accepted { IfOk result (λ reply. accepted_by session.new ≡ Some reply) }
     ensures config { session.new.config ≡ session.old.config }
+    ensures time { session.new.time ≡ session.old.time }
+    ensures fault { IfErr result (λ fault. (fault ≡ faults.NoQuorum) ⊎ (fault ≡ faults.Memory)) }
 {
     for _ in rt.forever() {
         let bytes = match host.receive(rt, session.client()) {
@@ -85,6 +94,8 @@ fn offer(
 ) -> Result<(), SessionFault>
     requires config { session.old.config ≡ config.now.value }
     ensures config { session.new.config ≡ session.old.config }
+    ensures time { session.new.time ≡ session.old.time }
+    ensures fault { IfErr result (λ fault. fault ≡ faults.Memory) }
 {
     match open(alloc, config, bytes) {
         Ok(message) => session.offer(&message),

@@ -1,7 +1,7 @@
 //! What no row of the program can say of its commands over code: inputs of a million bytes, streams that fail, blanks in
 //! the arguments, and output that is too long to stand in a file.
 
-use code_commands::{CodeFailure, asm, exec, verify};
+use code_commands::{CodeFailure, Profile, asm, exec, verify};
 use host_types::ClientId;
 use std::alloc::Global;
 use std::io::{self, Read, Write};
@@ -16,11 +16,11 @@ fn run<I: Read, O: Write>(
 ) -> Result<(), CodeFailure> {
     match command.as_bytes() {
         b"asm" => asm(alloc, reader, writer),
-        b"verify" => verify(alloc, false, reader, writer),
-        b"explain" => verify(alloc, true, reader, writer),
+        b"verify" => verify(alloc, Profile::One, false, reader, writer),
+        b"explain" => verify(alloc, Profile::One, true, reader, writer),
         _ => {
             let arguments = command.strip_prefix("exec").unwrap_or("");
-            exec(alloc, arguments, ClientId(16), reader, writer)
+            exec(alloc, Profile::One, arguments, ClientId(16), reader, writer)
         }
     }
 }

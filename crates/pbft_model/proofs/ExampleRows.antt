@@ -56,7 +56,7 @@ received_in c m (r ∷ rs) (row, inl same, e) = inl (input_is m r.0 (sym e ∙ a
 received_in c m (r ∷ rs) (row, inr later, e) = inr (received_in c m rs (row, later, e))
 
 -- the states that they execute to
-executed_in : (state : Service) (acts : List Act) → ExecutesTo state acts → IsIn state (states_in acts)
+pub executed_in : (state : Service) (acts : List Act) → ExecutesTo state acts → IsIn state (states_in acts)
 executed_in state [] (n, d, o, none) = absurd none
 executed_in state (a ∷ acts) (n, d, o, inl same) = in_append_left state (state_in a) (states_in acts) (subst (λ (b : Act). IsIn state (state_in b)) same (inl refl))
 executed_in state (a ∷ acts) (n, d, o, inr later) = in_append_right state (state_in a) (states_in acts) (executed_in state acts (n, d, o, later))

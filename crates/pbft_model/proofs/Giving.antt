@@ -1,16 +1,19 @@
 -- An input that is taken leads to its row or to a halt: what is due comes to an end within a row.
-use Rattle.std.proofs.Common.{◌≡◌, ℕ, zero, suc, ◌+◌, ◌-◌, ◌<◌, ◌≤◌, Bool, true, false, cond, List, [], ◌∷◌, ◌++◌, Option, Some, None, refl, sym, ap, subst, ◌∙◌, arith, inl, inr}
+use Rattle.std.proofs.Common.{◌≡◌, ◌⊎◌, ℕ, zero, suc, ◌+◌, ◌-◌, ◌<◌, ◌≤◌, Bool, true, false, cond, List, [], ◌∷◌, ◌++◌, Option, Some, None, refl, sym, ap, subst, ◌∙◌, arith, inl, inr}
 use Rattle.std.specs.Prelude.{nat_lt, not, ◌==◌, ◌&&◌, ◌||◌}
-use Rattle.std.proofs.lemmas.Bool.{or_cases, or_left, and_parts, true≢false, ltb-true, lt-ltb, eqb-true, not-true}
+use Rattle.std.proofs.lemmas.Bool.{cases_eq, or_cases, or_left, and_parts, true≢false, ltb-true, lt-ltb, eqb-true, not-true}
 use Rattle.pbft_codec.specs.declared.body.Body.TheVariants as bodies
 use Rattle.pbft_codec.specs.declared.body.fetch.Fetch.TheVariants as fetches
-use Rattle.pbft_model.specs.Words.{leaf_count, Signed, Body, NewView, as_message}
+use Rattle.service_model.specs.Decoding.{Encodes}
+use Rattle.service_model.proofs.Decided.{decided}
+use Rattle.service_model.proofs.Injective.{same_state}
+use Rattle.pbft_model.specs.Words.{leaf_count, Signed, Body, NewView, Snapshot, as_message}
 use Rattle.pbft_model.specs.Sequential.{Service}
 use Rattle.pbft_model.specs.Setup.{Setup, number_limit}
 use Rattle.pbft_model.specs.Core.{Core, start_of}
 use Rattle.pbft_model.specs.Acts.{Act, Take, Timeout, Send, Relay, Enter, Rise, Execute, Install, after, said, is_awaited, left_if_above, left_for}
 use Rattle.pbft_model.specs.Ending.{bit}
-use Rattle.pbft_model.specs.Rules.{Allowed, MaySay, IsReading}
+use Rattle.pbft_model.specs.Rules.{Allowed, MaySay, IsReading, IsReadingOf}
 use Rattle.pbft_model.specs.Duties.{due}
 use Rattle.pbft_model.specs.Rows.{Input, Received, TimedOut, Fulfils, HasLeaves, Follows, Begins, all_outputs, all_done, all_leaves}
 use Rattle.pbft_model.specs.Histories.{core_after, IsHistory}
@@ -285,3 +288,35 @@ snapshot_reads c (bodies.Snapshot b) none = none None (λ state is. none (Some s
 pub none_unread : (c : Setup) (input : Input) → (HasReading c input → ⊥) → ⊥
 none_unread c (Received m) none = snapshot_reads c m.body (λ reading is. none (reading, is))
 none_unread c TimedOut none = none tt
+
+-- ---- a Snapshot has a reading
+
+pub snapshot_read : (c : Setup) (b : Snapshot) → (reading : Option Service) × IsReadingOf c b reading
+snapshot_read c b = elim (decided c.config b.state) [
+  | inl (state, is) ↦ at_number state is (cases_eq state.number b.number.0)
+  | inr never ↦ (None, λ state is. never state (record { config_is = is.config_is; encodes = is.encodes; bounded = is.sound.bounded; sound = is.sound.sound }))
+] where
+  at_number : (state : Service) → Encodes c.config b.state state → (state.number ≡ b.number.0) ⊎ (state.number ≡ b.number.0 → ⊥) → (reading : Option Service) × IsReadingOf c b reading
+  at_number state is (inl number) = (Some state, record { config_is = is.config_is; number_is = number; encodes = is.encodes; sound = record { bounded = is.bounded; sound = is.sound } })
+  at_number state is (inr other) = (
+    None,
+    λ t read. other (ap (λ (u : Service). u.number)
+        (same_state state t is.bounded read.sound.bounded is.sound read.sound.sound (is.config_is ∙ sym read.config_is) (is.encodes ∙ sym read.encodes)) ∙ read.number_is),
+  )
+
+body_read : (c : Setup) (b : Body) → (reading : Option Service) × IsReading c b reading
+body_read c (bodies.Request b) = (None, refl)
+body_read c (bodies.PrePrepare b) = (None, refl)
+body_read c (bodies.Prepare b) = (None, refl)
+body_read c (bodies.Commit b) = (None, refl)
+body_read c (bodies.Reply b) = (None, refl)
+body_read c (bodies.Checkpoint b) = (None, refl)
+body_read c (bodies.ViewChange b) = (None, refl)
+body_read c (bodies.NewView b) = (None, refl)
+body_read c (bodies.Fetch b) = (None, refl)
+body_read c (bodies.Snapshot b) = snapshot_read c b
+
+-- every input has a reading
+pub input_read : (c : Setup) (input : Input) → HasReading c input
+input_read c (Received m) = body_read c m.body
+input_read c TimedOut = tt

@@ -33,6 +33,9 @@ pub mod Steady
 pub mod Digests
 pub mod Example
 pub mod ExampleRows
+pub mod Turns
+pub mod Episode
+pub mod EpisodeRows
 pub mod Later
 pub mod Following
 pub mod Halting

@@ -16,4 +16,5 @@ pub mod Journals
 pub mod RowRules
 pub mod Worked
 pub mod Example
+pub mod Episode
 pub mod Ending

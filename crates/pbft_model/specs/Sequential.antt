@@ -1,4 +1,4 @@
--- Internal: the sequential service, as these definitions speak of it.
+-- Statement: the sequential service, as these definitions speak of it.
 use Rattle.service_model.specs.Bounded.{IsBounded}
 use Rattle.service_model.specs.Sound as sound
 use Rattle.service_model.specs.TenantStates.{Service}

@@ -1,4 +1,4 @@
--- Internal: finite maps from short lists of numbers, as lists of entries in the order of their keys: what
+-- Statement: finite maps from short lists of numbers, as lists of entries in the order of their keys: what
 -- `entries` of std's `FinMap` gives. They are read by `find`, changed by `put` and cut by `where_key`.
 use Rattle.std.specs.Prelude.{ℕ, Bool, cond, List, [], ◌∷◌, Option, is_some, slice_index, nat_lt, map}
 use Rattle.std.specs.Ordering.{nat_cmp}

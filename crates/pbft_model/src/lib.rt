@@ -5,26 +5,28 @@
 
 ghost use Rattle.pbft_model.specs.Setup.{Setup, number_limit, view_limit};
 ghost use Rattle.pbft_model.specs.Ending.{left_to_do};
-ghost use Rattle.std.specs.Prelude.{◌≡◌, ◌≤◌, ◌<◌, ◌⊎◌, ℕ, List, [], ◌∷◌, ◌++◌, Some, None, true};
+ghost use Rattle.std.specs.Prelude.{◌≡◌, ◌≤◌, ◌<◌, ◌⊎◌, ℕ, List, [], ◌∷◌, ◌++◌, Option, Some, None, true};
 ghost use Rattle.std.specs.List.{AllByRecursion, flat_map};
 ghost use Rattle.lms_tree.specs.SigningState.{SigningState};
 ghost use Rattle.pbft_model.specs.Acts.{Act, Execute, after};
 ghost use Rattle.pbft_model.specs.Agreement.{IsHonest, AgreesByNumber};
 ghost use Rattle.pbft_model.specs.Example.{the_setup, the_family, the_journals, the_digest, message_of};
+ghost use Rattle.pbft_model.specs.Episode.{episode_setup, the_episode, the_state_digest, new_view_by_1, IsStableAfter};
+ghost use Rattle.pbft_codec.specs.declared.body.Body.TheVariants as bodies;
 ghost use Rattle.pbft_model.specs.Journals.{Journals, HasDone, HasGiven, IsHonestFamily, ExecutesEach, rises_to, Agrees};
 ghost use Rattle.pbft_model.specs.Core.{Core, request_of, start_of};
-ghost use Rattle.pbft_model.specs.Duties.{Executing, due, NothingBefore};
+ghost use Rattle.pbft_model.specs.Duties.{Executing, due, NothingBefore, reply_body};
 ghost use Rattle.pbft_model.specs.Received.{TakesBytes, ReceivesBytes, ComesBehind, IsOpened, HasReading, IsSnapshot, GivesRowOrHalt};
-ghost use Rattle.pbft_model.specs.Rows.{HasLeaves, Row, Input, TimedOut, Halt, Exhausted, Worn, HaltsBy, Begins, Follows, Executed, Fulfils, Continues, IsLawfulFrom, IsNext, FollowsWithout, RepliesAlone, leaves_in};
+ghost use Rattle.pbft_model.specs.Rows.{HasLeaves, Row, Input, TimedOut, Halt, Exhausted, Worn, HaltsBy, Begins, Follows, Executed, Installed, Fulfils, Continues, IsLawfulFrom, IsNext, FollowsWithout, RepliesAlone, leaves_in};
 ghost use Rattle.pbft_model.specs.RowRules.{HasOneVoice, KeepsViews, ChecksWhereExecuted};
-ghost use Rattle.pbft_model.specs.Rules.{Allowed};
+ghost use Rattle.pbft_model.specs.Rules.{Allowed, IsReadingOf};
 ghost use Rattle.pbft_model.specs.Sequential.{Service, Outcome, IsStep};
 ghost use Rattle.sha2.specs.Sha256.{sha256};
 ghost use Rattle.host_types.specs.Configuration.{IsConfiguration};
 ghost use Rattle.pbft_model.specs.Setup.{signer_after};
-ghost use Rattle.pbft_model.specs.Words.{leaf_count, part_of};
+ghost use Rattle.pbft_model.specs.Words.{Snapshot, leaf_count, part_of, as_message};
 ghost use Rattle.host_types.specs.declared.request.Reply.{Reply};
-ghost use Rattle.pbft_model.specs.Worked.{Works, reply_in_view_0, toy, serving, fresh, through_backup, through_primary, timing_out, changing_view, joining_view, reaching_a_checkpoint, installing, through_all, IsDiscarded};
+ghost use Rattle.pbft_model.specs.Worked.{Works, reply_in_view_0, the_reply, toy, serving, fresh, through_backup, through_primary, timing_out, changing_view, joining_view, reaching_a_checkpoint, installing, through_all, IsDiscarded};
 ghost use Rattle.pbft_model.specs.Histories.{Family, IsCorrect, IsUnforged, IsSteady, HasCommitted, HasExecuted, AgreesByView, ExecutesAlike, IsHistory, core_after};
 
 /// Agreement by view: where nobody forges, no two digests are committed at one number, whatever
@@ -85,6 +87,22 @@ pub fn honest_journals_execute()
     ensures executes { (secrets : ℕ → List ℕ) → IsCorrect (the_setup sha256 secrets) (the_journals sha256 secrets).faulty 1
         × HasDone (Executed 1 the_digest (1 ∷ [])) ((the_journals sha256 secrets).rows 1) }
     ensures replies { (secrets : ℕ → List ℕ) → HasGiven (part_of (message_of secrets 1 2 reply_in_view_0)) ((the_journals sha256 secrets).rows 1) }
+{}
+
+/// An honest family of journals under SHA-256 in which a request is executed in view 0 by one correct
+/// replica and in view 1 by another, where the NewView carries the request's certificate; number 1
+/// becomes stable at both, and the third correct replica fetches the snapshot and installs it. Whatever the
+/// signers' secrets are: valid signatures and digests that don't collide are computed.
+pub fn honest_journals_change_views()
+    ensures honest { (secrets : ℕ → List ℕ) → IsHonestFamily (episode_setup sha256 secrets) (the_episode sha256 secrets) }
+    ensures executes { (secrets : ℕ → List ℕ) → HasDone (Executed 1 the_digest (1 ∷ [])) ((the_episode sha256 secrets).rows 0)
+        × HasDone (Executed 1 the_digest (1 ∷ [])) ((the_episode sha256 secrets).rows 1) }
+    ensures replies { (secrets : ℕ → List ℕ) → HasGiven (part_of (message_of secrets 0 2 reply_in_view_0)) ((the_episode sha256 secrets).rows 0)
+        × HasGiven (part_of (message_of secrets 1 6 (reply_body 1 the_reply))) ((the_episode sha256 secrets).rows 1) }
+    ensures changes { (secrets : ℕ → List ℕ) → HasGiven (part_of (as_message bodies.NewView (new_view_by_1 secrets))) ((the_episode sha256 secrets).rows 1) }
+    ensures stable { (secrets : ℕ → List ℕ) → (i : ℕ) → (i ≡ 0) ⊎ ((i ≡ 1) ⊎ (i ≡ 2))
+        → IsStableAfter (episode_setup sha256 secrets) (the_episode sha256 secrets) i 1 (0 ∷ 1 ∷ 3 ∷ []) }
+    ensures installs { (secrets : ℕ → List ℕ) → HasDone (Installed 1 the_state_digest) ((the_episode sha256 secrets).rows 2) }
 {}
 
 /// What is due is allowed: whatever act does the duty, at each point of a history.
@@ -175,10 +193,16 @@ pub fn an_input_gives_a_row_or_a_halt()
         ⊎ ((halt : Halt) × HaltsBy c me s input halt)) }
 {}
 
-/// Behind the rows of a journal every input gives its row or halts the replica, as soon as it begins: a timeout, a
-/// message that was opened and is no Snapshot, and a Snapshot with its reading. That a Snapshot has none is
-/// impossible; which it has, a decoder decides. So for no input both are impossible.
+/// A Snapshot has a reading: its bytes encode a state at its number, or none.
+pub fn a_snapshot_has_a_reading()
+    ensures { (c : Setup) (b : Snapshot) → (reading : Option Service) × IsReadingOf c b reading }
+{}
+
+/// Behind the rows of a journal every input gives its row or halts the replica: a timeout, and every message that was
+/// opened (`all`). So it is as soon as an input begins, for a Snapshot with its reading and for other messages by
+/// themselves; and for no input both are impossible.
 pub fn every_input_gives_a_row_or_a_halt()
+    ensures all { (c : Setup) (me : ℕ) (s : Core) (input : Input) → ComesBehind c me s input → IsOpened c input → GivesRowOrHalt c me s input }
     ensures begun { (c : Setup) (me : ℕ) (s : Core) (input : Input) → ComesBehind c me s input → (first : Act) → Begins c input first → GivesRowOrHalt c me s input }
     ensures read { (c : Setup) (me : ℕ) (s : Core) (input : Input) → ComesBehind c me s input → IsOpened c input → HasReading c input → GivesRowOrHalt c me s input }
     ensures others { (c : Setup) (me : ℕ) (s : Core) (input : Input) → ComesBehind c me s input → IsOpened c input → (IsSnapshot input → ⊥) → GivesRowOrHalt c me s input }

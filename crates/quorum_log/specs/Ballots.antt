@@ -1,4 +1,4 @@
--- Statement: what is recorded of the votes of replicas on one question, such as which digest has a number.
+-- Layer: what is recorded of the votes of replicas on one question, such as which digest has a number.
 use Rattle.std.specs.Prelude.{◌≡◌, ℕ, zero, suc, ◌+◌, ◌*◌, ◌^◌, ◌≤◌, Bool, false, cond, List, Option, Some, None, length, slice_index_or, slice_set, bytes_eq, unwrap_or}
 use Rattle.std.specs.Option.{option_map}
 use Rattle.std.specs.Ordering.{nat_cmp}

@@ -1,4 +1,4 @@
--- Statement: what a replica records of votes, as the protocol's core keeps it, and what is done with it.
+-- Layer: what a replica records of votes, as the protocol's core keeps it, and what is done with it.
 use Rattle.std.specs.Prelude.{◌≡◌, ℕ, ◌+◌, ◌*◌, ◌==◌, ◌<◌, ◌≤◌, ◌^◌, Bool, true, false, ◌&&◌, not, cond, nat_lt, nat_le, List, [], ◌∷◌, map, Option, Some, None, IsSome, bytes_eq, if◌then◌else◌}
 use Rattle.host_types.specs.Configuration.{Configuration}
 use Rattle.pbft_codec.specs.declared.body.Body.{Body}

@@ -13,7 +13,7 @@ use Rattle.pbft_model.specs.Acts.{Act, All, Destination, Execute, Relay, Rise, S
 use Rattle.pbft_model.specs.Core.{Core, proof_of}
 use Rattle.pbft_model.specs.Duties.{Do, Duty, Executing, WornOut, due, due_open, due_reply, reply_body, say, when}
 use Rattle.pbft_model.specs.Rows as model
-use Rattle.pbft_model.specs.Rows.{Fulfils, HasLeaves, Lacks, all_done, all_leaves, all_outputs, done_of, leaves_for, outputs_of}
+use Rattle.pbft_model.specs.Rows.{Fulfils, HasLeaves, Lacks, done_of, leaves_for, outputs_of}
 use Rattle.pbft_model.specs.Rules.{new_view_of, own_message}
 use Rattle.pbft_model.specs.Setup.{signer_after}
 use Rattle.pbft_model.proofs.Leaves.{signer_by}

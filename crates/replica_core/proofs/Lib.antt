@@ -36,3 +36,4 @@ pub mod Ascending
 pub mod Ceasing
 pub mod Opening
 pub mod Reacting
+pub mod LowMarks

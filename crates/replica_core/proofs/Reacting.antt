@@ -7,7 +7,7 @@ use Rattle.pbft_model.specs.Acts.{Act, Take, after, recorded}
 use Rattle.pbft_model.specs.Core.{Core, start_of}
 use Rattle.pbft_model.specs.Duties.{due}
 use Rattle.pbft_model.specs.Rows as model
-use Rattle.pbft_model.specs.Rows.{Begins, Follows, IsLawfulFrom, IsNext, all_done, all_leaves, all_outputs}
+use Rattle.pbft_model.specs.Rows.{Begins, Follows, IsLawfulFrom, IsNext, all_done, all_outputs}
 use Rattle.pbft_model.specs.Rules.{IsReading}
 use Rattle.pbft_model.specs.Sequential.{Service}
 use Rattle.pbft_model.specs.Setup.{Setup}

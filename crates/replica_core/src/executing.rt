@@ -8,7 +8,7 @@ ghost use Rattle.pbft_model.specs.Tables.{number_key, with_entry};
 ghost use Rattle.replica_core.specs.Facts.{done_of};
 ghost use Rattle.replica_core.specs.declared.halt.Halt.TheVariants.{Memory};
 
-use crate::halt::Halt;
+use crate::halt::{Halt, or_out_of_memory};
 use crate::kept::Core;
 use crate::row::Done;
 use host_types::{Bytes, Reply, Request, SeqNo};
@@ -39,8 +39,7 @@ impl Core {
         ensures kept { OnOk result (self.new ≡ record self.old { core = record self.old.core { snapshots = with_entry self.old.core.snapshots (number_key number.0) bytes } }) }
         ensures memory { IfErr result (λ halt. halt ≡ Memory) }
     {
-        self.checkpoints.keep(number, bytes)?;
-        Ok(())
+        or_out_of_memory(self.checkpoints.keep(number, bytes))
     }
 
     /// Keeps the state, if the number is a multiple of the interval.

@@ -1,15 +1,14 @@
 //! Why a replica has stopped.
 
-ghost use Rattle.std.specs.Prelude.{◌≡◌};
+ghost use Rattle.std.specs.Prelude.{◌≡◌, Ok, IfErr, IfOk};
 ghost use Rattle.replica_core.specs.Halts.{unless_memory};
+ghost use Rattle.replica_core.specs.declared.halt.Halt.TheVariants.{Memory};
 
-use checkpoints::CheckpointFault;
 use lms_tree::SignFault;
 use quorum_log::LogFault;
 use std::alloc::{AllocError, AllocFailed};
 use std::error::Error;
 use std::fmt::{self, Display, Formatter};
-use view_change::ViewFault;
 
 /// Why a replica has stopped for good. What it did for the message or the timeout by which it stopped is
 /// not given.
@@ -87,39 +86,6 @@ impl<T: Drop> From<AllocFailed<T>> for Halt {
     }
 }
 
-impl From<CheckpointFault> for Halt {
-    ghost use Rattle.std.specs.Prelude.{◌≡◌};
-    ghost use Rattle.replica_core.specs.declared.halt.Halt.TheVariants.{Memory};
-
-    ghost from_gives = { λ _ gives. gives ≡ Memory };
-
-    fn from(_: CheckpointFault) -> Halt {
-        Halt::Memory
-    }
-}
-
-impl From<LogFault> for Halt {
-    ghost use Rattle.std.specs.Prelude.{◌≡◌};
-    ghost use Rattle.replica_core.specs.declared.halt.Halt.TheVariants.{Memory};
-
-    ghost from_gives = { λ _ gives. gives ≡ Memory };
-
-    fn from(_: LogFault) -> Halt {
-        Halt::Memory
-    }
-}
-
-impl From<ViewFault> for Halt {
-    ghost use Rattle.std.specs.Prelude.{◌≡◌};
-    ghost use Rattle.replica_core.specs.declared.halt.Halt.TheVariants.{Memory};
-
-    ghost from_gives = { λ _ gives. gives ≡ Memory };
-
-    fn from(_: ViewFault) -> Halt {
-        Halt::Memory
-    }
-}
-
 impl From<SignFault> for Halt {
     ghost use Rattle.std.specs.Prelude.{◌≡◌};
     ghost use Rattle.replica_core.specs.Halts.{of_signing};
@@ -131,6 +97,17 @@ impl From<SignFault> for Halt {
             SignFault::Exhausted => Halt::Exhausted,
             SignFault::Memory => Halt::Memory,
         }
+    }
+}
+
+/// What a call gave that nothing refuses but want of memory, which stops the replica.
+pub(crate) fn or_out_of_memory<T, E: Drop>(answer: Result<T, E>) -> Result<T, Halt>
+    ensures given { IfOk result (λ given. answer ≡ Ok given) }
+    ensures memory { IfErr result (λ halt. halt ≡ Memory) }
+{
+    match answer {
+        Ok(given) => Ok(given),
+        Err(_) => Err(Halt::Memory),
     }
 }
 

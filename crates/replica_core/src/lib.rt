@@ -14,6 +14,7 @@ mod executing;
 mod halt;
 mod inputs;
 mod kept;
+mod laws;
 mod noting;
 mod recording;
 mod replica;
@@ -26,5 +27,6 @@ mod step;
 mod views;
 
 pub use halt::Halt;
+pub use laws::checkpoints_give_valid_proofs;
 pub use replica::{Replica, Status, rows_are_lawful};
 pub use row::{Dest, Done, Input, Output, Row};

@@ -19,7 +19,7 @@ ghost use Rattle.replica_core.specs.Opens.{AreGiven, IsProposal, IsToOpen, after
 ghost use Rattle.replica_core.specs.Settling.{IsReached};
 ghost use Rattle.replica_core.specs.OwnViewChange.{own_view_change};
 
-use crate::halt::Halt;
+use crate::halt::{Halt, or_out_of_memory};
 use crate::kept::Core;
 use crate::row::Dest;
 use host_types::{SeqNo, View};
@@ -54,9 +54,9 @@ impl Core {
         ensures memory { IfErr result (λ halt. halt ≡ Memory) }
     {
         let low = self.low();
-        let proof = self.checkpoints.proof(low)?;
+        let proof = or_out_of_memory(self.checkpoints.proof(low))?;
         let certificates = self.kept.list()?;
-        Ok(make(self.alloc, view, low, &proof, &certificates)?)
+        or_out_of_memory(make(self.alloc, view, low, &proof, &certificates))
     }
 
     /// Leaves the view for a higher one, which is not entered yet. The certificates of the view that is
@@ -93,7 +93,8 @@ impl Core {
         if self.prepared_at(number).is_none() {
             return Ok(());
         }
-        if let Some(certificate) = self.log.certificate(self.view(), number)? {
+        let certificate = or_out_of_memory(self.log.certificate(self.view(), number))?;
+        if let Some(certificate) = certificate {
             self.kept.keep(number, certificate)?;
         }
         Ok(())
@@ -134,7 +135,10 @@ impl Core {
         let basis = message.copy()?;
         let pre_prepares = nested_pre_prepares(self.alloc, message)?;
         let floor = floor_of(opened.changes.as_slice());
-        self.log.enter(opened.view, floor, &pre_prepares)?;
+        match self.log.enter(opened.view, floor, &pre_prepares) {
+            Ok(()) => {}
+            Err(_) => return Err(Halt::Memory),
+        }
         self.basis = Some(basis);
         self.sent.clear_view();
         Ok(())
@@ -175,7 +179,7 @@ impl Core {
         ensures memory { IfErr result (λ halt. halt ≡ Memory) }
     {
         let _ = changes.as_slice();
-        let opening = new_view(self.alloc, self.view(), changes)?;
+        let opening = or_out_of_memory(new_view(self.alloc, self.view(), changes))?;
         Ok(opening.entries)
     }
 
@@ -194,7 +198,12 @@ impl Core {
         ensures short { IfErr result (IsShortOf self.old (1 + length entries.now)) }
     {
         let pre_prepares = self.signed_list(entries)?;
-        let body = make_new_view(self.alloc, self.view(), changes, &pre_prepares)?;
+        let body = or_out_of_memory(make_new_view(
+            self.alloc,
+            self.view(),
+            changes,
+            &pre_prepares,
+        ))?;
         self.send(Dest::All, body)
     }
 

@@ -1,5 +1,5 @@
 -- What holds of a replica with its journal before its first message, and what a step keeps.
-use Rattle.std.proofs.Common.{◌≡◌, ℕ, ◌+◌, ◌<◌, ◌≤◌, ◌⊎◌, inl, inr, List, [], ◌∷◌, ◌++◌, length, map, Option, Some, None, Result, Ok, Err, refl, sym, ap, subst, ◌∙◌, arith, length-append}
+use Rattle.std.proofs.Common.{◌≡◌, ℕ, ◌<◌, List, [], ◌∷◌, ◌++◌, length, map, Option, Some, None, Result, Ok, Err, refl, sym, ap, subst, ◌∙◌, arith, length-append}
 use Rattle.std.specs.Prelude.{IsSomeAnd, IfOk, IfErr}
 use Rattle.std.proofs.lemmas.List.{map-append}
 use Rattle.host_types.specs.Configuration.{Configuration}
@@ -8,17 +8,19 @@ use Rattle.lms_tree.specs.SigningState.{SigningState}
 use Rattle.pbft_codec.specs.declared.signed.Role.TheVariants as roles
 use Rattle.seal.specs.Signers.{key_of}
 use Rattle.pbft_model.specs.Core.{Core, start_of}
-use Rattle.pbft_model.specs.Rows.{IsJournal, IsLawfulFrom, IsListed, IsNext}
+use Rattle.pbft_model.specs.Rows.{IsLawfulFrom, IsListed, IsNext}
 use Rattle.pbft_model.specs.Rows as model
 use Rattle.pbft_model.proofs.Reporting.{one_row_more}
 use Rattle.view_change.specs.Setups.{setup_of}
 use Rattle.replica_core.specs.Facts.{RowFacts, row_of}
-use Rattle.replica_core.specs.Steps.{Goes, ReplicaFacts, Steps, Stops, StopsFrom, first_with, status_of}
+use Rattle.replica_core.specs.Steps.{Goes, ReplicaFacts, Stops, StopsFrom, first_with, status_of}
 use Rattle.replica_core.specs.declared.halt.Halt.{Halt}
 use Rattle.replica_core.specs.declared.halt.Halt.TheVariants as halts
 use Rattle.replica_core.specs.declared.replica.Status.{Status}
 use Rattle.replica_core.specs.declared.row.Input.{Input}
-use Rattle.replica_journal.specs.Keeping.{Advances, Appends, CannotStep, HaltsFor, HaltsWith, IsKept, JournalFacts, first_journal, stands}
+use Rattle.replica_journal.specs.Keeping.{Advances, Appends, CannotStep, HaltsFor, HaltsWith, IsHaltOf, IsKept, JournalFacts, KeeperFacts, Keeps, RunsOut, first_journal, stands}
+use Rattle.replica_journal.specs.declared.unkept.Unkept.{Unkept}
+use Rattle.replica_journal.specs.declared.unkept.Unkept.TheVariants as unkept
 
 -- ---- before the first message
 
@@ -37,7 +39,7 @@ first_kept c me limit signer listed = record {
 
 -- ---- a row more
 
-abbrev at : ReplicaFacts → List RowFacts → ℕ → Status → JournalFacts
+abbrev pub at : ReplicaFacts → List RowFacts → ℕ → Status → JournalFacts
 at replica rows limit status = record { replica = replica; rows = rows; limit = limit; status = status }
 
 the_same : (s t : Core) → Some s ≡ Some t → s ≡ t
@@ -95,17 +97,13 @@ stopped : (r t : ReplicaFacts) (core : Option Core) (input : Input) (halt : Halt
 stopped r t None input halt stops = (ap (λ (x : ReplicaFacts). x.config) stops.1, ap (λ (x : ReplicaFacts). x.me) stops.1)
 stopped r t (Some s) input halt stops = changed r t None (record r.status { halted = Some halt }) stops.1
 
-stays : (r t : ReplicaFacts) (input : Input) (stepped : Result RowFacts Halt) → Steps r input stepped t → StaysWho r t
-stays r t input (Ok row) goes = changed r t (Some goes.next) (status_of goes.next) goes.new
-stays r t input (Err halt) stops = stopped r t r.core input halt stops
-
 -- Its row was kept.
-pub appended : (r t : ReplicaFacts) (rows rows' : List RowFacts) (limit : ℕ) (status status' : Status) (input : Input) (stepped : Result RowFacts Halt) (row : RowFacts)
-    → status.halted ≡ None → length rows < limit → Steps r input stepped t → stepped ≡ Ok row → rows' ≡ rows ++ row ∷ [] → status' ≡ t.status
-    → Appends (at r rows limit status) input row (at t rows' limit status')
-appended r t rows rows' limit status status' input stepped row running room steps is rows_are status_is = record {
+appended : (k t : KeeperFacts) (limit : ℕ) (status status' : Status) (input : Input) (row : RowFacts) → status.halted ≡ None → length k.rows < limit
+    → Goes k.replica input row t.replica → t.rows ≡ k.rows ++ row ∷ [] → status' ≡ t.replica.status
+    → Appends (at k.replica k.rows limit status) input row (at t.replica t.rows limit status')
+appended k t limit status status' input row running room goes rows_are status_is = record {
   may = record { running = running; room = room };
-  goes = subst (λ (x : Result RowFacts Halt). Steps r input x t) is steps;
+  goes = goes;
   rows_are = rows_are;
   limit_is = refl;
   status_is = status_is;
@@ -127,31 +125,32 @@ halts_of r t rows rows' limit status status' input core halts.JournalFull runnin
 halts_of r t rows rows' limit status status' input core halts.AlreadyHalted running room is stops rows_are status_is =
     absurd (subst (λ (c : Option Core). StopsFrom c r input halts.AlreadyHalted t) is stops).0
 
-ran_out : (r t : ReplicaFacts) (rows rows' : List RowFacts) (limit : ℕ) (status status' : Status) (input : Input) (stepped : Result RowFacts Halt) (halt : Halt)
-    → status.halted ≡ None → length rows < limit → Steps r input stepped t → halt ≡ halts.Memory → rows' ≡ rows → status' ≡ record status { halted = Some halt }
-    → HaltsFor (at r rows limit status) input halt (at t rows' limit status')
-ran_out r t rows rows' limit status status' input stepped halt running room steps is rows_are status_is =
-    let who = stays r t input stepped steps in
-    subst (λ (h : Halt). HaltsFor (at r rows limit status) input h (at t rows' limit status')) (sym is)
-    (record {
+ran_out : (r t : ReplicaFacts) (rows rows' : List RowFacts) (limit : ℕ) (status status' : Status) (input : Input) (row : RowFacts)
+    → status.halted ≡ None → length rows < limit → Goes r input row t → rows' ≡ rows → status' ≡ record status { halted = Some halts.Memory }
+    → RunsOut (at r rows limit status) (at t rows' limit status')
+ran_out r t rows rows' limit status status' input row running room goes rows_are status_is =
+    let who = changed r t (Some goes.next) (status_of goes.next) goes.new in record {
       may = record { running = running; room = room };
       config_is = who.0;
       me_is = who.1;
-      halts = record { rows_are = rows_are; limit_is = refl; status_is = subst (λ (h : Halt). status' ≡ record status { halted = Some h }) is status_is };
-    })
+      halts = record { rows_are = rows_are; limit_is = refl; status_is = status_is };
+    }
 
 -- No row was kept.
-pub halted : (r t : ReplicaFacts) (rows rows' : List RowFacts) (limit : ℕ) (status status' : Status) (input : Input) (stepped : Result RowFacts Halt) (halt : Halt)
-    → IsKept (at r rows limit status) → status.halted ≡ None → length rows < limit → Steps r input stepped t → (stepped ≡ Err halt) ⊎ (halt ≡ halts.Memory)
-    → rows' ≡ rows → status' ≡ record status { halted = Some halt } → HaltsFor (at r rows limit status) input halt (at t rows' limit status')
-halted r t rows rows' limit status status' input stepped halt k running room steps (inl is) rows_are status_is =
-    halts_of r t rows rows' limit status status' input k.journal.last halt running room (k.running running)
-    (subst (λ (x : Result RowFacts Halt). Steps r input x t) is steps) rows_are status_is
-halted r t rows rows' limit status status' input stepped halt k running room steps (inr is) rows_are status_is =
-    ran_out r t rows rows' limit status status' input stepped halt running room steps is rows_are status_is
+halted : (k t : KeeperFacts) (limit : ℕ) (status status' : Status) (input : Input) (stepped : Result RowFacts Unkept) (halt : Halt)
+    → IsKept (at k.replica k.rows limit status) → status.halted ≡ None → length k.rows < limit → Keeps k input stepped t → IsHaltOf stepped halt
+    → status' ≡ record status { halted = Some halt } → HaltsFor (at k.replica k.rows limit status) input halt (at t.replica t.rows limit status')
+halted k t limit status status' input (Ok row) halt kept running room keeps is status_is = absurd is
+halted k t limit status status' input (Err (unkept.Halted why)) halt kept running room keeps is status_is =
+    halts_of k.replica t.replica k.rows t.rows limit status status' input kept.journal.last halt running room (kept.running running)
+    (subst (λ (h : Halt). Stops k.replica input h t.replica) (sym is) keeps.0) keeps.1 status_is
+halted k t limit status status' input (Err unkept.Memory) halt kept running room keeps is status_is =
+    let now : status' ≡ record status { halted = Some halts.Memory } = subst (λ (h : Halt). status' ≡ record status { halted = Some h }) is status_is in
+    subst (λ (h : Halt). HaltsFor (at k.replica k.rows limit status) input h (at t.replica t.rows limit status')) (sym is)
+    (ran_out k.replica t.replica k.rows t.rows limit status status' input keeps.0.0 running room keeps.0.1 keeps.1 now)
 
 -- No step could be made.
-pub could_not : (r : ReplicaFacts) (rows : List RowFacts) (limit : ℕ) (status status' : Status) (input : Input) (halt : Halt) → CannotStep (length rows) limit status halt status'
+could_not : (r : ReplicaFacts) (rows : List RowFacts) (limit : ℕ) (status status' : Status) (input : Input) (halt : Halt) → CannotStep (length rows) limit status halt status'
     → HaltsFor (at r rows limit status) input halt (at r rows limit status')
 could_not r rows limit status status' input halts.AlreadyHalted cannot = (cannot.0, ap (λ (s : Status). at r rows limit s) cannot.1)
 could_not r rows limit status status' input halts.JournalFull cannot =
@@ -206,20 +205,18 @@ as_first c me limit signer r rows status listed is none status_is =
     let by_rows = subst (λ (xs : List RowFacts). IsKept (at (first_with c me signer) xs limit status)) (sym none) by_status in
     subst (λ (x : ReplicaFacts). IsKept (at x rows limit status)) (sym is) by_rows
 
-pub cannot_keeps : (r : ReplicaFacts) (rows : List RowFacts) (limit count : ℕ) (status status' : Status) (input : Input) (halt : Halt) → IsKept (at r rows limit status)
-    → count ≡ length rows → CannotStep count limit status halt status' → IsKept (at r rows limit status')
-cannot_keeps r rows limit count status status' input halt k same cannot =
-    let not = subst (λ (n : ℕ). CannotStep n limit status halt status') same cannot in
-    advance_keeps (at r rows limit status) (at r rows limit status') input (Err halt) k (could_not r rows limit status status' input halt not)
+-- A step was made, or could not be.
+pub could_not_step : (k : KeeperFacts) (limit count : ℕ) (status status' : Status) (input : Input) (halt : Halt) → count ≡ length k.rows
+    → CannotStep count limit status halt status' → HaltsFor (at k.replica k.rows limit status) input halt (at k.replica k.rows limit status')
+could_not_step k limit count status status' input halt same cannot =
+    could_not k.replica k.rows limit status status' input halt (subst (λ (n : ℕ). CannotStep n limit status halt status') same cannot)
 
-pub finish_keeps : (r t : ReplicaFacts) (rows rows' : List RowFacts) (limit : ℕ) (status status' stands : Status) (input : Input) (stepped result : Result RowFacts Halt)
-    → IsKept (at r rows limit status) → status.halted ≡ None → length rows < limit → Steps r input stepped t → stands ≡ t.status
-    → IfOk result (λ row. (stepped ≡ Ok row) × (rows' ≡ rows ++ row ∷ []) × (status' ≡ stands))
-    → IfErr result (λ halt. ((stepped ≡ Err halt) ⊎ (halt ≡ halts.Memory)) × (rows' ≡ rows) × (status' ≡ record status { halted = Some halt }))
-    → IsKept (at t rows' limit status')
-finish_keeps r t rows rows' limit status status' stands input stepped (Ok row) k running room steps stands_is ok err =
-    advance_keeps (at r rows limit status) (at t rows' limit status') input (Ok row) k
-    (appended r t rows rows' limit status status' input stepped row running room steps ok.0 ok.1 (ok.2 ∙ stands_is))
-finish_keeps r t rows rows' limit status status' stands input stepped (Err halt) k running room steps stands_is ok err =
-    advance_keeps (at r rows limit status) (at t rows' limit status') input (Err halt) k
-    (halted r t rows rows' limit status status' input stepped halt k running room steps err.0 err.1 err.2)
+pub stepped : (k t : KeeperFacts) (limit : ℕ) (status status' stands : Status) (input : Input) (step : Result RowFacts Unkept) (result : Result RowFacts Halt)
+    → IsKept (at k.replica k.rows limit status) → status.halted ≡ None → length k.rows < limit → Keeps k input step t → stands ≡ t.replica.status
+    → IfOk result (λ row. (step ≡ Ok row) × (status' ≡ stands)) → IfErr result (λ halt. IsHaltOf step halt × (status' ≡ record status { halted = Some halt }))
+    → Advances (at k.replica k.rows limit status) input result (at t.replica t.rows limit status')
+stepped k t limit status status' stands input step (Ok row) kept running room keeps stands_is ok err =
+    let goes = subst (λ (x : Result RowFacts Unkept). Keeps k input x t) ok.0 keeps in
+    appended k t limit status status' input row running room goes.0 goes.1 (ok.1 ∙ stands_is)
+stepped k t limit status status' stands input step (Err halt) kept running room keeps stands_is ok err =
+    halted k t limit status status' input step halt kept running room keeps err.0 err.1

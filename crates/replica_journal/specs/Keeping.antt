@@ -1,4 +1,4 @@
--- Statement: what holds of a replica with its journal, and what a step makes of it.
+-- Statement: a replica with its rows, and with its journal: what holds of it, and what a step makes of it.
 use Rattle.std.specs.Prelude.{◌≡◌, ℕ, ◌<◌, ◌≤◌, List, [], ◌∷◌, ◌++◌, length, map, Option, Some, None, Result, Ok, Err, IsSome}
 use Rattle.host_types.specs.Configuration.{Configuration}
 use Rattle.lms_tree.specs.SigningState.{SigningState}
@@ -12,6 +12,24 @@ use Rattle.replica_core.specs.declared.halt.Halt.{Halt}
 use Rattle.replica_core.specs.declared.halt.Halt.TheVariants as halts
 use Rattle.replica_core.specs.declared.replica.Status.{Status}
 use Rattle.replica_core.specs.declared.row.Input.{Input}
+use Rattle.replica_journal.specs.declared.unkept.Unkept.{Unkept}
+use Rattle.replica_journal.specs.declared.unkept.Unkept.TheVariants as unkept
+
+-- ---- a replica and its rows
+
+-- What a contract sees of a replica with the rows that it gave, the oldest first.
+pub record KeeperFacts : Type 0 where
+  pub replica : ReplicaFacts
+  pub rows : List RowFacts
+
+-- What an input makes of it: the row of the replica's step is appended. Where the replica halts there is none; where
+-- memory ran out for the row, the replica has made its step nonetheless.
+abbrev pub Keeps : KeeperFacts → Input → Result RowFacts Unkept → KeeperFacts → Type 0
+Keeps k input (Ok row) t = Goes k.replica input row t.replica × (t.rows ≡ k.rows ++ row ∷ [])
+Keeps k input (Err (unkept.Halted halt)) t = Stops k.replica input halt t.replica × (t.rows ≡ k.rows)
+Keeps k input (Err unkept.Memory) t = ((row : RowFacts) × Goes k.replica input row t.replica) × (t.rows ≡ k.rows)
+
+-- ---- a journal
 
 -- What a contract sees of a replica with its journal.
 pub record JournalFacts : Type 0 where
@@ -95,6 +113,12 @@ CannotStep rows limit was halts.JournalFull now = (was.halted ≡ None) × (limi
 CannotStep rows limit was halts.Exhausted now = ⊥
 CannotStep rows limit was halts.Memory now = ⊥
 CannotStep rows limit was halts.Worn now = ⊥
+
+-- the halt of a step that left no row
+abbrev pub IsHaltOf : Result RowFacts Unkept → Halt → Type 0
+IsHaltOf (Ok row) halt = ⊥
+IsHaltOf (Err (unkept.Halted why)) halt = halt ≡ why
+IsHaltOf (Err unkept.Memory) halt = halt ≡ halts.Memory
 
 -- It halts for this reason, or had halted before.
 abbrev pub HaltsFor : JournalFacts → Input → Halt → JournalFacts → Type 0

@@ -1,6 +1,6 @@
-//! A replica with the rows that it gave.
+//! A replica with its journal.
 
-ghost use Rattle.std.specs.Prelude.{◌≡◌, ◌≤◌, ◌<◌, ◌++◌, ◌∷◌, ◌⊎◌, [], None, Some, Ok, Err, IfErr, IfOk, IsSomeAnd, OnErr, OnOk, length, map};
+ghost use Rattle.std.specs.Prelude.{◌≡◌, ◌≤◌, ◌<◌, ◌↔◌, None, Some, Ok, IfErr, IfOk, IsSomeAnd, IsTrue, OnOk, map};
 ghost use Rattle.host_types.specs.Configuration.{replicas_for};
 ghost use Rattle.lms_tree.specs.Keys.{IsKeyOf};
 ghost use Rattle.pbft_codec.specs.declared.signed.Role.TheVariants as roles;
@@ -10,8 +10,10 @@ ghost use Rattle.view_change.specs.Setups.{setup_of};
 ghost use Rattle.replica_core.specs.Facts.{row_of};
 ghost use Rattle.replica_core.specs.declared.halt.Halt.TheVariants as halts;
 ghost use Rattle.replica_core.specs.declared.row.Input.TheVariants as inputs;
-ghost use Rattle.replica_journal.specs.Keeping.{Advances, CannotStep, IsKept, first_journal};
+ghost use Rattle.replica_journal.specs.Keeping.{Advances, CannotStep, IsHaltOf, IsKept, MayStep, first_journal};
 
+use crate::keeper::Keeper;
+use crate::unkept::Unkept;
 use host_types::{Config, ReplicaId};
 use lms_tree::Signer;
 use replica_core::{Halt, Replica, Row, Status};
@@ -23,8 +25,7 @@ use std::sync::Arc;
 /// A replica with its journal. Once it has halted it gives no further row.
 #[derive(Drop)]
 pub struct Journal {
-    replica: Replica,
-    rows: Vec<Row>,
+    keeper: Keeper,
     limit: usize,
     /// After the last row: where a row can't be kept, the replica itself stands further.
     status: Status,
@@ -39,9 +40,9 @@ impl Model for Journal {
 
     ghost coded = { Prim.hlevel (codes, service_code) };
 
-    ghost view = { λ j. record { replica = j.replica; rows = j.rows.items; limit = j.limit; status = j.status } };
+    ghost view = { λ j. record { replica = j.keeper.replica; rows = j.keeper.rows; limit = j.limit; status = j.status } };
 
-    ghost invariant = { λ j. IsKept (record { replica = j.replica; rows = j.rows.items; limit = j.limit; status = j.status }) };
+    ghost invariant = { λ j. IsKept (record { replica = j.keeper.replica; rows = j.keeper.rows; limit = j.limit; status = j.status }) };
 }
 
 impl Journal {
@@ -58,11 +59,10 @@ impl Journal {
         requires key { IsSomeAnd (key_of config.now.value roles.Replica id.0) (λ key. IsKeyOf key signer) }
         ensures { IfOk result (λ j. j ≡ first_journal config.now.value id.0 signer limit) }
     {
-        let replica = Replica::new(alloc, config, id, signer)?;
-        let status = replica.status();
+        let keeper = Keeper::new(alloc, config, id, signer)?;
+        let status = keeper.replica().status();
         Ok(Journal {
-            replica,
-            rows: Vec::new(alloc),
+            keeper,
             limit,
             status,
         })
@@ -78,14 +78,13 @@ impl Journal {
         ensures kept { IsKept self.new }
     {
         let Journal {
-            replica,
-            rows,
+            keeper,
             limit,
             status,
         } = self;
-        may_step(rows.len(), *limit, status)?;
-        let stepped = replica.take(message);
-        finish(rows, status, replica.status(), stepped)
+        may_step(keeper.rows().len(), *limit, status)?;
+        let stepped = keeper.take(message);
+        finish(status, keeper.replica().status(), stepped)
     }
 
     /// Takes a timeout. Its row is appended to the journal; the halts are those of `take`.
@@ -94,19 +93,20 @@ impl Journal {
         ensures kept { IsKept self.new }
     {
         let Journal {
-            replica,
-            rows,
+            keeper,
             limit,
             status,
         } = self;
-        may_step(rows.len(), *limit, status)?;
-        let stepped = replica.timeout();
-        finish(rows, status, replica.status(), stepped)
+        may_step(keeper.rows().len(), *limit, status)?;
+        let stepped = keeper.timeout();
+        finish(status, keeper.replica().status(), stepped)
     }
 
     /// Whether the replica may step: it has not halted, and there is room for a row. It takes no memory.
-    pub fn can_step(&self) -> bool {
-        self.status.halted.is_none() && self.rows.len() < self.limit
+    pub fn can_step(&self) -> bool
+        ensures { IsTrue result ↔ MayStep self.now }
+    {
+        self.status.halted.is_none() && self.keeper.rows().len() < self.limit
     }
 
     /// Where the replica stands after the last row, and why it has halted since, if it has. It takes no
@@ -122,14 +122,14 @@ impl Journal {
     pub fn replica(&self) -> &Replica
         ensures { result.now ≡ self.now.replica }
     {
-        &self.replica
+        self.keeper.replica()
     }
 
     /// The rows so far, the oldest first. It takes no memory.
     pub fn rows(&self) -> &[Row]
         ensures { result.now ≡ self.now.rows }
     {
-        &self.rows
+        self.keeper.rows()
     }
 
     /// The rows, the oldest first: a lawful journal of the replica. The replica is dropped.
@@ -137,7 +137,7 @@ impl Journal {
         ensures rows { result.items ≡ self.rows }
         ensures lawful { IsJournal (setup_of self.replica.config) self.replica.me (map row_of result.items) }
     {
-        self.rows
+        self.keeper.into_rows()
     }
 }
 
@@ -156,46 +156,19 @@ fn may_step(rows: usize, limit: usize, status: &mut Status) -> Result<(), Halt>
     Ok(())
 }
 
-// Keeps the row of a step, after which the replica stands so; or the halt.
-fn finish(
-    rows: &mut Vec<Row>,
-    status: &mut Status,
-    stands: Status,
-    stepped: Result<Row, Halt>,
-) -> Result<Row, Halt>
-    ensures row { IfOk result (λ row. (stepped ≡ Ok row) × (rows.new.items ≡ rows.old.items ++ row ∷ []) × (status.new ≡ stands)) }
-    ensures halt { IfErr result (λ halt. ((stepped ≡ Err halt) ⊎ (halt ≡ halts.Memory)) × (rows.new.items ≡ rows.old.items)
-        × (status.new ≡ record status.old { halted = Some halt })) }
+// What a step answers that left the replica there: its row, or the halt.
+fn finish(status: &mut Status, stands: Status, stepped: Result<Row, Unkept>) -> Result<Row, Halt>
+    ensures row { IfOk result (λ row. (stepped ≡ Ok row) × (status.new ≡ stands)) }
+    ensures halt { IfErr result (λ halt. IsHaltOf stepped halt × (status.new ≡ record status.old { halted = Some halt })) }
 {
-    match kept(rows, stepped) {
+    let halt = match stepped {
         Ok(row) => {
             *status = stands;
-            Ok(row)
+            return Ok(row);
         }
-        Err(halt) => {
-            status.halted = Some(halt);
-            Err(halt)
-        }
-    }
-}
-
-// Appends the row of a step, and returns it.
-fn kept(rows: &mut Vec<Row>, stepped: Result<Row, Halt>) -> Result<Row, Halt>
-    ensures row { IfOk result (λ row. (stepped ≡ Ok row) × (rows.new.items ≡ rows.old.items ++ row ∷ [])) }
-    ensures halt { IfErr result (λ halt. ((stepped ≡ Err halt) ⊎ (halt ≡ halts.Memory)) × (rows.new.items ≡ rows.old.items)) }
-{
-    let row = stepped?;
-    match append(rows, &row) {
-        Ok(()) => Ok(row),
-        Err(_) => Err(Halt::Memory),
-    }
-}
-
-// Appends one more handle of a row.
-fn append(rows: &mut Vec<Row>, row: &Row) -> Result<(), AllocError>
-    ensures row { OnOk result (rows.new.items ≡ rows.old.items ++ row.now ∷ []) }
-    ensures same { OnErr result (rows.new.items ≡ rows.old.items) }
-{
-    rows.push(row.copy()?)?;
-    Ok(())
+        Err(Unkept::Halted(halt)) => halt,
+        Err(Unkept::Memory) => Halt::Memory,
+    };
+    status.halted = Some(halt);
+    Err(halt)
 }

@@ -6,7 +6,11 @@
 #![tactic(auto)]
 
 mod journal;
+mod keeper;
 mod law;
+mod unkept;
 
 pub use journal::Journal;
+pub use keeper::Keeper;
 pub use law::a_core_is_the_journals_replay;
+pub use unkept::Unkept;

@@ -1,11 +1,11 @@
 -- What a kept journal makes of a station's answers.
-use Rattle.std.proofs.Common.{◌≡◌, ℕ, ◌≤◌, List, ◌∷◌, [], ◌++◌, length, map, ap, subst, sym, ◌∙◌}
+use Rattle.std.proofs.Common.{◌≡◌, ℕ, ◌≤◌, List, length, ap, subst, ◌∙◌}
 use Rattle.host_types.specs.Configuration.{Configuration}
 use Rattle.replica_core.specs.Facts.{RowFacts}
 use Rattle.replica_core.specs.Steps.{ReplicaFacts}
 use Rattle.replica_core.specs.declared.row.Input.{Input}
 use Rattle.replica_journal.specs.Keeping.{Appends, IsKept, JournalFacts}
-use Rattle.replica_threads.specs.Stations.{IsAnswered, IsClosed, IsJournalOf, IsReported}
+use Rattle.replica_threads.specs.Stations.{IsAnswered, IsJournalOf, IsReported}
 
 -- The journal of a replica that is this one.
 named : (r : ReplicaFacts) (rows : List RowFacts) (c : Configuration) (me : ℕ) → r.config ≡ c → r.me ≡ me → IsJournalOf r.config r.me rows → IsJournalOf c me rows

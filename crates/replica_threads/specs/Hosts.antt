@@ -1,6 +1,7 @@
--- Statement: the journal that a replica's thread leaves, and the signers that a host wants.
-use Rattle.std.specs.Prelude.{◌≡◌, ℕ, ◌<◌, List, length, slice_get, IsSomeAnd}
+-- Statement: the journal that a replica's thread leaves, the ids beside a host's journals, and the signers that it wants.
+use Rattle.std.specs.Prelude.{◌≡◌, ℕ, ◌+◌, ◌<◌, List, [], ◌∷◌, length, slice_get, IsSomeAnd}
 use Rattle.host_types.specs.Configuration.{Configuration}
+use Rattle.host_types.specs.declared.ReplicaId.{ReplicaId}
 use Rattle.lms_tree.specs.SigningState.{SigningState}
 use Rattle.lms_tree.specs.Keys.{IsKeyOf}
 use Rattle.replica_core.specs.Facts.{RowFacts}
@@ -10,6 +11,11 @@ pub record RecordFacts : Type 0 where
   pub config : Configuration
   pub id : ℕ
   pub rows : List RowFacts
+
+-- The ids ascend by one, from this number on.
+abbrev pub AreIdsFrom : ℕ → List ReplicaId → Type 0
+AreIdsFrom id [] = Unit {0}
+AreIdsFrom id (x ∷ xs) = (x.0 ≡ id) × AreIdsFrom (id + 1) xs
 
 -- The key that is listed for a replica is that of its signer.
 abbrev pub HasKeyAt : List (List ℕ) → List SigningState → ℕ → Type 0

@@ -1,10 +1,10 @@
 //! All replicas of a configuration in threads.
 
-ghost use Rattle.std.specs.Prelude.{◌≡◌, ◌≤◌, ◌<◌, ◌↔◌, IfOk, IfSome, IsErrOf, OnOk, map, length};
+ghost use Rattle.std.specs.Prelude.{◌≡◌, ◌≤◌, ◌<◌, ◌↔◌, ◌⊎◌, IfErr, IfOk, IfSome, IsErrOf, OnOk, map, length};
 ghost use Rattle.host_types.specs.Configuration.{replicas_for};
 ghost use Rattle.byz_world.specs.Records.{AgreeUnlessForged, AreJournals};
 ghost use Rattle.replica_threads.specs.declared.fault.HostFault.TheVariants as faults;
-ghost use Rattle.replica_threads.specs.Hosts.{HaveKeys};
+ghost use Rattle.replica_threads.specs.Hosts.{AreIdsFrom, HaveKeys};
 
 use crate::desk::Desk;
 use crate::fault::HostFault;
@@ -67,6 +67,7 @@ impl Host {
     ) -> Result<Host, HostFault>
         requires limit { limit ≤ 65536 }
         ensures host { IfOk result (λ host. host ≡ config.now.value) }
+        ensures fault { IfErr result (λ fault. (fault ≡ faults.WrongSigners) ⊎ (fault ≡ faults.Memory)) }
         ensures signers { IsErrOf result faults.WrongSigners ↔ (HaveKeys config.now.value.keys signers.items → ⊥) }
     {
         if !are_listed(config, &signers) {
@@ -104,7 +105,9 @@ impl Host {
     /// Posts bytes to a replica that the configuration has: its openers open them. `Closed` comes once the
     /// host is closed, `Memory` where the queue can't grow. A message that is posted may still not be
     /// answered.
-    pub fn post<R: Wait>(&self, rt: &R, to: ReplicaId, bytes: Bytes) -> Result<(), HostFault> {
+    pub fn post<R: Wait>(&self, rt: &R, to: ReplicaId, bytes: Bytes) -> Result<(), HostFault>
+        ensures fault { IfErr result (λ fault. (fault ≡ faults.Closed) ⊎ (fault ≡ faults.Memory)) }
+    {
         if self.is_closed() {
             return Err(HostFault::Closed);
         }
@@ -112,7 +115,9 @@ impl Host {
     }
 
     /// Gives a replica that the configuration has a timeout. The refusals are those of `post`.
-    pub fn tick<R: Wait>(&self, rt: &R, at: ReplicaId) -> Result<(), HostFault> {
+    pub fn tick<R: Wait>(&self, rt: &R, at: ReplicaId) -> Result<(), HostFault>
+        ensures fault { IfErr result (λ fault. (fault ≡ faults.Closed) ⊎ (fault ≡ faults.Memory)) }
+    {
         if self.is_closed() {
             return Err(HostFault::Closed);
         }
@@ -122,7 +127,9 @@ impl Host {
     /// Waits for the next message that a replica gave to a client, and returns its bytes. `Closed` comes
     /// where the host was closed and no message is left, or the configuration doesn't list the client.
     /// `Memory` loses the message.
-    pub fn receive<R: Wait>(&self, rt: &R, client: ClientId) -> Result<Bytes, HostFault> {
+    pub fn receive<R: Wait>(&self, rt: &R, client: ClientId) -> Result<Bytes, HostFault>
+        ensures fault { IfErr result (λ fault. (fault ≡ faults.Closed) ⊎ (fault ≡ faults.Memory)) }
+    {
         let index = self
             .config
             .clients()
@@ -146,6 +153,8 @@ impl Host {
     /// the call may be made again.
     pub fn close<R: Wait>(&self, rt: &R) -> Result<Vec<(ReplicaId, Vec<Row>)>, HostFault>
         ensures agree { IfOk result (λ journals. AgreeUnlessForged self.now (map (λ p. p.1.items) journals.items)) }
+        ensures ids { IfOk result (λ journals. AreIdsFrom 0 (map (λ p. p.0) journals.items)) }
+        ensures fault { IfErr result (λ fault. (fault ≡ faults.Closed) ⊎ (fault ≡ faults.Memory)) }
     {
         let mut journals = Vec::new(self.alloc);
         journals.reserve(usize::from(self.config.replica_count()))?;
@@ -173,6 +182,8 @@ impl Host {
     ) -> Result<(), HostFault>
         requires none { length journals.old.items ≡ 0 }
         ensures journals { OnOk result (AreJournals self.now 0 (map (λ p. p.1.items) journals.new.items)) }
+        ensures ids { OnOk result (AreIdsFrom 0 (map (λ p. p.0) journals.new.items)) }
+        ensures fault { IfErr result (λ fault. (fault ≡ faults.Closed) ⊎ (fault ≡ faults.Memory)) }
         ensures many { OnOk result (length journals.new.items ≡ replicas_for self.now.f) }
     {
         for id in 0..self.config.replica_count() {

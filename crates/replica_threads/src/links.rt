@@ -1,5 +1,8 @@
 //! The queues between replicas, openers and clients.
 
+ghost use Rattle.std.specs.Prelude.{◌≡◌, ◌⊎◌, IfErr};
+ghost use Rattle.replica_threads.specs.declared.fault.HostFault.TheVariants as faults;
+
 use crate::fault::HostFault;
 use crate::record::JournalRecord;
 use crossbeam_channel::{SendError, Sender};
@@ -44,7 +47,9 @@ impl Posts {
         rt: &R,
         to: ReplicaId,
         parcel: Parcel,
-    ) -> Result<(), HostFault> {
+    ) -> Result<(), HostFault>
+        ensures { IfErr result (λ fault. (fault ≡ faults.Closed) ⊎ (fault ≡ faults.Memory)) }
+    {
         match self.parcels.get(usize::from(to.0)) {
             Some(queue) => send(rt, queue, parcel),
             None => Err(HostFault::Closed),
@@ -57,7 +62,9 @@ impl Posts {
         rt: &R,
         to: ReplicaId,
         letter: Letter,
-    ) -> Result<(), HostFault> {
+    ) -> Result<(), HostFault>
+        ensures { IfErr result (λ fault. (fault ≡ faults.Closed) ⊎ (fault ≡ faults.Memory)) }
+    {
         match self.letters.get(usize::from(to.0)) {
             Some(queue) => send(rt, queue, letter),
             None => Err(HostFault::Closed),
@@ -77,7 +84,9 @@ impl Posts {
     }
 }
 
-fn send<R: Wait, T: Drop>(rt: &R, queue: &Sender<T>, item: T) -> Result<(), HostFault> {
+fn send<R: Wait, T: Drop>(rt: &R, queue: &Sender<T>, item: T) -> Result<(), HostFault>
+    ensures { IfErr result (λ fault. (fault ≡ faults.Closed) ⊎ (fault ≡ faults.Memory)) }
+{
     match queue.send(rt, item) {
         Ok(()) => Ok(()),
         Err(SendError::OutOfMemory(_)) => Err(HostFault::Memory),

@@ -1,9 +1,9 @@
 //! What a station's lock keeps: the replica with its journal, and the ledger of what its seats count.
 //! Only these methods reach its fields.
 
-ghost use Rattle.std.specs.Prelude.{◌≡◌, ◌≤◌, [], IfOk};
+ghost use Rattle.std.specs.Prelude.{◌≡◌, ◌≤◌, ◌↔◌, [], IfOk, IsTrue};
 ghost use Rattle.replica_core.specs.declared.row.Input.TheVariants as inputs;
-ghost use Rattle.replica_journal.specs.Keeping.{Advances};
+ghost use Rattle.replica_journal.specs.Keeping.{Advances, MayStep};
 ghost use Rattle.replica_threads.specs.Stations.{IsAnswered, IsClosed, IsJournalOf, IsReported, counted_by};
 
 use crate::named::Named;
@@ -83,7 +83,9 @@ impl<K: Named> Locked<K> {
     }
 
     /// Whether the replica may step: it has not halted, and there is room for a row. It takes no memory.
-    pub fn can_step(&self) -> bool {
+    pub fn can_step(&self) -> bool
+        ensures { IsTrue result ↔ MayStep self.now }
+    {
         self.journal.can_step()
     }
 

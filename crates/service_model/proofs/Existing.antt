@@ -17,6 +17,7 @@ use Rattle.bpf_decode.specs.declared.insn.Insn.{Insn}
 use Rattle.bpf_model.specs.Machine.{Call}
 use Rattle.bpf_model.specs.Verdict.{Accepts, IsAccepted}
 use Rattle.bpf_model.proofs.Totality.{decided, not_both}
+use Rattle.bpf_model.specs.declared.profile.Profile.TheVariants.{One}
 use Rattle.bpf_model.proofs.Runs.{IsTenantMap-empty}
 use Rattle.tenant_maps.specs.Entries.{Entries, IsTenantMap}
 use Rattle.service_model.specs.declared.outcome.Outcome.{Outcome}
@@ -59,11 +60,11 @@ of_bytes (kind ∷ rest) all = install (eqb kind 1) where
 -- ---- an operation can be done
 
 -- the verdict on code
-verdict_decided : (code : List ℕ) → AreBytes code → ((bound : ℕ) × Accepts code bound) ⊎ ((bound : ℕ) → Accepts code bound → ⊥)
+pub verdict_decided : (code : List ℕ) → AreBytes code → ((bound : ℕ) × Accepts code bound) ⊎ ((bound : ℕ) → Accepts code bound → ⊥)
 verdict_decided code all = elim (bytes_decided code (small_of code all)) [
-  | inl (insns, is) ↦ elim (decided code insns is) [
+  | inl (insns, is) ↦ elim (decided One code insns is) [
     | inl (bound, accepted) ↦ inl (bound, (insns, is, accepted))
-    | inr (fault, slot, rejected) ↦ inr (λ bound accepts. not_both insns bound fault slot (subst (λ (x : List Insn). IsAccepted x bound) (same_code code accepts.0 insns accepts.1 is) accepts.2) rejected)
+    | inr (fault, slot, rejected) ↦ inr (λ bound accepts. not_both One insns bound fault slot (subst (λ (x : List Insn). IsAccepted One x bound) (same_code code accepts.0 insns accepts.1 is) accepts.2) rejected)
   ]
   | inr (fault, slot, faulty) ↦ inr (λ bound accepts. refused_is_no_code code accepts.0 fault slot faulty accepts.1)
 ]

@@ -49,7 +49,7 @@ same_entries a b e =
 small : (n m : ℕ) → n ≤ m → m < 2 ^ 32 → n < 2 ^ 32
 small n m le lt = omega (arith, le, lt)
 
-codes_short : (codes : List (List ℕ)) → All (λ code. length code ≤ 8192) codes → All (λ code. length code < 2 ^ 32) codes
+pub codes_short : (codes : List (List ℕ)) → All (λ code. length code ≤ 8192) codes → All (λ code. length code < 2 ^ 32) codes
 codes_short codes all = λ k d h. small _ 8192 (all k d h) (omega arith)
 
 pub procedures_free : (xs ys : List (List ℕ)) (r t : List ℕ) → length xs ≤ 64 → length ys ≤ 64 → All (λ code. length code ≤ 8192) xs → All (λ code. length code ≤ 8192) ys
@@ -168,7 +168,7 @@ option_cases None None left right = refl
 option_cases None (Some y) left right = right y refl
 option_cases (Some x) b left right = left x refl
 
-same_replies : (a b : Replies) → ((q : ℕ) → finite.get a q ≡ finite.get b q) → a ≡ b
+pub same_replies : (a b : Replies) → ((q : ℕ) → finite.get a q ≡ finite.get b q) → a ≡ b
 same_replies a b e = finite.same_map nat_cmp_total finite.nat_cmp-IsAntisymmetric a b e
 
 -- the tenants of two states whose last replies agree

@@ -11,3 +11,6 @@ pub mod Lengths
 pub mod Bytes
 pub mod Existing
 pub mod Reading
+pub mod CodeBytes
+pub mod Decoder
+pub mod Decided

@@ -14,6 +14,7 @@ use Rattle.host_types.specs.Configuration.{Configuration, tenants_of, entry_of}
 use Rattle.bpf_model.specs.Verdict.{Accepts}
 use Rattle.bpf_model.proofs.Options.{some_is}
 use Rattle.bpf_model.proofs.Safety.{safe}
+use Rattle.bpf_model.specs.declared.profile.Profile.TheVariants.{One}
 use Rattle.tenant_maps.specs.Entries.{Entries}
 use Rattle.service_model.specs.declared.outcome.Outcome.{Outcome}
 use Rattle.service_model.specs.Operations.{Operation, Install, Call, Bad, operation_of, Installs, Does, installed, refused, too_many_procedures}
@@ -125,7 +126,7 @@ follows_sound state (request ∷ requests) after outcomes sound (mid, outcome, o
 
 pub accepted_safe : (code : List ℕ) → IsAcceptedCode code → CannotGoWrong code
 accepted_safe code (bound, (insns, is, accepted)) =
-    record { insns = insns; bound = bound; is_code = is; accepted = accepted; safe = safe code insns bound is accepted }
+    record { insns = insns; bound = bound; is_code = is; accepted = accepted; safe = safe One code insns bound is accepted }
 
 pub none_goes_wrong : (config : Configuration) (requests : List (Option Request)) (after : Service) (outcomes : List Outcome) → Follows (genesis_of config) requests after outcomes → NoneGoesWrong after
 none_goes_wrong config requests after outcomes h =

@@ -7,6 +7,7 @@ use Rattle.bpf_decode.specs.declared.insn.Insn.{Insn}
 use Rattle.bpf_decode.specs.Faults.{IsCode}
 use Rattle.bpf_model.specs.Run.{IsSafe}
 use Rattle.bpf_model.specs.Verdict.{Accepts, IsAccepted}
+use Rattle.bpf_model.specs.declared.profile.Profile.TheVariants.{One}
 use Rattle.service_model.specs.TenantStates.{TenantState, Service}
 
 -- the verifier accepts the code
@@ -27,7 +28,7 @@ pub record CannotGoWrong (code : List ℕ) : Type 0 where
   pub insns : List Insn
   pub bound : ℕ
   pub is_code : IsCode code insns
-  pub accepted : IsAccepted insns bound
+  pub accepted : IsAccepted One insns bound
   pub safe : IsSafe insns bound
 
 abbrev pub NoneGoesWrong : Service → Type 0

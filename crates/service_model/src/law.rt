@@ -1,6 +1,6 @@
 //! Laws of the service, each on a function with an empty body.
 
-ghost use Rattle.std.specs.Prelude.{◌≡◌, ◌+◌, ◌^◌, ◌<◌, ◌≤◌, ℕ, length, All, Option, Some, IfSome, List, [], ◌∷◌, ◌++◌};
+ghost use Rattle.std.specs.Prelude.{◌≡◌, ◌⊎◌, ◌+◌, ◌^◌, ◌<◌, ◌≤◌, ℕ, length, All, Option, Some, IfSome, List, [], ◌∷◌, ◌++◌};
 ghost use Rattle.host_types.specs.declared.request.Request.{Request};
 ghost use Rattle.host_types.specs.declared.request.Reply.{Reply};
 ghost use Rattle.service_model.specs.declared.outcome.Outcome.{Outcome};
@@ -10,6 +10,7 @@ ghost use Rattle.service_model.specs.Steps.{IsStep, Serves};
 ghost use Rattle.service_model.specs.Sound.{IsSound, NoneGoesWrong};
 ghost use Rattle.service_model.specs.Bounded.{IsBounded};
 ghost use Rattle.service_model.specs.Asked.{CanAsk, HasTenantMaps};
+ghost use Rattle.service_model.specs.Decoding.{Encodes};
 ghost use Rattle.service_model.specs.Encoding.{encoded};
 
 /// A step of the service has one outcome: the state and the request determine the state after it and
@@ -85,4 +86,11 @@ pub fn a_step_exists()
     ensures all { (config : Configuration) (requests : List (Option Request)) →
         All (λ request. IfSome request (CanAsk config)) requests →
         (after : Service) × (outcomes : List Outcome) × Serves config requests after outcomes }
+{}
+
+/// Whether bytes encode a state under a configuration is decided, for every list of bytes: a decoder finds the
+/// state that they encode, or they encode none.
+pub fn an_encoding_is_decided()
+    ensures { (config : Configuration) (bytes : List ℕ) →
+        ((state : Service) × Encodes config bytes state) ⊎ ((state : Service) → Encodes config bytes state → ⊥) }
 {}

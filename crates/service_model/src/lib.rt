@@ -6,7 +6,7 @@ mod law;
 mod outcome;
 
 pub use law::{
-    a_step_exists, a_step_has_one_outcome, equal_bytes_are_equal_states,
+    a_step_exists, a_step_has_one_outcome, an_encoding_is_decided, equal_bytes_are_equal_states,
     installed_procedures_cannot_go_wrong, maps_stay_maps, requests_have_one_outcome,
     states_are_bounded, states_are_sound,
 };

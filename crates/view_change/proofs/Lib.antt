@@ -10,3 +10,4 @@ pub mod EqualParts
 pub mod Sealing
 pub mod ValidParts
 pub mod LogCertificates
+pub mod StableProofs

@@ -28,18 +28,18 @@ lower : {B : Type 0} (a b : ℕ) (ms : List (Signed B)) → a ≤ b → AscendFr
 lower a b [] le h = tt
 lower a b (m ∷ ms) le h = let first = h.0 in (omega arith, h.1)
 
-filtered_ascends : {B : Type 0} (g : ℕ → Option (Signed B)) (many first : ℕ) → ((i : ℕ) (m : Signed B) → g i ≡ Some m → m.id ≡ i) → AscendFrom first (filter_map g (numbers_from first many))
+pub filtered_ascends : {B : Type 0} (g : ℕ → Option (Signed B)) (many first : ℕ) → ((i : ℕ) (m : Signed B) → g i ≡ Some m → m.id ≡ i) → AscendFrom first (filter_map g (numbers_from first many))
 filtered_ascends g zero first h = tt
 filtered_ascends {B} g (suc many) first h = cases (g first) refl (filtered_ascends g many (first + 1) h) where
   cases : (o : Option (Signed B)) → g first ≡ o → AscendFrom (first + 1) (filter_map g (numbers_from (first + 1) many)) → AscendFrom first (cons_option o (filter_map g (numbers_from (first + 1) many)))
   cases None e rest = lower first (first + 1) (filter_map g (numbers_from (first + 1) many)) (omega arith) rest
   cases (Some m) e rest = let id = h first m e in (omega arith, subst (λ (n : ℕ). AscendFrom (n + 1) (filter_map g (numbers_from (first + 1) many))) (sym id) rest)
 
-taken_if : {X : Type 0} (b : Bool) (o : Option X) (x : X) → cond b o None ≡ Some x → (b ≡ true) × (o ≡ Some x)
+pub taken_if : {X : Type 0} (b : Bool) (o : Option X) (x : X) → cond b o None ≡ Some x → (b ≡ true) × (o ≡ Some x)
 taken_if true o x e = (refl, e)
 taken_if false o x e = absurd cc
 
-as_ascend : {B : Type 0} (kind : B → _) (low : ℕ) (ms : List (Signed B)) → AscendFrom low ms → AscendFrom low (map (as_message kind) ms)
+pub as_ascend : {B : Type 0} (kind : B → _) (low : ℕ) (ms : List (Signed B)) → AscendFrom low ms → AscendFrom low (map (as_message kind) ms)
 as_ascend kind low [] h = tt
 as_ascend kind low (m ∷ ms) h = (h.0, as_ascend kind (m.id + 1) ms h.1)
 

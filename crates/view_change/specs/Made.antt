@@ -1,4 +1,4 @@
--- Statement: the ViewChange and the NewView that are made of checked messages.
+-- Layer: the ViewChange and the NewView that are made of checked messages.
 use Rattle.std.specs.Prelude.{◌≡◌, ◌⊎◌, ℕ, ◌+◌, ◌*◌, ◌<◌, ◌≤◌, true, List, [], ◌∷◌, map, length, None}
 use Rattle.std.specs.List.{AllByRecursion}
 use Rattle.host_types.specs.Configuration.{Configuration}

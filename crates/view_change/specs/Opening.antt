@@ -1,4 +1,4 @@
--- Statement: what the primary of a view opens it with.
+-- Layer: what the primary of a view opens it with.
 use Rattle.std.specs.Prelude.{◌≡◌, ℕ, List, None, map, length}
 use Rattle.std.specs.List.{AllByRecursion}
 use Rattle.pbft_codec.specs.Limits.{AscendFrom}

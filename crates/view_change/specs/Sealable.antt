@@ -1,4 +1,4 @@
--- Statement: what `seal` asks of a body, whoever of those listed signs it.
+-- Layer: what `seal` asks of a body, whoever of those listed signs it.
 use Rattle.std.specs.Prelude.{◌≡◌, ◌+◌, ◌≤◌, List, length}
 use Rattle.std.specs.List.{AllByRecursion}
 use Rattle.host_types.specs.Configuration.{Configuration}

@@ -1,16 +1,19 @@
 //! Laws of the bodies that a replica seals, and of the certificates that they carry, for every configuration.
 
-ghost use Rattle.std.specs.Prelude.{◌≡◌, ◌≤◌, ℕ, Some, length};
+ghost use Rattle.std.specs.Prelude.{◌≡◌, ◌≤◌, ℕ, List, map, Some, true, length};
 ghost use Rattle.host_types.specs.Configuration.{Configuration};
 ghost use Rattle.pbft_codec.specs.declared.body.Body.{Body};
 ghost use Rattle.pbft_codec.specs.declared.body.Body.TheVariants as bodies;
 ghost use Rattle.pbft_codec.specs.Limits.{FetchFieldsInRange, FetchWellFormed, IsDigest, IsSequenceNumber};
 ghost use Rattle.pbft_model.specs.Words.{Checkpoint, Commit, Fetch, PrePrepare, Prepare, ReplyBody, Signed, Snapshot};
+ghost use Rattle.pbft_model.specs.Certificates.{is_stable};
+ghost use Rattle.pbft_model.specs.Core.{Core, proof_of};
 ghost use Rattle.pbft_model.specs.Setup.{Setup};
 ghost use Rattle.quorum_log.specs.Log.{Log, checked_certificate};
 ghost use Rattle.quorum_log.specs.declared.certificate.CheckedCertificate.{CheckedCertificate};
+ghost use Rattle.seal.specs.Parts.{as_message};
 ghost use Rattle.seal.specs.Signers.{IsAuthentic};
-ghost use Rattle.view_change.specs.Made.{IsCertificateAt};
+ghost use Rattle.view_change.specs.Made.{IsCertificateAt, IsStableBy};
 ghost use Rattle.view_change.specs.Sealable.{IsSealable};
 
 /// The signature of an authentic message has at most the 2,508 bytes of one of a tree of height 10
@@ -36,4 +39,11 @@ pub fn bodies_can_be_sealed()
 /// PrePrepare, and matching Prepares of 2f replicas, ids ascending, as `make` wants of valid parts.
 pub fn certificates_of_a_log_fit()
     ensures { (c : Setup) (l : Log) (view number : ℕ) (x : CheckedCertificate) → checked_certificate c l view number ≡ Some x → IsCertificateAt c.config view number x }
+{}
+
+/// The proof of a number that is stable among a core's Checkpoints is one: Checkpoints of 2f + 1 replicas at the
+/// number with the digest, ids ascending, as `make` wants of valid parts.
+pub fn proofs_of_stable_numbers_fit()
+    ensures { (c : Setup) (s : Core) (number : ℕ) (digest : List ℕ) → is_stable c s.checkpoints number digest ≡ true
+        → IsStableBy c.config number (map (as_message bodies.Checkpoint) (proof_of c s number digest)) }
 {}

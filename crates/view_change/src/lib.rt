@@ -20,7 +20,10 @@ mod view_changes;
 
 pub use fault::ViewFault;
 pub use given::{floor_of, null_digest};
-pub use laws::{authentic_signatures_are_short, bodies_can_be_sealed, certificates_of_a_log_fit};
+pub use laws::{
+    authentic_signatures_are_short, bodies_can_be_sealed, certificates_of_a_log_fit,
+    proofs_of_stable_numbers_fit,
+};
 pub use making::{make, make_new_view};
 pub use opening::{Opening, new_view};
 pub use validity::{valid, valid_new_view};

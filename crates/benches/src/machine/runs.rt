@@ -3,7 +3,7 @@
 use crate::machine::programs::{Program, all};
 use anyhow::{Result, anyhow};
 use bpf_machine::run;
-use bpf_verifier::{Procedure, verify};
+use bpf_verifier::{Procedure, Profile, verify, verify2};
 use host_types::ClientId;
 use std::time::Instant;
 use tenant_maps::TenantMap;
@@ -24,7 +24,20 @@ fn arguments() -> [u8; 48] {
 
 /// The procedure that a program is.
 pub(crate) fn verified(rt: &HostRuntime, program: &Program) -> Result<Procedure> {
-    match verify(rt.alloc(), &program.code) {
+    verified_under(rt, Profile::One, program)
+}
+
+/// The procedure that a program is under a profile.
+pub(crate) fn verified_under(
+    rt: &HostRuntime,
+    profile: Profile,
+    program: &Program,
+) -> Result<Procedure> {
+    let verdict = match profile {
+        Profile::One => verify(rt.alloc(), &program.code),
+        Profile::Two => verify2(rt.alloc(), &program.code),
+    };
+    match verdict {
         Ok(procedure) => Ok(procedure),
         Err(_) => Err(anyhow!("the program is not accepted")),
     }

@@ -2,9 +2,9 @@
 
 use crate::common::ratio::{Limit, Ratio, require_within_limits};
 use crate::machine::programs::{Kind, Program, straight, two_calls_each};
-use crate::machine::runs::verified;
+use crate::machine::runs::verified_under;
 use anyhow::{Result, anyhow};
-use bpf_verifier::{VerifyFault, verify};
+use bpf_verifier::{Profile, VerifyFault, verify};
 use std::fmt;
 use std::time::Instant;
 
@@ -34,8 +34,8 @@ impl fmt::Display for Picoseconds {
     }
 }
 
-/// The least time of verifying programs in turn, for each of their slots, in picoseconds.
-fn picoseconds_of_slot(rt: &HostRuntime, programs: &[Program]) -> Result<u128> {
+/// The least time of verifying programs under a profile in turn, for each of their slots, in picoseconds.
+fn picoseconds_of_slot(rt: &HostRuntime, profile: Profile, programs: &[Program]) -> Result<u128> {
     let mut slots = 0u64;
     for program in programs {
         slots = slots.saturating_add(program.code.len() as u64 / 8);
@@ -45,7 +45,7 @@ fn picoseconds_of_slot(rt: &HostRuntime, programs: &[Program]) -> Result<u128> {
         let start = Instant::now(rt)?;
         for _ in 0..100 {
             for program in programs {
-                let _procedure = verified(rt, program)?;
+                let _procedure = verified_under(rt, profile, program)?;
             }
         }
         least = least.min(start.elapsed(rt)?.as_nanos());
@@ -57,14 +57,16 @@ fn picoseconds_of_slot(rt: &HostRuntime, programs: &[Program]) -> Result<u128> {
 /// as long as all four, so that the processor's predictor of branches has as much to learn on both sides.
 #[derive(Clone, Copy)]
 struct SlotTimes {
+    profile: Profile,
     kind: Kind,
     short: u128,
     long: u128,
 }
 
 impl SlotTimes {
-    fn new(kind: Kind) -> SlotTimes {
+    fn new(profile: Profile, kind: Kind) -> SlotTimes {
         SlotTimes {
+            profile,
             kind,
             short: u128::MAX,
             long: u128::MAX,
@@ -81,8 +83,10 @@ impl SlotTimes {
             self.kind.program(alloc, 6, 255)?,
             self.kind.program(alloc, 7, 255)?,
         ];
-        self.short = self.short.min(picoseconds_of_slot(rt, &short)?);
-        self.long = self.long.min(picoseconds_of_slot(rt, &long)?);
+        self.short = self
+            .short
+            .min(picoseconds_of_slot(rt, self.profile, &short)?);
+        self.long = self.long.min(picoseconds_of_slot(rt, self.profile, &long)?);
         Ok(())
     }
 
@@ -90,12 +94,21 @@ impl SlotTimes {
     fn keeps_limit(self, rt: &HostRuntime) -> Result<bool> {
         let ratio = Ratio::new(self.long, self.short, LINEAR);
         println!(rt;
-            "verify, {}: {} a slot of 1,023, {} a slot of four times 255, {ratio}",
+            "{}, {}: {} a slot of 1,023, {} a slot of four times 255, {ratio}",
+            name_of(self.profile),
             self.kind.name(),
             Picoseconds(self.long),
             Picoseconds(self.short)
         )?;
         Ok(ratio.is_within_limit())
+    }
+}
+
+/// What the verifier of a profile is called where it is printed.
+fn name_of(profile: Profile) -> &'static str {
+    match profile {
+        Profile::One => "verify",
+        Profile::Two => "verify2",
     }
 }
 
@@ -118,7 +131,7 @@ fn picoseconds_of_visit(rt: &HostRuntime, program: &Program) -> Result<u128> {
 /// code. Whether the limit is kept.
 fn keeps_visits(rt: &HostRuntime) -> Result<bool> {
     let visit = picoseconds_of_visit(rt, &two_calls_each(rt.alloc(), 509)?)?;
-    let slot = picoseconds_of_slot(rt, &[straight(rt.alloc(), 1024)?])?;
+    let slot = picoseconds_of_slot(rt, Profile::One, &[straight(rt.alloc(), 1024)?])?;
     let ratio = Ratio::new(visit, slot, VISIT);
     println!(rt;
         "verify, calls: {} a visit of 65,536, straight code {} a slot of 1,024, {ratio}",
@@ -128,13 +141,16 @@ fn keeps_visits(rt: &HostRuntime) -> Result<bool> {
     Ok(ratio.is_within_limit())
 }
 
-/// Prints what the verifier takes for a slot of tests that it decides, of tests whose edges join, and of
-/// loads and stores. Whether the limit is kept.
+/// Prints what the verifier takes under each profile for a slot of tests that it decides, of tests whose edges join,
+/// and of loads and stores. Whether the limit is kept.
 fn keeps_slots(rt: &HostRuntime) -> Result<bool> {
     let mut times = [
-        SlotTimes::new(Kind::DecidedTests),
-        SlotTimes::new(Kind::JoiningTests),
-        SlotTimes::new(Kind::Accesses),
+        SlotTimes::new(Profile::One, Kind::DecidedTests),
+        SlotTimes::new(Profile::One, Kind::JoiningTests),
+        SlotTimes::new(Profile::One, Kind::Accesses),
+        SlotTimes::new(Profile::Two, Kind::DecidedTests),
+        SlotTimes::new(Profile::Two, Kind::JoiningTests),
+        SlotTimes::new(Profile::Two, Kind::Accesses),
     ];
     for _ in 0..PASSES {
         for time in &mut times {

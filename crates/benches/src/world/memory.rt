@@ -1,37 +1,15 @@
 //! The memory that a script takes.
 
+use crate::common::peak::{peak, print_within};
 use crate::world::floor::commit;
 use crate::world::scripts::{DELIVERY, VAIN_DELIVERY, followed, output_of, queued};
-use anyhow::{Result, anyhow};
-use std::fs;
+use anyhow::Result;
 
 /// What a script with the most deliveries of a step may take, in KiB.
 const QUEUE: u64 = 256 * 1024;
 
 /// What a delivery that a replica takes may keep, in bytes.
 const ROW: u64 = 16 * 1024;
-
-/// The most memory that this process has had in use, in KiB, as Linux reports it.
-fn peak(rt: &HostRuntime) -> Result<u64> {
-    let text = fs::read_to_string(rt, "/proc/self/status")?;
-    for line in text.lines() {
-        if let Some(rest) = line.strip_prefix("VmHWM:") {
-            let number = rest.trim().trim_end_matches(" kB");
-            return Ok(number.parse::<u64>()?);
-        }
-    }
-    Err(anyhow!("the system reports no peak"))
-}
-
-/// Prints a size, and says whether it is within its limit.
-fn print_within(rt: &HostRuntime, work: &str, size: u64, unit: &str, limit: u64) -> Result<()> {
-    println!(rt; "{work}: {size} {unit}, limit {limit} {unit}")?;
-    if size <= limit {
-        Ok(())
-    } else {
-        Err(anyhow!("the limit is passed"))
-    }
-}
 
 /// Prints what a script takes whose last step has 1,000,000 deliveries, all to a faulty replica.
 pub(crate) fn print_queue(rt: &HostRuntime) -> Result<()> {

@@ -1,4 +1,4 @@
-use Rattle.std.proofs.Common.{◌≡◌, ◌∙◌, ◌<◌, ◌≤◌, ◌+◌, ◌-◌, ℕ, ℤ, suc, Bool, max, Option, Some, None, Box, length, set, refl, sym, ap, subst, arith, rules, inl, inr}
+use Rattle.std.proofs.Common.{◌≡◌, ◌∙◌, ◌<◌, ◌≤◌, ◌+◌, ◌-◌, ℕ, ℤ, suc, max, Option, Some, None, Box, length, set, refl, sym, ap, subst, arith, rules, inl, inr}
 use Rattle.std.specs.Prelude.{IfErr}
 use Rattle.std.specs.Int.{w32, cast_signed, cast_unsigned}
 use Rattle.std.specs.declared.alloc.Global.{Global}
@@ -11,11 +11,10 @@ use Rattle.bpf_model.specs.Verdict.{insn_dataflow_fault, visits_in, visit_fault,
 use Rattle.bpf_model.specs.declared.fault.Refusal.{Refusal}
 use Rattle.bpf_verifier.specs.declared.dataflow.Visit.{Visit}
 use Rattle.bpf_verifier.specs.declared.dataflow.Returned.{Returned}
-use Rattle.bpf_verifier.specs.FrameBytes.{AreBitsOf}
-use Rattle.bpf_verifier.specs.Represents.{Represents, state_of}
+use Rattle.bpf_verifier.specs.Represents.{Stack, IsStackOf, Represents, state_of}
 use Rattle.bpf_verifier.specs.Sweep.{Pending, visit_in, VisitJoined, Flowed, AreFew, Fails, Entered, activation_of, SweepAt, IsStart, nothing_returned, FailsInCall, CalledBack, callee_of}
 use Rattle.bpf_model.proofs.Slots.{insn_at_less}
-use Rattle.bpf_verifier.proofs.Sweeps.{pending_is, taken, length_flow, few_visited, steps_few, own_bytes, own_bytes_are}
+use Rattle.bpf_verifier.proofs.Sweeps.{pending_is, taken, length_flow, few_visited, steps_few, own_stack, own_stack_is}
 use Rattle.bpf_verifier.proofs.Functions.{insn_there, begins_here, state_here, sweep_none, start_long, start_few, started, followed}
 use Rattle.bpf_verifier.proofs.Visiting.{at_next, begin_fails, other_visited, exit_visited, call_visited, call_lands, call_fails, own_state, own_exit, is_callee, callee_running, is_none_of, flowed_from, called_few, finds_same, handed_on, if_ok, if_err}
 use Rattle.bpf_verifier.proofs.dataflow.+calls.Goals as goal
@@ -29,22 +28,26 @@ visit_slot-visit-requires g t w =
     let inside : w.args.slot < length w.args.pending.now = omega (arith, w.requires.inside, w.requires.long) in
     let x = w.in-Some in
     let e = pending_is w.args.pending.now w.args.slot w.take.result w.index-pending-slot.result (Some x.visit) w.take.ensures.value inside x.is in
-    let m = state_here f h.1.entered w.args.slot w.args.pending.now w.args.returned.now w.args.pass.now.visits h.2 inside x.visit.value e in
-    record {
-      code = f.code;
-      slots_are = h.1.slots_are;
-      running = activation_of f;
-      active = h.1.active;
-      insn_is = insn_there f.code w.args.slots.now w.args.slot w.args.insn h.1.slots_are w.requires.insn (begins_here f h.1.entered w.args.slot w.args.pending.now w.args.returned.now w.args.pass.now.visits h.2 inside x.visit.value e);
-      of = m.0;
-      of_is = m.1;
-      represents = subst (λ (u : Visit). Represents u.state m.0) (sym w.deref.ensures) m.2;
-    }
+    let m = state_here f h.1.entered w.args.slot w.args.pending.now w.args.returned.now w.args.pass.now.visits h.2 inside x.visit.value e in (
+      search rules,
+      record {
+        profile = h.1.profile;
+        follows = h.1.follows;
+        code = f.code;
+        slots_are = h.1.slots_are;
+        running = activation_of f;
+        active = h.1.active;
+        insn_is = insn_there f.code w.args.slots.now w.args.slot w.args.insn h.1.slots_are w.requires.insn (begins_here f h.1.entered w.args.slot w.args.pending.now w.args.returned.now w.args.pass.now.visits h.2 inside x.visit.value e);
+        of = m.0;
+        of_is = m.1;
+        represents = subst (λ (u : Visit g.row.WORDS). Represents u.state m.0) (sym w.deref.ensures) m.2;
+      },
+    )
 
 pub visit_slot-returns-in_default-clause-right : goal.visit_slot-returns-in_default-clause-right
 visit_slot-returns-in_default-clause-right g c w = λ f same left is p.
     let inside : w.args.slot < length w.args.pending.now = omega (arith, w.requires.inside, w.requires.long) in
-    subst (λ (z : Option (Box Visit Global)). SweepAt f (w.args.slot + 1) (set w.args.pending.now w.args.slot z) w.args.returned.now w.args.pass.now.visits) (sym w.take.ensures.after)
+    subst (λ (z : Option (Box (Visit g.row.WORDS) Global)). SweepAt f (w.args.slot + 1) (set w.args.pending.now w.args.slot z) w.args.returned.now w.args.pass.now.visits) (sym w.take.ensures.after)
     (at_next f w.args.slot (taken w.args.pending.now w.args.slot) w.args.returned.now w.args.pass.now.visits
     (sweep_none f is w.args.slot w.args.pending.now w.args.returned.now w.args.pass.now.visits p inside (pending_is w.args.pending.now w.args.slot w.take.result w.index-pending-slot.result None w.take.ensures.value inside w.in_default.is)))
 
@@ -58,7 +61,7 @@ visit_slot-returns-in_err-begin-clause-refused g c w =
     let x-is = insn_there f.code w.args.slots.now w.args.slot w.args.insn at w.requires.insn (begins_here f is w.args.slot w.args.pending.now w.args.returned.now w.args.pass.now.visits p inside x.visit.value e) in
     let bad = w.in_err-begin.ensures.refused in
     subst (λ (n : ℕ). Fails f.base (visits_in f.code (suc f.left) f.entry f.state) w.in_err-begin.field-0.0.fault n) (sym bad.0)
-    (begin_fails f is w.args.slot w.args.pending.now w.args.returned.now w.args.pass.now.visits p inside x.visit.value e w.args.insn x-is (7 - w.args.left) (ap (λ (n : ℕ). 7 - n) (sym left)) w.in_err-begin.field-0.0.fault w.requires.few.visits_few (subst (λ (u : Visit). (init : ℕ → Bool) → AreBitsOf u.state.initialized.words init → visit_fault w.args.pass.now.visits (Some (record { slot = w.args.slot; fault = insn_dataflow_fault (7 - w.args.left) (state_of u.state.ranges init) w.args.insn })) ≡ Some w.in_err-begin.field-0.0.fault) w.deref-2.ensures bad.1))))
+    (begin_fails f is w.args.slot w.args.pending.now w.args.returned.now w.args.pass.now.visits p inside x.visit.value e w.args.insn x-is (7 - w.args.left) (ap (λ (n : ℕ). 7 - n) (sym left)) w.in_err-begin.field-0.0.fault w.requires.few.visits_few (subst (λ (u : Visit g.row.WORDS). (stack : Stack) → IsStackOf u.state.initialized.words g.row.WORDS u.state.words.ranges stack → visit_fault w.args.pass.now.visits (Some (record { slot = w.args.slot; fault = insn_dataflow_fault (7 - w.args.left) (state_of u.state.ranges stack) w.args.insn })) ≡ Some w.in_err-begin.field-0.0.fault) w.deref-2.ensures bad.1))))
 
 pub visit_slot-returns-in_err-callee-in-CallLocal-clause-refused : goal.visit_slot-returns-in_err-callee-in-CallLocal-clause-refused
 visit_slot-returns-in_err-callee-in-CallLocal-clause-refused g c w =
@@ -78,7 +81,7 @@ visit_slot-returns-in_err-callee-in-CallLocal-clause-refused g c w =
           (λ m rep none.
           subst (λ (k : ℕ). FailsInCall f w.args.slot n m k refusal.fault refusal.slot) w.in_ok-begin.ensures.count.0
           (subst (λ (z : ℤ). FailsInCall f w.args.slot z m w.begin.new.self.visits refusal.fault refusal.slot) again
-          (fails f m at left is (subst (λ (u : Visit). Represents u.state m) (sym w.deref-in-CallLocal.ensures) rep) (x-is ∙ ap Some w.in-CallLocal.is ∙ ap (λ (z : ℤ). Some (CallLocal z)) (sym again)) none))))
+          (fails f m at left is (subst (λ (u : Visit g.row.WORDS). Represents u.state m) (sym w.deref-in-CallLocal.ensures) rep) (x-is ∙ ap Some w.in-CallLocal.is ∙ ap (λ (z : ℤ). Some (CallLocal z)) (sym again)) none))))
     ])
 
 pub visit_slot-call-requires : goal.visit_slot-call-requires
@@ -98,14 +101,26 @@ visit_slot-call-requires g t c κs within =
       (
         search rules,
         (
-          c.requires.short,
+          search rules,
           (
-            c.requires.deep,
+            search rules,
             (
-              c.requires.inside,
+              search rules,
               (
-                few,
-                (f, m.0, h.1, subst (λ (u : Visit). Represents u.state m.0) (sym c.deref-in-CallLocal.ensures) m.2, m.1, x-is ∙ ap Some c.in-CallLocal.is ∙ ap (λ (z : ℤ). Some (CallLocal z)) (sym again)),
+                search rules,
+                (
+                  c.requires.short,
+                  (
+                    c.requires.deep,
+                    (
+                      c.requires.inside,
+                      (
+                        few,
+                        (f, m.0, h.1, subst (λ (u : Visit g.row.WORDS). Represents u.state m.0) (sym c.deref-in-CallLocal.ensures) m.2, m.1, x-is ∙ ap Some c.in-CallLocal.is ∙ ap (λ (z : ℤ). Some (CallLocal z)) (sym again)),
+                      ),
+                    ),
+                  ),
+                ),
               ),
             ),
           ),
@@ -119,16 +134,16 @@ visit_slot-overflow_add-deref_mut g t c =
     let x = c.in-Some in
     let e = pending_is c.args.pending.now c.args.slot c.take.result c.index-pending-slot.result (Some x.visit) c.take.ensures.value inside x.is in
     let few = steps_few 0 c.args.pass.now.visits c.args.slot c.args.pending.now c.args.returned.now.bound x.visit.value c.requires.few e in
-    let same = ap (λ (u : Visit). u.steps) c.deref_mut.ensures.value in
+    let same = ap (λ (u : Visit g.row.WORDS). u.steps) c.deref_mut.ensures.value in
     let most = c.requires.few.visits_few in
     let more = called_few c.in_ok-callee-in-CallLocal.field-0 c.in-Some-2.callee c.args.left c.begin.new.self.visits c.call.new.pass.visits c.in-Some-2.is c.in_ok-callee-in-CallLocal.ensures.few in
     let counted = c.in_ok-begin.ensures.count in
     omega (arith, few, same, most, more.1, more.2, counted.0)
 
-pub visit_slot-resume-requires-clause-deep : goal.visit_slot-resume-requires-clause-deep
-visit_slot-resume-requires-clause-deep g c w =
+pub visit_slot-resume-requires : goal.visit_slot-resume-requires
+visit_slot-resume-requires g c w =
     let few = called_few w.in_ok-callee-in-CallLocal.field-0 w.in-Some-2.callee w.args.left w.begin.new.self.visits w.call.new.pass.visits w.in-Some-2.is w.in_ok-callee-in-CallLocal.ensures.few in
-    omega (arith, few.0, w.requires.deep)
+    (search rules, (search rules, (omega (arith, few.0, w.requires.deep), search rules)))
 
 pub visit_slot-overflow_add-deref_mut-in-Exit : goal.visit_slot-overflow_add-deref_mut-in-Exit
 visit_slot-overflow_add-deref_mut-in-Exit g c w =
@@ -136,7 +151,7 @@ visit_slot-overflow_add-deref_mut-in-Exit g c w =
     let x = w.in-Some in
     let e = pending_is w.args.pending.now w.args.slot w.take.result w.index-pending-slot.result (Some x.visit) w.take.ensures.value inside x.is in
     let few = steps_few 0 w.args.pass.now.visits w.args.slot w.args.pending.now w.args.returned.now.bound x.visit.value w.requires.few e in
-    let same = ap (λ (u : Visit). u.steps) w.deref_mut-in-Exit.ensures.value in
+    let same = ap (λ (u : Visit g.row.WORDS). u.steps) w.deref_mut-in-Exit.ensures.value in
     let most = w.requires.few.visits_few in
     omega (arith, few, same, most)
 
@@ -146,7 +161,7 @@ visit_slot-overflow_add-deref_mut-in_default-insn g c w =
     let x = w.in-Some in
     let e = pending_is w.args.pending.now w.args.slot w.take.result w.index-pending-slot.result (Some x.visit) w.take.ensures.value inside x.is in
     let few = steps_few 0 w.args.pass.now.visits w.args.slot w.args.pending.now w.args.returned.now.bound x.visit.value w.requires.few e in
-    let same = ap (λ (u : Visit). u.steps) w.deref_mut-in_default-insn.ensures.value in
+    let same = ap (λ (u : Visit g.row.WORDS). u.steps) w.deref_mut-in_default-insn.ensures.value in
     let most = w.requires.few.visits_few in
     omega (arith, few, same, most)
 
@@ -154,7 +169,7 @@ pub visit_slot-returns-in-Some-2-clause-few : goal.visit_slot-returns-in-Some-2-
 visit_slot-returns-in-Some-2-clause-few g c w = λ base few.
     let inside : w.args.slot < length w.args.pending.now = omega (arith, w.requires.inside, w.requires.long) in
     let x = w.in-Some in
-    let v : Visit = x.visit.value in
+    let v : Visit g.row.WORDS = x.visit.value in
     let e = pending_is w.args.pending.now w.args.slot w.take.result w.index-pending-slot.result (Some x.visit) w.take.ensures.value inside x.is in
     let back = w.in-Some-2.callee in
     let own = own_state v in
@@ -162,21 +177,21 @@ visit_slot-returns-in-Some-2-clause-few g c w = λ base few.
     let less = called_few w.in_ok-callee-in-CallLocal.field-0 back w.args.left w.begin.new.self.visits w.call.new.pass.visits w.in-Some-2.is w.in_ok-callee-in-CallLocal.ensures.few in
     let one = w.in_ok-begin.ensures.count.0 in
     let same = w.resume.ensures.visits in
-    let m : Visit = w.deref_mut.result.now in
+    let m : Visit g.row.WORDS = w.deref_mut.result.now in
     let is : m ≡ v = w.deref_mut.ensures.value in
     few_visited base w.args.pass.now.visits w.resume.new.pass.visits w.args.slot w.args.pending.now w.resume.new.pending w.args.returned.now.bound w.max-returned.result (1 + back.bound) v _ few e (omega (arith, less.1, one, same)) (omega (arith, less.2, same))
-    (w.max-returned.ensures ∙ ap (λ (u : Visit). max w.args.returned.now.bound u.steps) w.deref-in-Some-2.ensures ∙ ap (λ (u : Visit). max w.args.returned.now.bound (u.steps + (1 + back.bound))) is)
-    (flowed_from _ (m.steps + (1 + back.bound)) (v.steps + (1 + back.bound)) w.args.pending.now w.resume.new.pending w.args.slot w.take.new.self w.take.ensures.after (ap (λ (u : Visit). u.steps + (1 + back.bound)) is) (w.resume.ensures.flowed own.0 gone.0 (subst (λ (u : Visit). Represents u.state own.0) (sym is) own.1) gone.1))
+    (w.max-returned.ensures ∙ ap (λ (u : Visit g.row.WORDS). max w.args.returned.now.bound u.steps) w.deref-in-Some-2.ensures ∙ ap (λ (u : Visit g.row.WORDS). max w.args.returned.now.bound (u.steps + (1 + back.bound))) is)
+    (flowed_from _ (m.steps + (1 + back.bound)) (v.steps + (1 + back.bound)) w.args.pending.now w.resume.new.pending w.args.slot w.take.new.self w.take.ensures.after (ap (λ (u : Visit g.row.WORDS). u.steps + (1 + back.bound)) is) (w.resume.ensures.flowed own.0 gone.0 (subst (λ (u : Visit g.row.WORDS). Represents u.state own.0) (sym is) own.1) gone.1))
 
 pub visit_slot-returns-in-Some-2-clause-right : goal.visit_slot-returns-in-Some-2-clause-right
 visit_slot-returns-in-Some-2-clause-right g c w = λ f at left is p.
     let inside : w.args.slot < length w.args.pending.now = omega (arith, w.requires.inside, w.requires.long) in
     let x = w.in-Some in
-    let v : Visit = x.visit.value in
+    let v : Visit g.row.WORDS = x.visit.value in
     let e = pending_is w.args.pending.now w.args.slot w.take.result w.index-pending-slot.result (Some x.visit) w.take.ensures.value inside x.is in
     let x-is = insn_there f.code w.args.slots.now w.args.slot w.args.insn at w.requires.insn (begins_here f is w.args.slot w.args.pending.now w.args.returned.now w.args.pass.now.visits p inside x.visit.value e) in
     let back = w.in-Some-2.callee in
-    let m : Visit = w.deref_mut.result.now in
+    let m : Visit g.row.WORDS = w.deref_mut.result.now in
     let same : m ≡ v = w.deref_mut.ensures.value in
     let n = w.in-CallLocal.offset in
     let again : cast_signed w32 (cast_unsigned w32 n) ≡ n = search rules in
@@ -184,19 +199,19 @@ visit_slot-returns-in-Some-2-clause-right g c w = λ f at left is p.
     (λ s rep none.
     subst (λ (k : ℕ). CalledBack f w.args.slot n s k (Some back) w.resume.new.pass.visits) w.in_ok-begin.ensures.count.0
     (subst (λ (k : ℕ). CalledBack f w.args.slot n s w.begin.new.self.visits (Some back) k) (sym w.resume.ensures.visits)
-    (subst (λ (o : Option Returned). CalledBack f w.args.slot n s w.begin.new.self.visits o w.call.new.pass.visits) w.in-Some-2.is
+    (subst (λ (o : Option (Returned g.row.WORDS)). CalledBack f w.args.slot n s w.begin.new.self.visits o w.call.new.pass.visits) w.in-Some-2.is
     (subst (λ (z : ℤ). CalledBack f w.args.slot z s w.begin.new.self.visits w.in_ok-callee-in-CallLocal.field-0 w.call.new.pass.visits) again
-    (w.in_ok-callee-in-CallLocal.ensures.right f s at left is (subst (λ (u : Visit). Represents u.state s) (sym w.deref-in-CallLocal.ensures) rep) (x-is ∙ ap Some w.in-CallLocal.is ∙ ap (λ (z : ℤ). Some (CallLocal z)) (sym again)) none)))))
+    (w.in_ok-callee-in-CallLocal.ensures.right f s at left is (subst (λ (u : Visit g.row.WORDS). Represents u.state s) (sym w.deref-in-CallLocal.ensures) rep) (x-is ∙ ap Some w.in-CallLocal.is ∙ ap (λ (z : ℤ). Some (CallLocal z)) (sym again)) none)))))
     (λ s gone rep out.
-    flowed_from _ (m.steps + (1 + back.bound)) (v.steps + (1 + back.bound)) w.args.pending.now w.resume.new.pending w.args.slot w.take.new.self w.take.ensures.after (ap (λ (u : Visit). u.steps + (1 + back.bound)) same) (w.resume.ensures.flowed s gone (subst (λ (u : Visit). Represents u.state s) (sym same) rep) out))
+    flowed_from _ (m.steps + (1 + back.bound)) (v.steps + (1 + back.bound)) w.args.pending.now w.resume.new.pending w.args.slot w.take.new.self w.take.ensures.after (ap (λ (u : Visit g.row.WORDS). u.steps + (1 + back.bound)) same) (w.resume.ensures.flowed s gone (subst (λ (u : Visit g.row.WORDS). Represents u.state s) (sym same) rep) out))
     refl
-    (w.max-returned.ensures ∙ ap (λ (u : Visit). max w.args.returned.now.bound u.steps) w.deref-in-Some-2.ensures ∙ ap (λ (u : Visit). max w.args.returned.now.bound (u.steps + (1 + back.bound))) same)
+    (w.max-returned.ensures ∙ ap (λ (u : Visit g.row.WORDS). max w.args.returned.now.bound u.steps) w.deref-in-Some-2.ensures ∙ ap (λ (u : Visit g.row.WORDS). max w.args.returned.now.bound (u.steps + (1 + back.bound))) same)
 
 pub visit_slot-returns-in_default-2-clause-right : goal.visit_slot-returns-in_default-2-clause-right
 visit_slot-returns-in_default-2-clause-right g c w = λ f at left is p.
     let inside : w.args.slot < length w.args.pending.now = omega (arith, w.requires.inside, w.requires.long) in
     let x = w.in-Some in
-    let v : Visit = x.visit.value in
+    let v : Visit g.row.WORDS = x.visit.value in
     let e = pending_is w.args.pending.now w.args.slot w.take.result w.index-pending-slot.result (Some x.visit) w.take.ensures.value inside x.is in
     let x-is = insn_there f.code w.args.slots.now w.args.slot w.args.insn at w.requires.insn (begins_here f is w.args.slot w.args.pending.now w.args.returned.now w.args.pass.now.visits p inside x.visit.value e) in
     let n = w.in-CallLocal.offset in
@@ -204,66 +219,64 @@ visit_slot-returns-in_default-2-clause-right g c w = λ f at left is p.
     let none_back : w.in_ok-callee-in-CallLocal.field-0 ≡ None = is_none_of w.in_ok-callee-in-CallLocal.field-0 w.in_default-2.not-Some in
     absurd (call_lands f is w.args.slot w.args.pending.now w.args.returned.now w.args.pass.now.visits p inside v e w.args.insn x-is (7 - w.args.left) (ap (λ (k : ℕ). 7 - k) (sym left)) w.args.pending.now w.args.returned.now w.call.new.pass.visits (finds_same w.deref-2.result.now v w.args.insn (7 - w.args.left) None w.deref-2.ensures w.in_ok-begin.ensures.right) n w.in-CallLocal.is
     (λ s rep none.
-    subst (λ (k : ℕ). CalledBack f w.args.slot n s k None w.call.new.pass.visits) w.in_ok-begin.ensures.count.0
-    (subst (λ (o : Option Returned). CalledBack f w.args.slot n s w.begin.new.self.visits o w.call.new.pass.visits) none_back
+    subst (λ (k : ℕ). CalledBack {n = g.row.WORDS} f w.args.slot n s k None w.call.new.pass.visits) w.in_ok-begin.ensures.count.0
+    (subst (λ (o : Option (Returned g.row.WORDS)). CalledBack f w.args.slot n s w.begin.new.self.visits o w.call.new.pass.visits) none_back
     (subst (λ (z : ℤ). CalledBack f w.args.slot z s w.begin.new.self.visits w.in_ok-callee-in-CallLocal.field-0 w.call.new.pass.visits) again
-    (w.in_ok-callee-in-CallLocal.ensures.right f s at left is (subst (λ (u : Visit). Represents u.state s) (sym w.deref-in-CallLocal.ensures) rep) (x-is ∙ ap Some w.in-CallLocal.is ∙ ap (λ (z : ℤ). Some (CallLocal z)) (sym again)) none)))))
+    (w.in_ok-callee-in-CallLocal.ensures.right f s at left is (subst (λ (u : Visit g.row.WORDS). Represents u.state s) (sym w.deref-in-CallLocal.ensures) rep) (x-is ∙ ap Some w.in-CallLocal.is ∙ ap (λ (z : ℤ). Some (CallLocal z)) (sym again)) none)))))
 
 pub visit_slot-returns-in-Exit-clause-right : goal.visit_slot-returns-in-Exit-clause-right
 visit_slot-returns-in-Exit-clause-right g c w = λ f at left is p.
     let inside : w.args.slot < length w.args.pending.now = omega (arith, w.requires.inside, w.requires.long) in
     let x = w.in-Some in
-    let v : Visit = x.visit.value in
+    let v : Visit g.row.WORDS = x.visit.value in
     let e = pending_is w.args.pending.now w.args.slot w.take.result w.index-pending-slot.result (Some x.visit) w.take.ensures.value inside x.is in
     let x-is = insn_there f.code w.args.slots.now w.args.slot w.args.insn at w.requires.insn (begins_here f is w.args.slot w.args.pending.now w.args.returned.now w.args.pass.now.visits p inside x.visit.value e) in
-    let m : Visit = w.deref_mut-in-Exit.result.now in
+    let m : Visit g.row.WORDS = w.deref_mut-in-Exit.result.now in
     let same : m ≡ v = w.deref_mut-in-Exit.ensures.value in
-    let after : Returned = record { exit = w.join_into.new.place; bound = w.max-returned-in-Exit.result } in
+    let after : Returned g.row.WORDS = record { exit = w.join_into.new.place; bound = w.max-returned-in-Exit.result } in
     exit_visited f is w.args.slot w.args.pending.now w.args.returned.now w.args.pass.now.visits p inside v e w.args.insn x-is (7 - w.args.left) (ap (λ (k : ℕ). 7 - k) (sym left)) (set w.args.pending.now w.args.slot w.take.new.self) after w.join_into.new.pass.visits (finds_same w.deref-2.result.now v w.args.insn (7 - w.args.left) None w.deref-2.ensures w.in_ok-begin.ensures.right) w.in-Exit.is
-    (ap (λ (z : Option (Box Visit Global)). set w.args.pending.now w.args.slot z) w.take.ensures.after)
+    (ap (λ (z : Option (Box (Visit g.row.WORDS) Global)). set w.args.pending.now w.args.slot z) w.take.ensures.after)
     (λ of rep.
-    subst (λ (u : Visit). VisitJoined (visit_in w.args.returned.now.exit) of (u.steps + 1) (visit_in w.join_into.new.place)) same
-    (w.join_into.ensures.visit of (subst (λ (u : Visit). Represents u.state of) (sym same) rep)))
+    subst (λ (u : Visit g.row.WORDS). VisitJoined (visit_in w.args.returned.now.exit) of (u.steps + 1) (visit_in w.join_into.new.place)) same
+    (w.join_into.ensures.visit of (subst (λ (u : Visit g.row.WORDS). Represents u.state of) (sym same) rep)))
     (w.join_into.ensures.visits ∙ w.in_ok-begin.ensures.count.0)
-    (w.max-returned-in-Exit.ensures ∙ ap (λ (u : Visit). max w.args.returned.now.bound u.steps) w.deref-in-Exit.ensures ∙ ap (λ (u : Visit). max w.args.returned.now.bound (u.steps + 1)) same)
+    (w.max-returned-in-Exit.ensures ∙ ap (λ (u : Visit g.row.WORDS). max w.args.returned.now.bound u.steps) w.deref-in-Exit.ensures ∙ ap (λ (u : Visit g.row.WORDS). max w.args.returned.now.bound (u.steps + 1)) same)
 
 pub visit_slot-returns-in_ok-flow-in_default-insn-clause-few : goal.visit_slot-returns-in_ok-flow-in_default-insn-clause-few
 visit_slot-returns-in_ok-flow-in_default-insn-clause-few g c w = λ base few.
     let inside : w.args.slot < length w.args.pending.now = omega (arith, w.requires.inside, w.requires.long) in
     let x = w.in-Some in
-    let v : Visit = x.visit.value in
+    let v : Visit g.row.WORDS = x.visit.value in
     let e = pending_is w.args.pending.now w.args.slot w.take.result w.index-pending-slot.result (Some x.visit) w.take.ensures.value inside x.is in
-    let m : Visit = w.deref_mut-in_default-insn.result.now in
+    let m : Visit g.row.WORDS = w.deref_mut-in_default-insn.result.now in
     let same : m ≡ v = w.deref_mut-in_default-insn.ensures.value in
-    let words = m.state.initialized.words in
     let one = w.in_ok-begin.ensures.count.0 in
     let less = w.in_ok-begin.ensures.count.1 in
     let visits = w.in_ok-flow-in_default-insn.ensures.visits in
     few_visited base w.args.pass.now.visits w.flow.new.pass.visits w.args.slot w.args.pending.now w.flow.new.pending w.args.returned.now.bound w.max-returned-in_default-insn.result 1 v _ few e (omega (arith, one, visits)) (omega (arith, one, less, visits))
-    (w.max-returned-in_default-insn.ensures ∙ ap (λ (u : Visit). max w.args.returned.now.bound u.steps) w.deref-in_default-insn.ensures ∙ ap (λ (u : Visit). max w.args.returned.now.bound (u.steps + 1)) same)
-    (flowed_from _ (m.steps + 1) (v.steps + 1) w.args.pending.now w.flow.new.pending w.args.slot w.take.new.self w.take.ensures.after (ap (λ (u : Visit). u.steps + 1) same) (w.in_ok-flow-in_default-insn.ensures.flowed (λ _ _. None) (own_bytes words) w.in_default-insn.not-CallLocal (own_bytes_are words)))
+    (w.max-returned-in_default-insn.ensures ∙ ap (λ (u : Visit g.row.WORDS). max w.args.returned.now.bound u.steps) w.deref-in_default-insn.ensures ∙ ap (λ (u : Visit g.row.WORDS). max w.args.returned.now.bound (u.steps + 1)) same)
+    (flowed_from _ (m.steps + 1) (v.steps + 1) w.args.pending.now w.flow.new.pending w.args.slot w.take.new.self w.take.ensures.after (ap (λ (u : Visit g.row.WORDS). u.steps + 1) same) (w.in_ok-flow-in_default-insn.ensures.flowed (λ _ _. None) (own_stack m.state) w.in_default-insn.not-CallLocal (own_stack_is m.state)))
 
 pub visit_slot-returns-in_ok-flow-in_default-insn-clause-right : goal.visit_slot-returns-in_ok-flow-in_default-insn-clause-right
 visit_slot-returns-in_ok-flow-in_default-insn-clause-right g c w = λ f at left is p.
     let inside : w.args.slot < length w.args.pending.now = omega (arith, w.requires.inside, w.requires.long) in
     let x = w.in-Some in
-    let v : Visit = x.visit.value in
+    let v : Visit g.row.WORDS = x.visit.value in
     let e = pending_is w.args.pending.now w.args.slot w.take.result w.index-pending-slot.result (Some x.visit) w.take.ensures.value inside x.is in
     let x-is = insn_there f.code w.args.slots.now w.args.slot w.args.insn at w.requires.insn (begins_here f is w.args.slot w.args.pending.now w.args.returned.now w.args.pass.now.visits p inside x.visit.value e) in
-    let m : Visit = w.deref_mut-in_default-insn.result.now in
+    let m : Visit g.row.WORDS = w.deref_mut-in_default-insn.result.now in
     let same : m ≡ v = w.deref_mut-in_default-insn.ensures.value in
     other_visited f is w.args.slot w.args.pending.now w.args.returned.now w.args.pass.now.visits p inside v e w.args.insn x-is (7 - w.args.left) (ap (λ (k : ℕ). 7 - k) (sym left)) w.flow.new.pending (record { exit = w.args.returned.now.exit; bound = w.max-returned-in_default-insn.result }) w.flow.new.pass.visits (finds_same w.deref-2.result.now v w.args.insn (7 - w.args.left) None w.deref-2.ensures w.in_ok-begin.ensures.right) w.in_default-insn.not-CallLocal w.in_default-insn.not-Exit
-    (subst (λ (u : Visit). (b : ℕ → model.AbstractState → Option model.AbstractState) (init : ℕ → Bool) → AreBitsOf u.state.initialized.words init → Flowed (edges b w.args.slot (state_of u.state.ranges init) w.args.insn) (u.steps + 1) (taken w.args.pending.now w.args.slot) w.flow.new.pending) same
-    (λ b init bits. flowed_from _ (m.steps + 1) (m.steps + 1) w.args.pending.now w.flow.new.pending w.args.slot w.take.new.self w.take.ensures.after refl (w.in_ok-flow-in_default-insn.ensures.flowed b init w.in_default-insn.not-CallLocal bits)))
+    (subst (λ (u : Visit g.row.WORDS). (b : ℕ → model.AbstractState → Option model.AbstractState) (stack : Stack) → IsStackOf u.state.initialized.words g.row.WORDS u.state.words.ranges stack → Flowed (edges b w.args.slot (state_of u.state.ranges stack) w.args.insn) (u.steps + 1) (taken w.args.pending.now w.args.slot) w.flow.new.pending) same
+    (λ b stack holds. flowed_from _ (m.steps + 1) (m.steps + 1) w.args.pending.now w.flow.new.pending w.args.slot w.take.new.self w.take.ensures.after refl (w.in_ok-flow-in_default-insn.ensures.flowed b stack w.in_default-insn.not-CallLocal holds)))
     (w.in_ok-flow-in_default-insn.ensures.visits ∙ w.in_ok-begin.ensures.count.0)
     refl
-    (w.max-returned-in_default-insn.ensures ∙ ap (λ (u : Visit). max w.args.returned.now.bound u.steps) w.deref-in_default-insn.ensures ∙ ap (λ (u : Visit). max w.args.returned.now.bound (u.steps + 1)) same)
+    (w.max-returned-in_default-insn.ensures ∙ ap (λ (u : Visit g.row.WORDS). max w.args.returned.now.bound u.steps) w.deref-in_default-insn.ensures ∙ ap (λ (u : Visit g.row.WORDS). max w.args.returned.now.bound (u.steps + 1)) same)
 
 pub visit_slot-returns-in_ok-flow-in_default-insn-clause-long : goal.visit_slot-returns-in_ok-flow-in_default-insn-clause-long
 visit_slot-returns-in_ok-flow-in_default-insn-clause-long g c w =
-    let m : Visit = w.deref_mut-in_default-insn.result.now in
-    let words = m.state.initialized.words in
-    length_flow _ (m.steps + 1) (set w.args.pending.now w.args.slot w.take.new.self) w.flow.new.pending (w.in_ok-flow-in_default-insn.ensures.flowed (λ _ _. None) (own_bytes words) w.in_default-insn.not-CallLocal (own_bytes_are words)) ∙ length-set w.args.pending.now w.args.slot w.take.new.self
+    let m : Visit g.row.WORDS = w.deref_mut-in_default-insn.result.now in
+    length_flow _ (m.steps + 1) (set w.args.pending.now w.args.slot w.take.new.self) w.flow.new.pending (w.in_ok-flow-in_default-insn.ensures.flowed (λ _ _. None) (own_stack m.state) w.in_default-insn.not-CallLocal (own_stack_is m.state)) ∙ length-set w.args.pending.now w.args.slot w.take.new.self
 
 -- ---- sweep
 
@@ -299,21 +312,33 @@ follow-sweep-requires g t c κs within =
     let running = h.1 in
     let same = c.deref_mut.ensures.value in
     let long : length c.deref_mut.result.now ≡ length c.args.slots.now = ap length same ∙ start_long c.in_ok-pending.pending.items (length c.args.slots.now) c.args.entry c.args.visit (subst (λ (n : ℕ). IsStart c.in_ok-pending.pending.items n c.args.entry c.args.visit) c.len.ensures c.in_ok-pending.ensures) in
-    let few : AreFew c.args.pass.now.visits c.args.pass.now.visits c.deref_mut.result.now 0 = subst (λ (l : Pending). AreFew c.args.pass.now.visits c.args.pass.now.visits l 0) (sym same) (start_few c.in_ok-pending.pending.items (length c.args.slots.now) c.args.entry c.args.pass.now.visits c.args.visit c.requires.inside (subst (λ (n : ℕ). IsStart c.in_ok-pending.pending.items n c.args.entry c.args.visit) c.len.ensures c.in_ok-pending.ensures) c.requires.steps c.requires.few) in (
+    let few : AreFew c.args.pass.now.visits c.args.pass.now.visits c.deref_mut.result.now 0 = subst (λ (l : Pending g.row.WORDS). AreFew c.args.pass.now.visits c.args.pass.now.visits l 0) (sym same) (start_few c.in_ok-pending.pending.items (length c.args.slots.now) c.args.entry c.args.pass.now.visits c.args.visit c.requires.inside (subst (λ (n : ℕ). IsStart c.in_ok-pending.pending.items n c.args.entry c.args.visit) c.len.ensures c.in_ok-pending.ensures) c.requires.steps c.requires.few) in (
       search rules,
       (
         search rules,
         (
-          c.requires.short,
+          search rules,
           (
-            c.requires.deep,
+            search rules,
             (
-              c.requires.inside,
+              search rules,
               (
-                long,
+                search rules,
                 (
-                  few,
-                  (h.0, running, subst (λ (l : Pending). SweepAt h.0 c.args.entry l nothing_returned c.args.pass.now.visits) (sym c.deref_mut.ensures.value) (started h.0 running.entered c.in_ok-pending.pending.items c.args.slots.now c.args.visit c.args.entry c.args.pass.now.visits running.slots_are h.2 h.3 c.requires.inside (subst (λ (n : ℕ). IsStart c.in_ok-pending.pending.items n c.args.entry c.args.visit) c.len.ensures c.in_ok-pending.ensures) c.requires.steps h.4)),
+                  c.requires.short,
+                  (
+                    c.requires.deep,
+                    (
+                      c.requires.inside,
+                      (
+                        long,
+                        (
+                          few,
+                          (h.0, running, subst (λ (l : Pending g.row.WORDS). SweepAt h.0 c.args.entry l nothing_returned c.args.pass.now.visits) (sym c.deref_mut.ensures.value) (started h.0 running.entered c.in_ok-pending.pending.items c.args.slots.now c.args.visit c.args.entry c.args.pass.now.visits running.slots_are h.2 h.3 c.requires.inside (subst (λ (n : ℕ). IsStart c.in_ok-pending.pending.items n c.args.entry c.args.visit) c.len.ensures c.in_ok-pending.ensures) c.requires.steps h.4)),
+                        ),
+                      ),
+                    ),
+                  ),
                 ),
               ),
             ),
@@ -325,7 +350,7 @@ follow-sweep-requires g t c κs within =
 pub follow-returns-clause-right : goal.follow-returns-clause-right
 follow-returns-clause-right g c w =
     if_ok w.sweep.result _ _ w.sweep.ensures.right (λ back h f at left entry base is rep.
-    h f at left is (subst (λ (l : Pending). SweepAt f w.args.entry l nothing_returned w.args.pass.now.visits) (sym w.deref_mut.ensures.value) (started f is w.in_ok-pending.pending.items w.args.slots.now w.args.visit w.args.entry w.args.pass.now.visits at entry base w.requires.inside (subst (λ (n : ℕ). IsStart w.in_ok-pending.pending.items n w.args.entry w.args.visit) w.len.ensures w.in_ok-pending.ensures) w.requires.steps rep)))
+    h f at left is (subst (λ (l : Pending g.row.WORDS). SweepAt f w.args.entry l nothing_returned w.args.pass.now.visits) (sym w.deref_mut.ensures.value) (started f is w.in_ok-pending.pending.items w.args.slots.now w.args.visit w.args.entry w.args.pass.now.visits at entry base w.requires.inside (subst (λ (n : ℕ). IsStart w.in_ok-pending.pending.items n w.args.entry w.args.visit) w.len.ensures w.in_ok-pending.ensures) w.requires.steps rep)))
 
 pub follow-returns-clause-refused : goal.follow-returns-clause-refused
 follow-returns-clause-refused g c w =
@@ -333,7 +358,7 @@ follow-returns-clause-refused g c w =
     elim h [
       | inl memory ↦ inl memory
       | inr fails ↦ inr (λ f at left entry base is rep.
-          fails f at left is (subst (λ (l : Pending). SweepAt f w.args.entry l nothing_returned w.args.pass.now.visits) (sym w.deref_mut.ensures.value) (started f is w.in_ok-pending.pending.items w.args.slots.now w.args.visit w.args.entry w.args.pass.now.visits at entry base w.requires.inside (subst (λ (n : ℕ). IsStart w.in_ok-pending.pending.items n w.args.entry w.args.visit) w.len.ensures w.in_ok-pending.ensures) w.requires.steps rep)))
+          fails f at left is (subst (λ (l : Pending g.row.WORDS). SweepAt f w.args.entry l nothing_returned w.args.pass.now.visits) (sym w.deref_mut.ensures.value) (started f is w.in_ok-pending.pending.items w.args.slots.now w.args.visit w.args.entry w.args.pass.now.visits at entry base w.requires.inside (subst (λ (n : ℕ). IsStart w.in_ok-pending.pending.items n w.args.entry w.args.visit) w.len.ensures w.in_ok-pending.ensures) w.requires.steps rep)))
     ])
 
 -- ---- call
@@ -365,7 +390,7 @@ call-follow-requires g t c κs within =
       (
         search rules,
         (
-          c.requires.short,
+          search rules,
           (
             search rules,
             (
@@ -373,8 +398,20 @@ call-follow-requires g t c κs within =
               (
                 search rules,
                 (
-                  search rules,
-                  (callee_of h.0 h.1 x.target x.left c.entry_visit.new.self.visits, callee_running c.args.slots.now c.args.left x.left c.args.slot x.target n c.entry_visit.new.self.visits h.0 h.1 running h.4 h.5 leads (omega (arith, one.0, one.1)) c.requires.deep, refl, refl, subst (λ (d : ℕ). Represents c.in_ok-callee.callee.value.state (entry_state d h.1)) depth (c.in_ok-callee.ensures.state h.1 h.3)),
+                  c.requires.short,
+                  (
+                    search rules,
+                    (
+                      search rules,
+                      (
+                        search rules,
+                        (
+                          search rules,
+                          (callee_of h.0 h.1 x.target x.left c.entry_visit.new.self.visits, callee_running g.row.WORDS c.args.slots.now c.args.left x.left c.args.slot x.target n c.entry_visit.new.self.visits h.0 h.1 running h.4 h.5 leads (omega (arith, one.0, one.1)) c.requires.deep, refl, refl, subst (λ (d : ℕ). Represents c.in_ok-callee.callee.value.state (entry_state d h.1)) depth (c.in_ok-callee.ensures.state h.1 h.3)),
+                        ),
+                      ),
+                    ),
+                  ),
                 ),
               ),
             ),

@@ -8,10 +8,35 @@ use Rattle.bpf_verifier.proofs.States.{represents_same}
 use Rattle.bpf_verifier.proofs.Visiting.{main_of, is_main, main_running, fails_first, handed_on}
 use Rattle.bpf_verifier.proofs.dataflow.check_dataflow.Goals as goal
 
-pub follow-requires-clause-running : goal.follow-requires-clause-running
-follow-requires-clause-running g c =
+pub follow-requires : goal.follow-requires
+follow-requires g c =
     let h = c.requires.code in
-    (main_of h.0, main_running c.args.slots.now h.0 h.1 h.2 c.requires.some, refl, sym c.in_ok-visit.ensures.visits, represents_same _ _ start_state c.in_ok-visit.ensures.ranges c.in_ok-visit.ensures.initialized c.at_start.ensures)
+    let none = c.in_ok-visit.ensures.visits in
+    let running = main_running c.args.profile g.row.WORDS c.args.slots.now h.0 c.requires.follows h.1 h.2 c.requires.some in (
+      search rules,
+      (
+        search rules,
+        (
+          search rules,
+          (
+            c.requires.few,
+            (
+              search rules,
+              (
+                c.requires.some,
+                (
+                  c.in_ok-visit.ensures.steps,
+                  (
+                    omega (arith, none),
+                    (main_of c.args.profile h.0, running, refl, sym none, represents_same _ _ (start_state c.args.profile) c.in_ok-visit.ensures.ranges c.in_ok-visit.ensures.initialized c.in_ok-visit.ensures.words (c.at_start.ensures c.args.profile c.requires.follows)),
+                  ),
+                ),
+              ),
+            ),
+          ),
+        ),
+      ),
+    )
 
 pub returns-in_err-returned-clause-refused : goal.returns-in_err-returned-clause-refused
 returns-in_err-returned-clause-refused g c =
@@ -20,16 +45,16 @@ returns-in_err-returned-clause-refused g c =
     (elim c.in_err-returned.ensures.refused [
       | inl memory ↦ inl memory
       | inr fails ↦ inr (λ code at structured.
-          fails_first code c.in_err-returned.field-0.0.fault c.in_err-returned.field-0.0.slot (fails (main_of code) at refl refl (sym c.in_ok-visit.ensures.visits) (is_main code structured (subst (λ (l : List (Option Insn)). 0 < length l) at c.requires.some)) (represents_same _ _ start_state c.in_ok-visit.ensures.ranges c.in_ok-visit.ensures.initialized c.at_start.ensures)))
+          fails_first c.args.profile code c.in_err-returned.field-0.0.fault c.in_err-returned.field-0.0.slot (fails (main_of c.args.profile code) at refl refl (sym c.in_ok-visit.ensures.visits) (is_main c.args.profile code structured (subst (λ (l : List (Option Insn)). 0 < length l) at c.requires.some)) (represents_same _ _ (start_state c.args.profile) c.in_ok-visit.ensures.ranges c.in_ok-visit.ensures.initialized c.in_ok-visit.ensures.words (c.at_start.ensures c.args.profile c.requires.follows))))
     ])
 
 pub returns-clause-right : goal.returns-clause-right
 returns-clause-right g c = λ code at structured.
-    let g = c.in_ok-returned.ensures.right (main_of code) at refl refl (sym c.in_ok-visit.ensures.visits) (is_main code structured (subst (λ (l : List (Option Insn)). 0 < length l) at c.requires.some)) (represents_same _ _ start_state c.in_ok-visit.ensures.ranges c.in_ok-visit.ensures.initialized c.at_start.ensures) in
+    let f = c.in_ok-returned.ensures.right (main_of c.args.profile code) at refl refl (sym c.in_ok-visit.ensures.visits) (is_main c.args.profile code structured (subst (λ (l : List (Option Insn)). 0 < length l) at c.requires.some)) (represents_same _ _ (start_state c.args.profile) c.in_ok-visit.ensures.ranges c.in_ok-visit.ensures.initialized c.in_ok-visit.ensures.words (c.at_start.ensures c.args.profile c.requires.follows)) in
     let few = c.in_ok-returned.ensures.few.1 in
-    let count = g.count in
-    no_faults code g.right (omega (arith, few, count))
+    let count = f.count in
+    no_faults c.args.profile code f.right (omega (arith, few, count))
 
 pub returns-clause-bound : goal.returns-clause-bound
 returns-clause-bound g c = λ code at structured.
-    (c.in_ok-returned.ensures.right (main_of code) at refl refl (sym c.in_ok-visit.ensures.visits) (is_main code structured (subst (λ (l : List (Option Insn)). 0 < length l) at c.requires.some)) (represents_same _ _ start_state c.in_ok-visit.ensures.ranges c.in_ok-visit.ensures.initialized c.at_start.ensures)).bound
+    (c.in_ok-returned.ensures.right (main_of c.args.profile code) at refl refl (sym c.in_ok-visit.ensures.visits) (is_main c.args.profile code structured (subst (λ (l : List (Option Insn)). 0 < length l) at c.requires.some)) (represents_same _ _ (start_state c.args.profile) c.in_ok-visit.ensures.ranges c.in_ok-visit.ensures.initialized c.in_ok-visit.ensures.words (c.at_start.ensures c.args.profile c.requires.follows))).bound

@@ -4,4 +4,4 @@ use Rattle.bpf_verifier.specs.Represents.{ranges_of}
 use Rattle.bpf_verifier.proofs.abstract_state.AbstractState.has_all.Given as goal
 
 abbrev pub invariant-loop-register : goal.invariant-loop-register
-invariant-loop-register l = has_all (ranges_of l.self.ranges) (take l.register-index l.registers) ≡ true
+invariant-loop-register g l = has_all (ranges_of l.self.ranges) (take l.register-index l.registers) ≡ true

@@ -7,7 +7,7 @@ use Rattle.byz_world.proofs.member.Member.output.Goals as goal
 
 pub returns-then-left-outputs : goal.returns-then-left-outputs
 returns-then-left-outputs c =
-    let rows = c.deref-row-items.result.now in
+    let rows = c.rows-row-items.result.now in
     let same : c.outputs-outputs.result.now ≡ (get_or rows c.loop-row.row-index c.row-item.result).outputs = c.outputs-outputs.ensures ∙ ap (λ (r : RowFacts). r.outputs) c.row-item.is in
     c.item_at.ensures ∙ ap (λ (xs : List Output). slice_get xs c.loop-row.left) same
     ∙ sym (in_row rows c.loop-row.row-index c.row-item.result c.loop-row.left c.loop-row-test.true (subst (λ (xs : List Output). c.loop-row.left < length xs) same c.if-left-outputs.true))
@@ -15,7 +15,7 @@ returns-then-left-outputs c =
 
 pub loop-row-preserved : goal.loop-row-preserved
 loop-row-preserved c =
-    let rows = c.deref-row-items.result.now in
+    let rows = c.rows-row-items.result.now in
     let same : c.outputs-outputs.result.now ≡ (get_or rows c.loop-row.row-index c.row-item.result).outputs = c.outputs-outputs.ensures ∙ ap (λ (r : RowFacts). r.outputs) c.row-item.is in
     ap (λ (xs : List Output). slice_get (outputs_in (drop (c.loop-row.row-index + 1) rows)) (c.loop-row.left - length xs)) same
     ∙ past_row rows c.loop-row.row-index c.row-item.result c.loop-row.left c.loop-row-test.true

@@ -33,7 +33,7 @@ invariant_of-self-2 c =
     let floor = c.floor_of-floor.ensures ∙ ap floor_of c.as_slice.ensures in
     let bound = floor_small n.changes (subst BodyWellFormed is c.body.ensures.checked.encodes.well_formed.well_formed).changes in
     entered_one _ _ _ c.self-2.invariant n c.in_ok-basis.basis c.floor_of-floor.result.0 c.in_ok-pre_prepares.pre_prepares.messages c.enter.new.self c.clear_view.new.self basis_is floor
-    (ap (λ (l : CheckedMessages). l.messages) c.in_ok-pre_prepares.ensures ∙ ap pre_prepares_of is) c.in_ok-enter.ensures.entered c.clear_view.ensures (omega (arith, floor, bound))
+    (ap (λ (l : CheckedMessages). l.messages) c.in_ok-pre_prepares.ensures ∙ ap pre_prepares_of is) c.in-Ok.ensures.entered c.clear_view.ensures (omega (arith, floor, bound))
 
 pub returns-clause-entered : goal.returns-clause-entered
 returns-clause-entered c = λ b body.
@@ -42,7 +42,7 @@ returns-clause-entered c = λ b body.
     let basis_is = ap (λ (m : CheckedMessage). m.message.body) c.in_ok-basis.ensures ∙ is in
     let floor = c.floor_of-floor.ensures ∙ ap floor_of c.as_slice.ensures in
     enters _ _ _ c.self-2.invariant n c.in_ok-basis.basis c.floor_of-floor.result.0 c.in_ok-pre_prepares.pre_prepares.messages c.enter.new.self c.clear_view.new.self basis_is floor
-    (ap (λ (l : CheckedMessages). l.messages) c.in_ok-pre_prepares.ensures ∙ ap pre_prepares_of is) c.in_ok-enter.ensures.entered c.clear_view.ensures
+    (ap (λ (l : CheckedMessages). l.messages) c.in_ok-pre_prepares.ensures ∙ ap pre_prepares_of is) c.in-Ok.ensures.entered c.clear_view.ensures
     c.args.self.now c.if-gt.self b (c.requires.valid n is) c.self-2.view_is (elim c.if-gt.branch [
       | then-gt+in_ok-leave_for w ↦ left_above c.args.self.now w.leave_for.new.self c.if-gt.self n.view.0 (subst (λ (v : ℕ). v < n.view.0) c.view.ensures (gt_is n.view.0 c.view.result.0 (sym w.if-gt.ensures))) w.self-is w.in_ok-leave_for.ensures.left
       | else-gt w ↦ left_not c.args.self.now c.if-gt.self n.view.0 (subst (λ (v : ℕ). n.view.0 ≤ v) c.view.ensures (le_from_not_gt n.view.0 c.view.result.0 (sym w.if-gt.ensures))) w.self-is

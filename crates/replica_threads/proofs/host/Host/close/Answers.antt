@@ -1,4 +1,4 @@
-use Rattle.std.proofs.Common.{◌≡◌, ◌∙◌, length, map, subst}
+use Rattle.std.proofs.Common.{◌∙◌, map, subst}
 use Rattle.std.proofs.lemmas.List.{length-map}
 use Rattle.host_types.specs.Configuration.{IsConfiguration}
 use Rattle.replica_threads.proofs.host.Host.close.Goals as goal
@@ -11,4 +11,6 @@ returns g c =
     record {
       agree = c.journals_of_all_replicas_agree.ensures c.args.self.now (map (λ p. p.1.items) journals) c.in_ok-collect.ensures.journals legal
           (length-map journals (λ p. p.1.items) ∙ c.in_ok-collect.ensures.many);
+      ids = c.in_ok-collect.ensures.ids;
+      fault = tt;
     }

@@ -1,4 +1,4 @@
-use Rattle.std.proofs.Common.{◌≡◌, ◌≤◌, length, rules, subst, sym}
+use Rattle.std.proofs.Common.{◌≤◌, length, rules, subst, sym}
 use Rattle.replica_core.specs.declared.replica.Status.{Status}
 use Rattle.replica_threads.specs.Stations.{IsReported}
 use Rattle.replica_threads.proofs.StationLaws.{reported_as}

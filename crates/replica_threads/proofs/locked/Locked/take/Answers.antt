@@ -1,4 +1,4 @@
-use Rattle.std.proofs.Common.{◌≡◌, ◌≤◌, length, rules}
+use Rattle.std.proofs.Common.{◌≤◌, length, rules}
 use Rattle.replica_core.specs.declared.row.Input.TheVariants as inputs
 use Rattle.replica_threads.proofs.StationLaws.{answered}
 use Rattle.replica_threads.proofs.locked.Locked.take.Goals as goal

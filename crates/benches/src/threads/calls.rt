@@ -1,0 +1,169 @@
+//! Calls of a host, by clients at the same time.
+
+ghost use Rattle.std.specs.Prelude.{◌≡◌, IfOk};
+ghost use Rattle.std.specs.List.{All};
+
+use crate::common::members::{FIRST_CLIENT, config, signers};
+use crate::common::operations::{PUT, installation, put};
+use anyhow::{Result, anyhow};
+use host_client::{Session, SessionFault, call};
+use host_types::{Bytes, ClientId, Config, Gate, ReplicaId};
+use lms_tree::{Height, Signer};
+use replica_core::Row;
+use replica_threads::Host;
+use std::alloc::Global;
+use std::sync::{Arc, Wait};
+use std::thread;
+use std::thread::Threads;
+use std::time::Instant;
+
+/// The replicas where one may be faulty.
+pub(crate) const REPLICAS: u8 = 4;
+
+/// The interval between checkpoints.
+const INTERVAL: u8 = 8;
+
+/// The rows that a journal has room for.
+const MAX_ROWS: u32 = 65_536;
+
+/// Clients that call at the same time, how often each does, and the openers of each replica.
+#[derive(Clone, Copy)]
+pub(crate) struct Setup {
+    pub(crate) height: Height,
+    pub(crate) clients: u8,
+    pub(crate) calls: u32,
+    pub(crate) openers: u8,
+}
+
+/// What a host did.
+#[derive(Drop)]
+pub(crate) struct Run {
+    pub(crate) config: Arc<Config>,
+    /// The time in which all calls were answered.
+    pub(crate) nanoseconds: u128,
+    pub(crate) journals: Vec<(ReplicaId, Vec<Row>)>,
+}
+
+/// A client of a host.
+#[derive(Drop)]
+struct Caller {
+    host: Arc<Host>,
+    session: Session,
+    ghost same: { session.config ≡ host.value },
+}
+
+impl Caller {
+    /// A client before its first request.
+    fn new(alloc: Global, host: &Arc<Host>, client: ClientId, signer: Signer) -> Result<Caller> {
+        let Some(entry) = host.config().client(client) else {
+            return Err(anyhow!("the client is not listed"));
+        };
+        if entry.key != signer.public_key() {
+            return Err(anyhow!("the signer's key is not listed"));
+        }
+        let session = Session::new(alloc, host.config(), client, signer)?;
+        let host = Arc::try_clone(host)?;
+        Ok(Caller { host, session })
+    }
+
+    /// Calls, and wants a result that says that the operation was done.
+    fn call<R: Wait>(&mut self, rt: &R, alloc: Global, op: Vec<u8>) -> Result<()> {
+        let op = Bytes::from_vec(op);
+        if op.as_slice().len() > 1_048_576 {
+            return Err(anyhow!("the operation is too long"));
+        }
+        let reply = call(rt, alloc, &self.host, &mut self.session, op)?;
+        match reply.result.as_slice().first() {
+            Some(0) => Ok(()),
+            _ => Err(anyhow!("a request is not done")),
+        }
+    }
+
+    /// Calls so often, each time with another key.
+    fn call_all<R: Wait>(&mut self, rt: &R, alloc: Global, calls: u32) -> Result<()> {
+        for number in 0..calls {
+            self.call(rt, alloc, put(alloc, number)?)?;
+        }
+        Ok(())
+    }
+}
+
+/// No one watches the threads.
+#[derive(Drop)]
+pub(crate) struct NoGate;
+
+impl Gate for NoGate {
+    fn step(&self, who: u32) {
+        let _ = who;
+    }
+}
+
+/// Starts a host and its clients, of which the first has installed the procedure that puts.
+fn start<R: Threads + Wait + Copy + Send + Drop + 'static>(
+    rt: &R,
+    alloc: Global,
+    setup: Setup,
+) -> Result<(Arc<Host>, Vec<Caller>)> {
+    let replicas = signers(alloc, setup.height, 0, REPLICAS)?;
+    let clients = signers(alloc, setup.height, FIRST_CLIENT, setup.clients)?;
+    let config = config(alloc, 1, INTERVAL, &replicas, &clients)?;
+    let gate = Arc::new(alloc, NoGate)?;
+    let host = Host::start(rt, alloc, &config, replicas, MAX_ROWS, setup.openers, gate)?;
+    let host = Arc::new(alloc, host)?;
+    let mut callers = Vec::new(alloc);
+    let mut id = u32::from(FIRST_CLIENT);
+    for signer in clients {
+        callers.push(Caller::new(alloc, &host, ClientId(id), signer)?)?;
+        id = id.saturating_add(1);
+    }
+    if let Some(first) = callers.first_mut() {
+        first.call(rt, alloc, installation(alloc, &PUT)?)?;
+    }
+    Ok((host, callers))
+}
+
+/// Lets all clients call at the same time, each in a thread of its own.
+fn call_at_once<R: Threads + Wait + Copy + Send + Drop + 'static>(
+    rt: &R,
+    alloc: Global,
+    callers: Vec<Caller>,
+    calls: u32,
+) -> Result<()> {
+    let mut crew = Vec::new(alloc);
+    for caller in callers {
+        let rt = *rt;
+        let job = move || {
+            let mut caller = caller;
+            caller.call_all(&rt, alloc, calls).is_ok()
+        };
+        crew.push(thread::spawn(&rt, job)?)?;
+    }
+    let mut are_done = true;
+    while let Some(thread) = crew.pop() {
+        are_done = thread.join(rt) && are_done;
+    }
+    if are_done {
+        Ok(())
+    } else {
+        Err(anyhow!("a call is not answered"))
+    }
+}
+
+/// Runs a host until its clients' calls are answered.
+pub(crate) fn measure<R: Threads + Wait + Copy + Send + Drop + 'static>(
+    rt: &HostRuntime,
+    threads: &R,
+    setup: Setup,
+) -> Result<Run> {
+    let (host, callers) = start(threads, rt.alloc(), setup)?;
+    let start = Instant::now(rt)?;
+    call_at_once(threads, rt.alloc(), callers, setup.calls)?;
+    let nanoseconds = start.elapsed(rt)?.as_nanos();
+    let journals = host.close(threads)?;
+    let config = Arc::try_clone(host.config())?;
+    Ok(Run {
+        config,
+        nanoseconds,
+        journals,
+    })
+}

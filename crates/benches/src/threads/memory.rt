@@ -1,0 +1,35 @@
+//! The memory that a host takes.
+
+use crate::common::peak::{peak, print_within};
+use crate::threads::calls::{Setup, measure};
+use anyhow::Result;
+use lms_tree::Height;
+use std::sync::Wait;
+use std::thread::Threads;
+
+/// The requests, with the installation.
+const REQUESTS: u32 = 300;
+
+/// What a host may take for them, in KiB.
+const LIMIT: u64 = 256 * 1024;
+
+/// Prints what a host and its client have taken at most after 300 requests.
+pub(crate) fn print_memory<R: Threads + Wait + Copy + Send + Drop + 'static>(
+    rt: &HostRuntime,
+    threads: &R,
+) -> Result<()> {
+    let setup = Setup {
+        height: Height::H10,
+        clients: 1,
+        calls: REQUESTS - 1,
+        openers: 1,
+    };
+    measure(rt, threads, setup)?;
+    print_within(
+        rt,
+        "a host of four replicas after 300 requests, at most",
+        peak(rt)?,
+        "KiB",
+        LIMIT,
+    )
+}

@@ -1,0 +1,123 @@
+//! What calls take against their signatures alone, and steps at a station against steps alone.
+
+use crate::common::ratio::{Comparison, Limit, require_within_limits};
+use crate::threads::calls::{REPLICAS, Setup, measure};
+use crate::threads::load;
+use crate::threads::steps::{self, messages_of};
+use anyhow::Result;
+use lms_tree::Height;
+use std::sync::Wait;
+use std::thread;
+use std::thread::Threads;
+
+/// What calls may take of their signatures alone on as many threads.
+const CALLS: Limit = Limit::Thousandths(1500);
+
+/// What a step at a station may take of the replica's alone.
+const STEP: Limit = Limit::Thousandths(1050);
+
+/// The calls of a row, of all clients together.
+const REQUESTS: u32 = 160;
+
+/// How often a step is measured; the least time counts.
+const ROUNDS: u32 = 5;
+
+/// A host whose replicas have so many openers each, and so many clients that call at the same time.
+fn host_of(clients: u8, openers: u8) -> Setup {
+    Setup {
+        height: Height::H10,
+        clients,
+        calls: REQUESTS / u32::from(clients).max(1),
+        openers,
+    }
+}
+
+/// Prints what the calls of a host take, and returns whether that is within the limit.
+fn print_calls<R: Threads + Wait + Copy + Send + Drop + 'static>(
+    rt: &HostRuntime,
+    threads: &R,
+    setup: Setup,
+) -> Result<bool> {
+    let run = measure(rt, threads, setup)?;
+    let alone = load::nanoseconds_alone(rt, threads, setup, &run)?;
+    let Setup {
+        clients,
+        openers,
+        ..
+    } = setup;
+    let work = format!(in rt.alloc(); "{REQUESTS} calls, clients: {clients}, openers: {openers}")?;
+    let is_within = Comparison {
+        work: work.as_str(),
+        taken: run.nanoseconds,
+        other: "signatures alone in four threads",
+        floor: alone,
+        limit: CALLS,
+    }
+    .print_microseconds(rt)?;
+    let each_second = u128::from(REQUESTS).saturating_mul(1_000_000_000) / run.nanoseconds.max(1);
+    let processors = thread::available_parallelism(threads)?;
+    println!(rt; "  {each_second} calls a second, on {processors} processors")?;
+    Ok(is_within)
+}
+
+/// Prints what the steps of a replica take at a station, and returns whether that is within the limit.
+fn print_steps<R: Threads + Wait + Copy + Send + Drop + 'static>(
+    rt: &HostRuntime,
+    threads: &R,
+) -> Result<bool> {
+    let setup = host_of(1, 1);
+    let run = measure(rt, threads, setup)?;
+    let messages = messages_of(rt.alloc(), &run)?;
+    let (mut taken, mut alone) = (u128::MAX, u128::MAX);
+    for _ in 0..ROUNDS {
+        alone = alone.min(steps::nanoseconds_alone(rt, setup, &run.config, &messages)?);
+        taken = taken.min(steps::nanoseconds_at_station(
+            rt,
+            threads,
+            setup,
+            &run.config,
+            &messages,
+        )?);
+    }
+    let work = format!(in rt.alloc(); "{} steps at a station", messages.len())?;
+    Comparison {
+        work: work.as_str(),
+        taken,
+        other: "the replica's alone",
+        floor: alone,
+        limit: STEP,
+    }
+    .print_microseconds(rt)
+}
+
+/// Prints all ratios; an error where one passes its limit.
+pub(crate) fn print_times<R: Threads + Wait + Copy + Send + Drop + 'static>(
+    rt: &HostRuntime,
+    threads: &R,
+) -> Result<()> {
+    let mut are_within = print_steps(rt, threads)?;
+    for (clients, openers) in [(1, 1), (1, 2), (8, 1), (8, 2)] {
+        are_within = print_calls(rt, threads, host_of(clients, openers))? && are_within;
+    }
+    require_within_limits(are_within)
+}
+
+/// Prints how many replicas gave a journal after two calls.
+pub(crate) fn print_small<R: Threads + Wait + Copy + Send + Drop + 'static>(
+    rt: &HostRuntime,
+    threads: &R,
+) -> Result<()> {
+    let setup = Setup {
+        height: Height::H5,
+        clients: 1,
+        calls: 2,
+        openers: 1,
+    };
+    let run = measure(rt, threads, setup)?;
+    let is_whole = run.journals.len() == usize::from(REPLICAS);
+    println!(rt;
+        "2 calls are answered, and {} replicas of {REPLICAS} give their journals",
+        run.journals.len()
+    )?;
+    require_within_limits(is_whole)
+}

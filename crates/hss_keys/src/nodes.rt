@@ -1,0 +1,78 @@
+//! The hashes of trees (RFC 8554, section 5.3), and those that bottom trees come from.
+
+ghost use Rattle.std.specs.Prelude.{◌≡◌, ◌∷◌, ◌++◌, take};
+ghost use Rattle.lms_ots.specs.Ots.{public_value, tagged_hash, u16str, u32str};
+ghost use Rattle.lms_tree.specs.Tree.{inner_node, leaf_node};
+ghost use Rattle.hss_keys.specs.Levels.{bottom_id, bottom_secret};
+ghost use Rattle.sha2.specs.Hashers.{Holds256};
+
+use lms_ots::ots_public;
+use sha2::{Digest, Sha256};
+
+// D_LEAF of RFC 8554, section 5.3.
+const LEAF_TAG: u16 = 0x8282;
+
+// D_INTR of RFC 8554, section 5.3.
+const INNER_TAG: u16 = 0x8383;
+
+// In place of a chain's number where a bottom tree's identifier is drawn from the top tree's seed.
+const IDENTIFIER_TAG: u16 = 0xffff;
+
+// The same where a bottom tree's seed is drawn.
+const SEED_TAG: u16 = 0xfffe;
+
+// In place of a step's number where a value is drawn from a seed (RFC 8554, appendix A).
+const SEED_STEP: u8 = 0xff;
+
+// A hasher that holds the identifier, `number` and `tag`.
+#[tactic(auto, unfolding(lms_ots::specs::Ots::u32str, lms_ots::specs::Ots::u16str))]
+fn hasher(id: &[u8; 16], number: u32, tag: u16) -> Sha256
+    ensures { Holds256 result (id.now ++ u32str number ++ u16str tag) }
+{
+    let mut hasher = Sha256::new();
+    hasher.update(id);
+    hasher.update(number.to_be_bytes());
+    hasher.update(tag.to_be_bytes());
+    hasher
+}
+
+// The hash of the identifier, `number`, `tag` and two strings.
+fn hash_of_two(id: &[u8; 16], number: u32, tag: u16, first: &[u8], second: &[u8]) -> [u8; 32]
+    ensures { result ≡ tagged_hash id.now number tag (first.now ++ second.now) }
+{
+    let mut hasher = hasher(id, number, tag);
+    hasher.update(first);
+    hasher.update(second);
+    hasher.finalize()
+}
+
+// The node `node` over the leaf `leaf`.
+pub(crate) fn leaf_node(id: &[u8; 16], node: u32, leaf: u32, secret: &[u8; 32]) -> [u8; 32]
+    ensures { result ≡ leaf_node id.now node (public_value id.now leaf secret.now) }
+{
+    hash_of_two(id, node, LEAF_TAG, &ots_public(id, leaf, secret), &[])
+}
+
+// The node `node` over two nodes.
+pub(crate) fn inner_node(id: &[u8; 16], node: u32, left: &[u8; 32], right: &[u8; 32]) -> [u8; 32]
+    ensures { result ≡ inner_node id.now node left.now right.now }
+{
+    hash_of_two(id, node, INNER_TAG, left, right)
+}
+
+// The identifier of bottom tree `number`.
+pub(crate) fn bottom_id(id: &[u8; 16], secret: &[u8; 32], number: u32) -> [u8; 16]
+    ensures { result ≡ bottom_id id.now secret.now number }
+{
+    let hash = hash_of_two(id, number, IDENTIFIER_TAG, &[SEED_STEP], secret);
+    let mut bottom = [0u8; 16];
+    bottom.copy_from_slice(&hash[..16]);
+    bottom
+}
+
+// The seed of bottom tree `number`.
+pub(crate) fn bottom_secret(id: &[u8; 16], secret: &[u8; 32], number: u32) -> [u8; 32]
+    ensures { result ≡ bottom_secret id.now secret.now number }
+{
+    hash_of_two(id, number, SEED_TAG, &[SEED_STEP], secret)
+}

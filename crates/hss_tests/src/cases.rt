@@ -1,0 +1,65 @@
+//! Cases of a key, a message and a signature, which are read from rows and damaged.
+
+use crate::valid::VALID;
+use hex::{FromHex, decode};
+use std::alloc::Global;
+use std::test::Fail;
+
+/// The bytes of hex text.
+pub(crate) fn array<const N: usize>(text: &str) -> Result<[u8; N], Fail> {
+    Ok(<[u8; N] as FromHex>::from_hex(text)?)
+}
+
+/// The word before a blank, and what stands behind it.
+pub(crate) fn halves(line: &str) -> (&str, &str) {
+    line.split_once(" ").unwrap_or((line, ""))
+}
+
+/// A key of two levels, a message and a signature.
+#[derive(Drop)]
+pub(crate) struct Case {
+    pub(crate) key: [u8; 60],
+    pub(crate) message: Vec<u8>,
+    pub(crate) signature: Vec<u8>,
+}
+
+/// The valid case of this name.
+pub(crate) fn valid_case(alloc: Global, name: &str) -> Result<Case, Fail> {
+    let found = VALID.lines().find(|line| halves(line).0 == name);
+    let (_, rest) = halves(found.ok_or("no such case")?);
+    let (key, rest) = halves(rest);
+    let (message, signature) = halves(rest);
+    let message = if message == "-" { "" } else { message };
+    Ok(Case {
+        key: array(key)?,
+        message: decode(alloc, message)?,
+        signature: decode(alloc, signature)?,
+    })
+}
+
+/// Writes bytes in hex from a place on: `PLACE HEX`.
+fn put(bytes: &mut [u8], text: &str) -> Result<(), Fail> {
+    let (place, piece) = halves(text);
+    let place = place.parse::<usize>()?;
+    for (target, byte) in bytes.iter_mut().skip(place).zip(piece.as_bytes().chunks(2)) {
+        *target = u8::from_str_radix(str::from_utf8(byte)?, 16)?;
+    }
+    Ok(())
+}
+
+impl Case {
+    /// Changes the case as a text says: `length N`, `message HEX`, or bytes from a place of the key or of the
+    /// signature on.
+    pub(crate) fn change(&mut self, alloc: Global, text: &str) -> Result<(), Fail> {
+        let (what, rest) = halves(text);
+        match what.as_bytes() {
+            b"" => {}
+            b"length" => self.signature.resize(rest.parse::<usize>()?, 0)?,
+            b"message" => self.message = decode(alloc, rest)?,
+            b"key" => put(&mut self.key, rest)?,
+            b"signature" => put(&mut self.signature, rest)?,
+            _ => return Err(Fail::new("no such change")),
+        }
+        Ok(())
+    }
+}
