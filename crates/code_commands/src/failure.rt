@@ -41,11 +41,13 @@ pub enum CodeFailure {
 }
 
 impl CodeFailure {
-    ghost use Rattle.std.specs.Prelude.{◌≤◌};
+    ghost use Rattle.std.specs.Prelude.{◌≡◌, ◌≤◌};
+    ghost use Rattle.code_commands.specs.Statuses.{is_reported, status_of};
 
     /// The status with which a program ends: 1 for a refusal, 3 where memory ran out, 4 where a stream failed.
     pub fn status(&self) -> u8
-        ensures { (1 ≤ result) × (result ≤ 4) }
+        ensures value { result ≡ status_of self.now }
+        ensures range { (1 ≤ result) × (result ≤ 4) }
     {
         match self {
             CodeFailure::Memory => 3,
@@ -56,7 +58,9 @@ impl CodeFailure {
 
     /// Whether its text is still to be written: nothing is said where memory ran out or a stream failed, and an
     /// explanation says it itself.
-    pub fn is_reported(&self) -> bool {
+    pub fn is_reported(&self) -> bool
+        ensures { result ≡ is_reported self.now }
+    {
         !matches!(
             self,
             CodeFailure::Explained(_) | CodeFailure::Memory | CodeFailure::Stream(_)
