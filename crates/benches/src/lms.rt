@@ -5,6 +5,7 @@ use anyhow::{Result, anyhow};
 use lms_tree::{Height, Signer, verify};
 
 mod counts;
+mod levels;
 mod times;
 
 /// Signs and verifies once, or does what a word names.

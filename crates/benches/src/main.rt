@@ -10,6 +10,7 @@ use std::sync::Wait;
 use std::thread::Threads;
 
 mod common;
+mod lanes;
 mod lms;
 mod machine;
 mod messages;
@@ -20,8 +21,8 @@ mod threads;
 mod world;
 
 /// The words of the parts.
-const PARTS: [&str; 8] = [
-    "lms", "messages", "machine", "records", "replica", "service", "world", "threads",
+const PARTS: [&str; 9] = [
+    "lms", "messages", "machine", "records", "replica", "service", "world", "threads", "lanes",
 ];
 
 fn main(rt: HostRuntime) -> Result<()> {
@@ -35,7 +36,7 @@ fn main(rt: HostRuntime) -> Result<()> {
 }
 
 /// Each part does its little.
-fn run_all<R: Threads + Wait + Copy + Send + Drop + 'static>(
+fn run_all<R: Threads + Wait + Copy + Send + Sync + Drop + 'static>(
     rt: &HostRuntime,
     threads: &R,
 ) -> Result<()> {
@@ -47,7 +48,7 @@ fn run_all<R: Threads + Wait + Copy + Send + Drop + 'static>(
 
 /// A part does its little, or measures what a word of its own names. Threads are made by a handle of their
 /// own.
-fn run<R: Threads + Wait + Copy + Send + Drop + 'static>(
+fn run<R: Threads + Wait + Copy + Send + Sync + Drop + 'static>(
     rt: &HostRuntime,
     threads: &R,
     part: &str,
@@ -62,8 +63,9 @@ fn run<R: Threads + Wait + Copy + Send + Drop + 'static>(
         "service" => service::run(rt, work),
         "world" => world::run(rt, work),
         "threads" => threads::run(rt, threads, work),
+        "lanes" => lanes::run(rt, threads, work),
         _ => Err(anyhow!(
-            "the first word is none of lms, messages, machine, records, replica, service, world and threads"
+            "the first word is none of lms, messages, machine, records, replica, service, world, threads and lanes"
         )),
     }
 }

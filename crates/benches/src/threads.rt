@@ -6,7 +6,7 @@ use anyhow::{Result, anyhow};
 use std::sync::Wait;
 use std::thread::Threads;
 
-mod calls;
+pub(crate) mod calls;
 mod load;
 mod memory;
 mod steps;

@@ -6,6 +6,7 @@ use Rattle.std.proofs.lemmas.Bool.{cases_lt, false≢true, eqb-true, eqb-false}
 use Rattle.std.proofs.lemmas.List.{map-append}
 use Rattle.std.proofs.lemmas.Option.{same_Some}
 use Rattle.host_types.specs.Configuration.{Configuration, IsConfiguration, replicas_for}
+use Rattle.host_types.specs.declared.key.PublicKey.{PublicKey}
 use Rattle.lms_tree.specs.Keys.{IsKeyOf}
 use Rattle.pbft_codec.specs.declared.signed.Role.TheVariants as roles
 use Rattle.pbft_model.specs.Core.{Core, start_of}
@@ -190,7 +191,7 @@ among p i a (suc n) low high is = either (eqb a i) refl (λ less. among p i (a +
   either true same more = here (p a) (ap p (eqb-true a i same) ∙ is) (eqb-true a i same)
   either false differ more = later (p a) (more (strictly a i low differ))
 
-listed_one : (c : Configuration) (i : ℕ) (signer : SigningState) (o : Option (List ℕ)) → key_of c roles.Replica i ≡ o → IsSomeAnd o (λ key. IsKeyOf key signer) → IsListed (setup_of c) i signer
+listed_one : (c : Configuration) (i : ℕ) (signer : SigningState) (o : Option PublicKey) → key_of c roles.Replica i ≡ o → IsSomeAnd o (λ key. IsKeyOf key signer) → IsListed (setup_of c) i signer
 listed_one c i signer None is h = absurd h
 listed_one c i signer (Some key) is h = (key, is, h)
 

@@ -8,6 +8,7 @@ use Rattle.std.proofs.lemmas.List.{get_or-set_other, length-set}
 use Rattle.std.proofs.lemmas.Option.{slice_get_within}
 use Rattle.host_types.specs.Configuration.{Configuration, IsConfiguration, replicas_for}
 use Rattle.host_types.specs.declared.Digest.{Digest}
+use Rattle.host_types.specs.declared.key.PublicKey.{PublicKey}
 use Rattle.pbft_codec.specs.declared.body.Body.{Body}
 use Rattle.pbft_codec.specs.declared.body.Body.TheVariants as bodies
 use Rattle.pbft_codec.specs.declared.signed.Role.{Role}
@@ -178,7 +179,7 @@ pub record IsByReplica (c : Configuration) (m : CheckedMessage) : Type 0 where
   pub role : m.message.role ≡ Replica
   pub listed : m.message.id < replicas_for c.f
 
-by_replica : (c : Configuration) (role : Role) (id : ℕ) (b : Checkpoint) (key : List ℕ) → IsConfiguration c → key_of c role id ≡ Some key → IsTrue (may_sign c role id (bodies.Checkpoint b)) → (role ≡ Replica) × (id < replicas_for c.f)
+by_replica : (c : Configuration) (role : Role) (id : ℕ) (b : Checkpoint) (key : PublicKey) → IsConfiguration c → key_of c role id ≡ Some key → IsTrue (may_sign c role id (bodies.Checkpoint b)) → (role ≡ Replica) × (id < replicas_for c.f)
 by_replica c Replica id b key k e may = (refl, omega (arith, slice_get_within c.keys id key e, k.a_key_each))
 by_replica c Client id b key k e may = absurd cc
 

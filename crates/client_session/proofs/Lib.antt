@@ -1,5 +1,5 @@
 mod Accepting
-mod Heights
+mod Signing
 mod LastReplies
 mod Rising
 mod Vouched

@@ -6,6 +6,7 @@ use Rattle.std.specs.List.{list_any}
 use Rattle.std.specs.Option.{option_map}
 use Rattle.host_types.specs.Configuration.{Configuration, replicas_for}
 use Rattle.host_types.specs.declared.ClientId.{ClientId}
+use Rattle.host_types.specs.declared.key.PublicKey.{PublicKey}
 use Rattle.host_types.specs.declared.request.Reply.{Reply}
 use Rattle.lms_tree.specs.Keys.{IsKeyOf}
 use Rattle.lms_tree.specs.SigningState.{SigningState}
@@ -30,7 +31,7 @@ pub record SessionState : Type 0 where
 
 -- The session's signer has the key that is listed for the client.
 pub record MaySign (s : SessionState) : Type 0 where
-  pub key : List ℕ
+  pub key : PublicKey
   pub listed : key_of s.config Client s.client.0 ≡ Some key
   pub is_key : IsKeyOf key s.signer
 

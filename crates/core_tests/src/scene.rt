@@ -3,12 +3,13 @@
 use crate::node::Node;
 use crate::signing::checked;
 use crate::words::Words;
-use host_types::{Bytes, ClientEntry, ClientId, Config, ReplicaId, Request, TenantId};
+use host_types::{Bytes, ClientEntry, ClientId, Config, Digest, ReplicaId, Request, TenantId};
 use lms_tree::{Height, Signer};
 use pbft_codec::{Body, RequestBody, Role};
 use replica_core::{Halt, Input, Output, Row};
 use seal::{Checked, open, request_digest};
 use service_core::State;
+use sha2::Sha256;
 use std::alloc::Global;
 use std::sync::Arc;
 use std::test::Fail;
@@ -147,19 +148,36 @@ impl Scene {
             let state = self.state_after(times)?;
             self.words.add(name, state.digest(), &state.to_bytes()?)?;
         }
-        self.add_late_state()
+        self.add_late_state()?;
+        self.add_first_version()
     }
 
     // The first state's bytes, with the last number but one in place of 0: behind the version.
     fn add_late_state(&mut self) -> Result<(), Fail> {
         let first = self.words.state("s0")?;
         let (_, rest) = first.as_slice().split_at(first.as_slice().len().min(9));
-        let mut bytes = Vec::from_slice(self.alloc, &[1])?;
+        let mut bytes = Vec::from_slice(self.alloc, &[2])?;
         bytes.extend_from_slice(&((1u64 << 48) - 2).to_be_bytes())?;
         bytes.extend_from_slice(rest)?;
         let config = Arc::try_clone(&self.config)?;
-        let state = State::from_bytes(self.alloc, config, &bytes)?;
+        let state = State::from_canonical(self.alloc, config, &bytes)?;
         self.words.add("late", state.digest(), &bytes)?;
+        Ok(())
+    }
+
+    // The state `s2` in bytes of version 1, which has no procedures: behind the version they are those of version 2.
+    fn add_first_version(&mut self) -> Result<(), Fail> {
+        let second = self.words.state("s2")?;
+        let (_, rest) = second.as_slice().split_at(second.as_slice().len().min(1));
+        let mut first = Vec::from_slice(self.alloc, &[1])?;
+        first.extend_from_slice(rest)?;
+        let config = Arc::try_clone(&self.config)?;
+        let state = State::from_bytes(self.alloc, config, &first)?;
+        if state.to_bytes()?.as_slice() != second.as_slice() {
+            return Err(Fail::new("another state is read"));
+        }
+        let digest = Digest(<Sha256 as sha2::Digest>::digest(first.as_slice()));
+        self.words.add("first-s2", digest, &first)?;
         Ok(())
     }
 

@@ -127,9 +127,28 @@ const INSIDE: Scenario = Scenario {
     ",
 };
 
+// Bytes of version 1 are no state's canonical encoding: a Snapshot of them is not installed, though their digest is stable.
+const FIRST_VERSION: Scenario = Scenario {
+    replica: 1,
+    leaves: 32,
+    lines: "
+        0 checkpoint 2 first-s2 => leaves 0
+        2 checkpoint 2 first-s2 => leaves 0
+        3 checkpoint 2 first-s2 => fetch state 2 to all; leaves 1
+        0 snapshot 2 first-s2   => leaves 0
+        0 snapshot 2 s2         => leaves 0
+        stands                  => view 0 active low 0 executed 0 left 31 state s0
+    ",
+};
+
 #[test]
 fn states_of_others(rt: HostRuntime) -> Result<(), Fail> {
     play_all(rt.alloc(), &[LAGGING, GREATEST, EXECUTED])
+}
+
+#[test]
+fn a_state_of_version_1(rt: HostRuntime) -> Result<(), Fail> {
+    play_all(rt.alloc(), &[FIRST_VERSION])
 }
 
 #[test]

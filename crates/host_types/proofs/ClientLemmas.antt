@@ -6,6 +6,7 @@ use Rattle.std.proofs.lemmas.Bool.{eqb-false, ltb-false, or_parts}
 use Rattle.std.proofs.lemmas.List.Elements.{All-cons}
 use Rattle.std.proofs.lemmas.List.Kept.{AllPairs-cons}
 use Rattle.host_types.specs.declared.config.ClientEntry.{ClientEntry}
+use Rattle.host_types.specs.declared.key.PublicKey.TheVariants.{Lms}
 use Rattle.host_types.specs.Configuration.{Configuration, IsConfiguration, replicas_for, tenants_of, too_many, some_client_twice}
 
 -- from index i on, whether a client is listed again
@@ -21,7 +22,7 @@ twice_at clients i d found h is before =
 
 -- what is at an index past the end
 abbrev pub nobody : ClientEntry
-nobody = record { id = record { 0 = 0 }; tenant = record { 0 = 0 }; key = [] }
+nobody = record { id = record { 0 = 0 }; tenant = record { 0 = 0 }; key = Lms [] }
 
 all_fail : {X : Type 0} (p : X → Bool) (xs : List X) → list_any p xs ≡ false → All (λ x. p x ≡ false) xs
 all_fail p [] e = λ k d h. absurd (omega arith)

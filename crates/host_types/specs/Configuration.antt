@@ -3,6 +3,7 @@ use Rattle.std.specs.Prelude.{◌≡◌, ◌≢◌, ℕ, ◌+◌, ◌*◌, ◌<�
 use Rattle.std.specs.List.{list_any}
 use Rattle.host_types.specs.declared.ClientId.{ClientId}
 use Rattle.host_types.specs.declared.TenantId.{TenantId}
+use Rattle.host_types.specs.declared.key.PublicKey.{PublicKey}
 use Rattle.host_types.specs.declared.config.ClientEntry.{ClientEntry}
 use Rattle.host_types.specs.declared.config.ConfigFault.{ConfigFault}
 use Rattle.host_types.specs.declared.config.ConfigFault.TheVariants.{BadF, WrongReplicaCount, BadInterval, DuplicateClient, TooMany}
@@ -10,7 +11,7 @@ use Rattle.host_types.specs.declared.config.ConfigFault.TheVariants.{BadF, Wrong
 pub record Configuration : Type 0 where
   pub f : ℕ
   pub k : ℕ
-  pub keys : List (List ℕ)
+  pub keys : List PublicKey
   pub clients : List ClientEntry
 
 -- how many replicas tolerate f faulty ones

@@ -8,7 +8,7 @@ ghost use Rattle.host_types.specs.Configuration.{Configuration, IsConfiguration,
 
 use crate::ascending::insert_sorted;
 use crate::limits::{MAX_CLIENTS, MAX_FAULTY};
-use crate::{ClientId, ReplicaId, TenantId, View};
+use crate::{ClientId, PublicKey, ReplicaId, TenantId, View};
 use arrayvec::ArrayVec;
 use std::marker::Model;
 use thiserror::Error;
@@ -25,7 +25,7 @@ const MIN_CLIENT: u32 = 16;
 pub struct ClientEntry {
     pub id: ClientId,
     pub tenant: TenantId,
-    pub key: [u8; 56],
+    pub key: PublicKey,
 }
 
 /// Why there is no configuration. Of several faults the first is reported, in the order
@@ -65,7 +65,7 @@ impl ConfigFault {
 pub struct Config {
     f: u8,
     k: u8,
-    keys: Vec<[u8; 56]>,
+    keys: Vec<PublicKey>,
     clients: Vec<ClientEntry>,
 }
 
@@ -85,7 +85,7 @@ impl Config {
     pub fn new(
         f: u8,
         k: u8,
-        keys: Vec<[u8; 56]>,
+        keys: Vec<PublicKey>,
         clients: Vec<ClientEntry>,
     ) -> Result<Config, ConfigFault>
         ensures { let given : Configuration = record { f = f; k = k; keys = keys.items; clients = clients.items } in
@@ -147,7 +147,7 @@ impl Config {
     }
 
     /// The key of a replica, or none where there is no replica of that number.
-    pub fn replica_key(&self, id: ReplicaId) -> Option<&[u8; 56]>
+    pub fn replica_key(&self, id: ReplicaId) -> Option<&PublicKey>
         ensures { option_copied result ≡ slice_get self.now.keys id.0 }
     {
         self.keys.get(usize::from(id.0))
@@ -203,7 +203,7 @@ impl Config {
 }
 
 // Whether two lists of keys are equal.
-fn same_keys(left: &[[u8; 56]], right: &[[u8; 56]]) -> bool
+fn same_keys(left: &[PublicKey], right: &[PublicKey]) -> bool
     ensures { IsTrue result ↔ (left.now ≡ right.now) }
 {
     left == right

@@ -9,6 +9,7 @@ mod ascending;
 mod bytes;
 mod config;
 mod gate;
+mod key;
 pub mod limits;
 pub mod operation;
 mod replica_set;
@@ -17,6 +18,7 @@ mod request;
 pub use bytes::Bytes;
 pub use config::{ClientEntry, Config, ConfigFault};
 pub use gate::Gate;
+pub use key::PublicKey;
 pub use replica_set::ReplicaSet;
 pub use request::{Reply, Request};
 

@@ -1,2 +1,7 @@
-pub mod TreeLemmas
-pub mod SignatureLemmas
+pub mod LengthLemmas
+pub mod FaultLemmas
+pub mod PositionLemmas
+pub mod KeyLemmas
+pub mod VerifierLemmas
+pub mod PartLemmas
+pub mod ShortLemmas

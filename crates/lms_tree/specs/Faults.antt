@@ -1,16 +1,8 @@
--- Statement: the number of each fault.
+-- Statement: the number of each fault of a signer.
 use Rattle.std.specs.Prelude.{ℕ}
 use Rattle.lms_tree.specs.declared.fault.SignFault.{SignFault}
 use Rattle.lms_tree.specs.declared.fault.SignFault.TheVariants.{Exhausted, Memory}
-use Rattle.lms_tree.specs.declared.fault.SigFault.{SigFault}
-use Rattle.lms_tree.specs.declared.fault.SigFault.TheVariants.{Length, WrongType, Leaf, Mismatch}
 
 abbrev pub sign_fault_number : SignFault → ℕ
 sign_fault_number Exhausted = 1
 sign_fault_number Memory = 2
-
-abbrev pub sig_fault_number : SigFault → ℕ
-sig_fault_number Length = 1
-sig_fault_number WrongType = 2
-sig_fault_number Leaf = 3
-sig_fault_number Mismatch = 4

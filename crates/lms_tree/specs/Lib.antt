@@ -1,7 +1,10 @@
 pub mod Faults
 pub mod Nodes
-pub mod Tree
+pub mod Levels
 pub mod Signature
 pub mod SigningState
 pub mod Keys
+pub mod Parts
 pub mod Verifying
+pub mod Trees
+pub mod Below

@@ -1,23 +1,30 @@
-//! LMS, the hash-based signatures of RFC 8554, section 5, with trees of height 5 and 10 over the
-//! one-time signatures of `lms_ots`: LMS_SHA256_M32_H5 and LMS_SHA256_M32_H10.
+//! Signers with keys of one tree or of two levels of trees, and the verifier of both: LMS and HSS with L = 2 of
+//! RFC 8554, sections 5 and 6, with trees of height 5 and 10.
 //!
-//! A `Signer` makes its whole tree when it is made, and keeps it, so that a signature reads its path.
-//! Its leaves sign from 0 upward, each once. `verify` takes no memory.
+//! A key of two levels has a top tree, which signs the keys of bottom trees, whose leaves sign messages. A signer
+//! keeps the top tree, the bottom tree that signs, and the next one, of which it makes a node with each signature, so
+//! that none waits for a whole tree. Its leaves sign from 0 upward, each once. `verify` takes no memory.
 //!
-//!     let mut signer = Signer::from_seed(alloc, Height::H5, id, secret)?;
+//!     let mut signer = Signer::from_seed2(alloc, Height::H5, Height::H10, id, secret)?;
 //!     let signature = signer.sign(b"a message")?;
 //!     verify(&signer.public_key(), b"a message", &signature)?;
 #![tactic(auto)]
 
-pub use fault::{SigFault, SignFault};
-pub use height::Height;
+pub use fault::SignFault;
+pub use laws::{
+    a_top_leaf_signs_one_key, leaves_are_few, next_leaf_is_within, no_leaf_signs_twice,
+    signatures_are_short,
+};
+pub use lms_level::{Height, SigFault};
 pub use signer::Signer;
 pub use validity::{Verifier, verify};
 
-mod buffer;
+mod bottom;
+mod bytes;
 mod fault;
-mod height;
+mod laws;
 mod nodes;
-mod signature;
+mod parts;
 mod signer;
+mod tree;
 mod validity;

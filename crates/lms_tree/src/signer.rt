@@ -1,127 +1,267 @@
 //! Signers: key pairs that use each leaf once.
 
-ghost use Rattle.std.specs.Prelude.{◌≡◌, ℕ, ◌+◌, ◌-◌, ◌^◌, ◌<◌, ◌≤◌, ◌↔◌, IfOk, IsErrOf, OnErr, OnOk, None};
+ghost use Rattle.std.specs.Prelude.{◌≡◌, ℕ, ◌+◌, ◌^◌, ◌<◌, ◌≤◌, ◌↔◌, ◌++◌, IfOk, IfSome, IsErrOf, None, Some, length};
+ghost use Rattle.lms_ots.specs.Ots.{u32str};
+ghost use Rattle.lms_level.specs.Signature.{levels_of};
+ghost use Rattle.lms_tree.specs.Keys.{after_signing, leaf_count, public_key_of_signer, signature_by, signature_number, signature_of, signature_length};
+ghost use Rattle.lms_tree.specs.Signature.{signature_fault};
+ghost use Rattle.lms_tree.specs.Below.{IsBelow, IsComing};
 
-use crate::buffer::{put, u32str};
+use crate::bottom::{Bottom, Coming};
+use crate::bytes::{put, u32str};
 use crate::fault::SignFault;
-use crate::height::Height;
-use crate::nodes::tree_nodes;
-use crate::signature::signature;
+use crate::tree::Tree;
+use host_types::PublicKey;
+use lms_level::Height;
 use std::alloc::{AllocError, Global};
 use std::marker::Model;
 
-/// A key pair that signs once for each leaf of its tree, in the leaves' order (RFC 8554, section 5).
-/// It can't be cloned, and never gives out its secret.
+/// The levels of trees of an `Hss` key, which is L of RFC 8554, section 6.1.
+const LEVELS: u32 = 2;
+
+/// A key pair that signs once for each leaf, in the leaves' order: those of one tree (RFC 8554, section 5), or
+/// those of all bottom trees, one tree after the other (section 6). It can't be cloned, and never gives out its
+/// secret.
 #[derive(Drop)]
 pub struct Signer {
     alloc: Global,
-    height: Height,
-    id: [u8; 16],
-    secret: [u8; 32],
+    /// The one tree, or the top tree.
+    top: Tree,
+    /// The height of the bottom trees, if there are two levels.
+    bottom: Option<Height>,
+    /// The bottom tree that signed last, unless memory ran out when it was made.
+    present: Option<Bottom>,
+    /// The bottom tree after that one, of which each signature makes a node, if there is a next and memory for it.
+    coming: Option<Coming>,
     next_leaf: u32,
-    nodes: Vec<[u8; 32]>,
 }
 
 impl Model for Signer {
-    ghost use Rattle.std.specs.Prelude.{◌≤◌};
-    ghost use Rattle.lms_tree.specs.Nodes.{IsTree};
-    ghost use Rattle.lms_tree.specs.Signature.{levels_of};
-    ghost use Rattle.lms_tree.specs.SigningState.{SigningState, leaf_count_of};
+    ghost use Rattle.std.specs.Prelude.{◌≡◌, ◌≤◌, Some, length};
+    ghost use Rattle.lms_tree.specs.SigningState.{SigningState, total_of};
+    ghost use Rattle.lms_tree.specs.Below.{AreBelow};
 
     ghost Value = { SigningState };
 
-    ghost view = { λ s. record { height = s.height; id = s.id; secret = s.secret; next_leaf = s.next_leaf } };
+    ghost view = { λ s. record {
+      height = s.top.height;
+      bottom = s.bottom;
+      id = s.top.id;
+      secret = s.top.secret;
+      next_leaf = s.next_leaf;
+    } };
 
-    ghost invariant = { λ s. (s.next_leaf ≤ leaf_count_of s.height) × IsTree (levels_of s.height) s.id s.secret s.nodes.items };
+    ghost invariant = { λ s. (s.next_leaf ≤ total_of s.top.height s.bottom)
+        × (length s.top.id ≡ 16)
+        × AreBelow s.top s.bottom s.present s.coming };
 }
 
 impl Signer {
-    ghost use Rattle.lms_tree.specs.Nodes.{IsTree};
-    ghost use Rattle.lms_tree.specs.Signature.{levels_of, public_key_of, signature_at, signature_fault, word_at};
-    ghost use Rattle.lms_tree.specs.SigningState.{SigningState, leaf_count_of};
-
-    /// A signer whose tree has the identifier `id`, and whose one-time keys come from `secret` (RFC
-    /// 8554, appendix A). It makes the whole tree, and keeps it in memory from `alloc`, as the
-    /// signatures will be.
+    /// A signer with one tree, which has the identifier `id`, and whose one-time keys come from `secret` (RFC
+    /// 8554, appendix A). It makes the whole tree, and keeps it in memory from `alloc`, as the signatures
+    /// will be.
     pub fn from_seed(
         alloc: Global,
         height: Height,
         id: [u8; 16],
         secret: [u8; 32],
     ) -> Result<Signer, AllocError>
-        ensures { IfOk result (λ signer. signer ≡ record { height = height; id = id; secret = secret; next_leaf = 0 }) }
+        ensures { IfOk result (λ signer.
+            signer ≡ record { height = height; bottom = None; id = id; secret = secret; next_leaf = 0 }) }
     {
-        let nodes = tree_nodes(alloc, height, &id, &secret)?;
         Ok(Signer {
             alloc,
-            height,
-            id,
-            secret,
+            top: Tree::new(alloc, height, id, secret)?,
+            bottom: None,
+            present: None,
+            coming: None,
             next_leaf: 0,
-            nodes,
         })
     }
 
-    /// The public key: the two typecodes, the identifier and the root (RFC 8554, section 5.3).
-    pub fn public_key(&self) -> [u8; 56]
-        ensures { result ≡ public_key_of self.now.height self.now.id self.now.secret }
+    /// A signer with two levels, whose top tree has the identifier `id` and the seed `secret`, from which those of
+    /// the bottom trees come. It makes the top tree and the first bottom tree.
+    pub fn from_seed2(
+        alloc: Global,
+        top: Height,
+        bottom: Height,
+        id: [u8; 16],
+        secret: [u8; 32],
+    ) -> Result<Signer, AllocError>
+        ensures { IfOk result (λ signer.
+            signer ≡ record { height = top; bottom = Some bottom; id = id; secret = secret; next_leaf = 0 }) }
     {
-        let mut key = [0u8; 56];
-        put(&mut key, 0, &u32str(self.height.typecode()));
-        put(&mut key, 4, &u32str(lms_ots::TYPECODE));
-        put(&mut key, 8, &self.id);
-        put(&mut key, 24, &self.nodes[1]);
-        key
+        let top = Tree::new(alloc, top, id, secret)?;
+        let present = Some(Bottom::new(alloc, &top, bottom, 0)?);
+        Ok(Signer {
+            alloc,
+            top,
+            bottom: Some(bottom),
+            present,
+            coming: None,
+            next_leaf: 0,
+        })
     }
 
-    /// The leaf that signs next, which is the number of signatures that were asked for so far.
+    /// The public key. It takes no memory.
+    pub fn public_key(&self) -> PublicKey
+        ensures { result ≡ public_key_of_signer self.now }
+    {
+        let top = self.top.public_key();
+        match self.bottom {
+            None => PublicKey::Lms(top),
+            Some(_) => PublicKey::Hss(key_of_levels(&top)),
+        }
+    }
+
+    /// The leaf that signs next, which is the number of signatures that were asked for so far. The leaves of all
+    /// bottom trees are counted, and not those of the top tree. It takes no memory.
     pub fn next_leaf(&self) -> u32
-        ensures { result ≡ self.now.next_leaf }
+        ensures leaf { result ≡ self.now.next_leaf }
+        ensures within { result ≤ leaf_count self.now }
     {
         self.next_leaf
     }
 
-    /// How many leaves have not signed.
+    /// How many leaves have not signed. It takes no memory.
     pub fn leaves_left(&self) -> u32
-        ensures { self.now.next_leaf + result ≡ leaf_count_of self.now.height }
+        ensures { self.now.next_leaf + result ≡ leaf_count self.now }
     {
-        self.height.leaf_count() - self.next_leaf
+        self.total() - self.next_leaf
     }
 
-    /// The signature of `body` by the next leaf, which is used by that (RFC 8554, section 5.4.1).
-    /// `Exhausted` comes where every leaf has signed, and leaves the signer as it was. After `Memory`
-    /// the leaf counts as used. The next leaf only ever rises, so that no leaf signs twice.
+    // How many signatures the key gives in all.
+    fn total(&self) -> u32
+        ensures { result ≡ leaf_count self.now }
+    {
+        let own = self.top.height().leaf_count();
+        match self.bottom {
+            None => own,
+            Some(height) => own * height.leaf_count(),
+        }
+    }
+
+    /// The signature of `body` by the next leaf, which is used by that (RFC 8554, sections 5.4.1 and 6.2).
+    /// `Exhausted` comes where every leaf has signed, takes no memory, and leaves the signer as it was. After
+    /// `Memory` the leaf counts as used, and the next leaf signs next: a bottom tree that could not be made is
+    /// made by the next call. The next leaf only ever rises, so that no leaf signs twice.
     pub fn sign(&mut self, body: &[u8]) -> Result<Vec<u8>, SignFault>
-        ensures signature { IfOk result (λ sig. sig.items ≡ signature_at self.old.height self.old.id self.old.secret self.old.next_leaf body.now) }
-
+        ensures signature { IfOk result (λ sig. sig.items ≡ signature_of self.old body.now) }
         ensures valid { IfOk result (λ sig.
-            signature_fault (public_key_of self.old.height self.old.id self.old.secret) body.now sig.items ≡ None) }
+            signature_fault (public_key_of_signer self.old) body.now sig.items ≡ None) }
+        ensures length { IfOk result (λ sig. length sig.items ≡ signature_length self.old) }
 
-        ensures exhausted { IsErrOf result SignFault.Exhausted ↔ (self.old.next_leaf ≡ leaf_count_of self.old.height) }
+        ensures exhausted { IsErrOf result SignFault.Exhausted ↔ (self.old.next_leaf ≡ leaf_count self.old) }
         ensures unchanged { IsErrOf result SignFault.Exhausted → self.new ≡ self.old }
 
-        // A leaf is used by each call that is not refused, also where there was no memory, and the
-        // leaf that a signature names lies below the next one from then on.
-        ensures used { self.old.next_leaf < leaf_count_of self.old.height →
-            self.new ≡ record self.old { next_leaf = self.old.next_leaf + 1 } }
-        ensures once { IfOk result (λ sig. (word_at sig.items 0 ≡ self.old.next_leaf) × (self.old.next_leaf < self.new.next_leaf)) }
+        // A leaf is used by each call that is not refused, also where there was no memory, and the number that a
+        // signature's leaves name lies below the next one from then on.
+        ensures used { self.old.next_leaf < leaf_count self.old → self.new ≡ after_signing self.old }
+        ensures once { IfOk result (λ sig. (signature_number self.old sig.items ≡ self.old.next_leaf)
+            × (self.old.next_leaf < self.new.next_leaf)) }
     {
-        let leaf = self.next_leaf;
-        if leaf == self.height.leaf_count() {
+        let number = self.next_leaf;
+        if number == self.total() {
             return Err(SignFault::Exhausted);
         }
-        self.next_leaf = leaf + 1;
-        match signature(
-            self.alloc,
-            self.height,
-            &self.id,
-            &self.secret,
-            &self.nodes,
-            leaf,
-            body,
-        ) {
-            Ok(signature) => Ok(signature),
+        self.next_leaf = number + 1;
+        match self.signature(number, body) {
+            Ok(sig) => Ok(sig),
             Err(_) => Err(SignFault::Memory),
         }
     }
+
+    // Signature `number`.
+    fn signature(&mut self, number: u32, body: &[u8]) -> Result<Vec<u8>, AllocError>
+        requires { number < leaf_count self.old }
+        ensures same { self.new ≡ self.old }
+        ensures signature { IfOk result (λ sig.
+            sig.items ≡ signature_by self.old.height self.old.bottom self.old.id self.old.secret number body.now) }
+    {
+        match self.bottom {
+            None => {
+                let mut sig = Vec::with_capacity(self.alloc, self.top.height().signature_len())?;
+                self.top.sign_onto(&mut sig, number, body)?;
+                Ok(sig)
+            }
+            Some(height) => {
+                let count = height.leaf_count();
+                let bottom = self.take_bottom(height, number / count)?;
+                let sig = bottom.signature(self.alloc, number % count, body);
+                self.present = Some(bottom);
+                self.prepare(height, number / count + 1);
+                sig
+            }
+        }
+    }
+
+    // Bottom tree `number`: the present one, or else the next one, once the present one is let go.
+    fn take_bottom(&mut self, height: Height, number: u32) -> Result<Bottom, AllocError>
+        requires two_levels { self.old.bottom ≡ Some height }
+        requires within { number < 2 ^ levels_of self.old.height }
+        ensures same { self.new ≡ self.old }
+        ensures bottom { IfOk result (λ b. (b.number ≡ number)
+            × IsBelow (record { height = self.old.height; id = self.old.id; secret = self.old.secret }) height b) }
+    {
+        match self.present.take() {
+            Some(bottom) if bottom.number == number => return Ok(bottom),
+            _ => {}
+        }
+        self.next_bottom(height, number)
+    }
+
+    // Bottom tree `number`: the coming one, or a new one.
+    fn next_bottom(&mut self, height: Height, number: u32) -> Result<Bottom, AllocError>
+        requires two_levels { self.old.bottom ≡ Some height }
+        requires within { number < 2 ^ levels_of self.old.height }
+        ensures same { self.new ≡ self.old }
+        ensures bottom { IfOk result (λ b. (b.number ≡ number)
+            × IsBelow (record { height = self.old.height; id = self.old.id; secret = self.old.secret }) height b) }
+    {
+        match self.coming.take() {
+            Some(coming) if coming.number == number => {
+                return coming.finish(self.alloc, &self.top);
+            }
+            _ => {}
+        }
+        Bottom::new(self.alloc, &self.top, height, number)
+    }
+
+    // Makes a node of bottom tree `number`, if the top tree has a leaf for it. So each signature makes one, and as
+    // many nodes as leaves are made when the tree's turn comes. Where memory runs out, the tree is left to that turn.
+    fn prepare(&mut self, height: Height, number: u32)
+        requires two_levels { self.old.bottom ≡ Some height }
+        ensures same { self.new ≡ self.old }
+    {
+        if number >= self.top.height().leaf_count() {
+            return;
+        }
+        if let Some(mut coming) = self.take_coming(height, number) {
+            coming.grow();
+            self.coming = Some(coming);
+        }
+    }
+
+    // Bottom tree `number` under way: the coming one, or a new one, if there is memory for it.
+    fn take_coming(&mut self, height: Height, number: u32) -> Option<Coming>
+        requires two_levels { self.old.bottom ≡ Some height }
+        ensures same { self.new ≡ self.old }
+        ensures coming { IfSome result (λ t. IsComing
+            (record { height = self.old.height; id = self.old.id; secret = self.old.secret }) height t) }
+    {
+        match self.coming.take() {
+            Some(coming) if coming.number == number => Some(coming),
+            _ => Coming::new(self.alloc, &self.top, height, number).ok(),
+        }
+    }
+}
+
+// The key of two levels whose top tree has this key.
+fn key_of_levels(top: &[u8; 56]) -> [u8; 60]
+    ensures { result ≡ u32str 2 ++ top.now }
+{
+    let mut key = [0u8; 60];
+    put(&mut key, 0, &u32str(LEVELS));
+    put(&mut key, 4, top);
+    key
 }

@@ -5,9 +5,10 @@ use Rattle.std.specs.List.{AllByRecursion}
 use Rattle.std.proofs.lemmas.List.Elements.{All-cons, All-nil}
 use Rattle.std.proofs.lemmas.Slice.Eq.{bytes_eq-Decides}
 use Rattle.host_types.specs.declared.config.ClientEntry.{ClientEntry}
-use Rattle.lms_tree.specs.declared.height.Height.TheVariants.{H5}
-use Rattle.lms_tree.specs.Signature.{signature_at, signature_fault}
-use Rattle.lms_tree.proofs.SignatureLemmas.{signature-valid}
+use Rattle.lms_tree.specs.declared.Height.TheVariants.{H5}
+use Rattle.lms_tree.specs.Keys.{signature_by as signature_of_leaf}
+use Rattle.lms_tree.specs.Signature.{signature_fault}
+use Rattle.lms_tree.proofs.KeyLemmas.{length-signature_by, valid-signature_by}
 use Rattle.pbft_codec.specs.declared.body.Body.TheVariants as bodies
 use Rattle.pbft_codec.specs.Bodies.{BodyWellFormed, BodyFieldsInRange, encoded_length_of}
 use Rattle.pbft_codec.specs.Limits.{NewViewWellFormed, ViewChangeWellFormed, ViewChangeFieldsInRange, NewViewFieldsInRange}
@@ -15,7 +16,6 @@ use Rattle.pbft_codec.proofs.LengthLaws.{length_body, length_encoding}
 use Rattle.sha2.specs.Sha256.{sha256}
 use Rattle.seal.specs.Parts.{nested_in}
 use Rattle.seal.specs.Signers.{may_sign, IsAuthentic}
-use Rattle.seal.proofs.EncodingLaws.{length-signature}
 use Rattle.service_model.proofs.Bounds.{step_bounded, genesis_bounded}
 use Rattle.service_model.proofs.Soundness.{step_sound, genesis_sound}
 use Rattle.pbft_model.specs.Words.{Signed, Body, Replica, IsConfiguration, IsChecked, as_message, signed_text}
@@ -83,8 +83,8 @@ module _ (secrets : ℕ → List ℕ) where
   -- ---- signatures
 
   small_leaf : (n leaf : ℕ) → leaf < 32 → (text : List ℕ)
-      → signature_fault (key_of secrets n) text (signature_at H5 (tree_id n) (secrets n) leaf text) ≡ None
-  small_leaf n leaf small text = signature-valid H5 (tree_id n) (secrets n) text leaf refl small
+      → signature_fault (key_of secrets n) text (signature_of_leaf H5 None (tree_id n) (secrets n) leaf text) ≡ None
+  small_leaf n leaf small text = valid-signature_by H5 None (tree_id n) (secrets n) leaf text refl small
 
   authentic : (n leaf : ℕ) (b : Body) → leaf < 32 → slice_get c.config.keys n ≡ Some (key_of secrets n) → IsTrue (may_sign c.config Replica n b)
       → IsAuthentic c.config (message_of secrets n leaf b)
@@ -96,7 +96,7 @@ module _ (secrets : ℕ → List ℕ) where
   unfolding signature_by
   signature_length n leaf b small =
       let m : Signed Body = message_of secrets n leaf b in
-      length-signature H5 (tree_id n) (secrets n) (signed_text m) m.sig (small_leaf n (0 + leaf) (omega (arith, small)) (signed_text m))
+      length-signature_by H5 None (tree_id n) (secrets n) (0 + leaf) (signed_text m)
 
   -- a message is opened whose nested ones are authentic
   opened : (n leaf : ℕ) (b : Body) → n < 4 → leaf < 32 → slice_get c.config.keys n ≡ Some (key_of secrets n) → IsTrue (may_sign c.config Replica n b)
@@ -120,7 +120,7 @@ module _ (secrets : ℕ → List ℕ) where
   request_opened =
       let m : Signed Body = request_of_client secrets in
       let valid = small_leaf 100 0 (omega arith) (signed_text m) in
-      let long = length-signature H5 (tree_id 100) (secrets 100) (signed_text m) m.sig valid in
+      let long = length-signature_by H5 None (tree_id 100) (secrets 100) 0 (signed_text m) in
       let whole = length_encoding m in
       let range : BodyFieldsInRange (bodies.Request the_request.body) = omega arith in
       let inner = length_body (bodies.Request the_request.body) range in

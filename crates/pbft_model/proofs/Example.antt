@@ -5,9 +5,10 @@ use Rattle.std.proofs.lemmas.List.Elements.{All-cons, All-nil}
 use Rattle.std.proofs.lemmas.Bool.{true≢false}
 use Rattle.host_types.specs.declared.config.ClientEntry.{ClientEntry}
 use Rattle.std.specs.List.{AllByRecursion}
-use Rattle.lms_tree.specs.declared.height.Height.TheVariants.{H5}
-use Rattle.lms_tree.specs.Signature.{signature_at, signature_fault}
-use Rattle.lms_tree.proofs.SignatureLemmas.{signature-valid}
+use Rattle.lms_tree.specs.declared.Height.TheVariants.{H5}
+use Rattle.lms_tree.specs.Keys.{signature_by as signature_of_leaf}
+use Rattle.lms_tree.specs.Signature.{signature_fault}
+use Rattle.lms_tree.proofs.KeyLemmas.{length-signature_by, valid-signature_by}
 use Rattle.pbft_codec.specs.declared.body.Body.TheVariants as bodies
 use Rattle.pbft_codec.specs.Bodies.{BodyWellFormed, BodyFieldsInRange, encoded_length_of}
 use Rattle.pbft_codec.specs.Encoding.{body, signed_text}
@@ -16,7 +17,6 @@ use Rattle.sha2.specs.Sha256.{sha256}
 use Rattle.pbft_codec.proofs.LengthLaws.{length_body, length_encoding}
 use Rattle.seal.specs.Parts.{nested_in, messages_in}
 use Rattle.seal.specs.Signers.{may_sign, IsAuthentic}
-use Rattle.seal.proofs.EncodingLaws.{length-signature}
 use Rattle.pbft_model.specs.Words.{Signed, Body, RequestBody, Snapshot, Replica, IsConfiguration, IsChecked, as_message, part_of, signed_text}
 use Rattle.pbft_model.specs.Sequential.{Service, Outcome, IsStep, genesis_of, encoded}
 use Rattle.pbft_model.specs.Setup.{Setup, request_in, signature_by}
@@ -95,8 +95,8 @@ module _ (secrets : ℕ → List ℕ) where
   -- ---- the messages were opened
 
   small_leaf : (n leaf : ℕ) → leaf < 32 → (text : List ℕ)
-      → signature_fault (key_of secrets n) text (signature_at H5 (tree_id n) (secrets n) leaf text) ≡ None
-  small_leaf n leaf small text = signature-valid H5 (tree_id n) (secrets n) text leaf refl small
+      → signature_fault (key_of secrets n) text (signature_of_leaf H5 None (tree_id n) (secrets n) leaf text) ≡ None
+  small_leaf n leaf small text = valid-signature_by H5 None (tree_id n) (secrets n) leaf text refl small
 
   opened : (n leaf : ℕ) (b : Body) → n < 4 → leaf < 32 → slice_get c.config.keys n ≡ Some (key_of secrets n) → BodyWellFormed b → BodyFieldsInRange b → nested_in b ≡ [] → encoded_length_of b ≤ 1000
       → IsTrue (may_sign c.config Replica n b) → IsChecked (record { config = c.config; message = message_of secrets n leaf b })
@@ -104,7 +104,7 @@ module _ (secrets : ℕ → List ℕ) where
   opened n leaf b below small listed fits range alone short role =
       let m : Signed Body = message_of secrets n leaf b in
       let valid = small_leaf n (0 + leaf) (omega (arith, small)) (signed_text m) in
-      let long = length-signature H5 (tree_id n) (secrets n) (signed_text m) m.sig valid in
+      let long = length-signature_by H5 None (tree_id n) (secrets n) (0 + leaf) (signed_text m) in
       let whole = length_encoding m in
       let inner = length_body b range in
       let authentic : IsAuthentic c.config m = record { key = key_of secrets n; listed = listed; role = role; signature = valid } in
@@ -121,7 +121,7 @@ module _ (secrets : ℕ → List ℕ) where
   request_opened =
       let m : Signed Body = as_message bodies.Request (a_request secrets) in
       let valid = small_leaf 100 0 (omega arith) (signed_text m) in
-      let long = length-signature H5 (tree_id 100) (secrets 100) (signed_text m) m.sig valid in
+      let long = length-signature_by H5 None (tree_id 100) (secrets 100) 0 (signed_text m) in
       let whole = length_encoding m in
       let range : BodyFieldsInRange (bodies.Request the_request.body) = omega arith in
       let inner = length_body (bodies.Request the_request.body) range in

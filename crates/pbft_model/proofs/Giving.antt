@@ -4,6 +4,7 @@ use Rattle.std.specs.Prelude.{nat_lt, not, ◌==◌, ◌&&◌, ◌||◌}
 use Rattle.std.proofs.lemmas.Bool.{cases_eq, or_cases, or_left, and_parts, true≢false, ltb-true, lt-ltb, eqb-true, not-true}
 use Rattle.pbft_codec.specs.declared.body.Body.TheVariants as bodies
 use Rattle.pbft_codec.specs.declared.body.fetch.Fetch.TheVariants as fetches
+use Rattle.service_model.specs.declared.version.Version.TheVariants.{Second}
 use Rattle.service_model.specs.Decoding.{Encodes}
 use Rattle.service_model.proofs.Decided.{decided}
 use Rattle.service_model.proofs.Injective.{same_state}
@@ -292,9 +293,9 @@ none_unread c TimedOut none = none tt
 -- ---- a Snapshot has a reading
 
 pub snapshot_read : (c : Setup) (b : Snapshot) → (reading : Option Service) × IsReadingOf c b reading
-snapshot_read c b = elim (decided c.config b.state) [
+snapshot_read c b = elim (decided Second c.config b.state) [
   | inl (state, is) ↦ at_number state is (cases_eq state.number b.number.0)
-  | inr never ↦ (None, λ state is. never state (record { config_is = is.config_is; encodes = is.encodes; bounded = is.sound.bounded; sound = is.sound.sound }))
+  | inr never ↦ (None, λ state is. never state (record { config_is = is.config_is; encodes = is.encodes; bounded = is.sound.bounded; sound = is.sound.sound; told = λ k part lt. λ j procedure below. tt }))
 ] where
   at_number : (state : Service) → Encodes c.config b.state state → (state.number ≡ b.number.0) ⊎ (state.number ≡ b.number.0 → ⊥) → (reading : Option Service) × IsReadingOf c b reading
   at_number state is (inl number) = (Some state, record { config_is = is.config_is; number_is = number; encodes = is.encodes; sound = record { bounded = is.bounded; sound = is.sound } })

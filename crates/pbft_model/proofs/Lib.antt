@@ -42,3 +42,4 @@ pub mod Halting
 pub mod Ending
 pub mod RowRules
 pub mod Giving
+pub mod DoneTogether

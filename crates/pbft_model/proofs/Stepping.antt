@@ -7,6 +7,7 @@ use Rattle.std.proofs.lemmas.Bool.{cases_lt}
 use Rattle.std.proofs.lemmas.List.Elements.{All-tail}
 use Rattle.host_types.specs.declared.config.ClientEntry.{ClientEntry}
 use Rattle.host_types.specs.Configuration.{entry_of}
+use Rattle.host_types.specs.declared.key.PublicKey.{PublicKey}
 use Rattle.pbft_codec.specs.declared.body.Body.TheVariants as bodies
 use Rattle.pbft_codec.specs.Layouts.{role_byte, number, length_prefixed, signed, request, snapshot}
 use Rattle.pbft_codec.specs.Encoding.{body, encoding}
@@ -57,11 +58,11 @@ snapshot_bytes b all = prefixed_bytes b.state (right_bytes (number b.number) (le
 
 -- ---- a request that was opened comes from a listed client
 
-some_entry : (o : Option ClientEntry) (key : List ℕ) → option_map (λ entry. entry.key) o ≡ Some key → IsSome o
+some_entry : (o : Option ClientEntry) (key : PublicKey) → option_map (λ entry. entry.key) o ≡ Some key → IsSome o
 some_entry None key e = absurd (cc)
 some_entry (Some entry) key e = refl
 
-signer_listed : (c : Setup) (role : Role) (id : ℕ) (b : RequestBody) (key : List ℕ) → key_of c.config role id ≡ Some key → IsTrue (may_sign c.config role id (bodies.Request b)) → IsSome (entry_of c.config.clients id)
+signer_listed : (c : Setup) (role : Role) (id : ℕ) (b : RequestBody) (key : PublicKey) → key_of c.config role id ≡ Some key → IsTrue (may_sign c.config role id (bodies.Request b)) → IsSome (entry_of c.config.clients id)
 signer_listed c Replica id b key e may = absurd (cc)
 signer_listed c Client id b key e may = some_entry (entry_of c.config.clients id) key e
 

@@ -5,6 +5,8 @@ use Rattle.std.specs.Ordering.{nat_cmp}
 use Rattle.std.specs.Cmp.{nat_cmp_total}
 use Rattle.std.specs.FinMap as finite
 use Rattle.std.specs.FinMap.{get-empty, get-insert}
+use Rattle.host_types.specs.declared.key.PublicKey.{PublicKey}
+use Rattle.host_types.specs.declared.key.PublicKey.TheVariants.{Lms}
 use Rattle.host_types.specs.declared.request.Reply.{Reply}
 use Rattle.service_model.specs.TenantStates.{TenantState, empty_tenant}
 use Rattle.service_model.specs.Steps.{Executes, IsTenantStep}
@@ -14,7 +16,7 @@ use Rattle.pbft_model.specs.Core.{start_of}
 use Rattle.pbft_model.specs.Worked.{Works, toy, serving, the_client, through_backup, through_primary, after_request, the_request, the_reply, the_outcome, fresh, changing_view, reaching_a_checkpoint, installing, after_null, no_reply, through_all, IsDiscarded, joining_view}
 
 -- the request is served: it is its client's first
-pub request_serves : (f k : ℕ) (keys : List (List ℕ)) (key : List ℕ)
+pub request_serves : (f k : ℕ) (keys : List PublicKey) (key : PublicKey)
     → IsStep (genesis_of (record { f = f; k = k; keys = keys; clients = the_client key ∷ [] })) (Some (request_in the_request))
     (after_request (record { f = f; k = k; keys = keys; clients = the_client key ∷ [] })) the_outcome
 request_serves f k keys key = record { part = empty_tenant 0; is_part = refl; changed = changed; step = first_time; state_is = refl; number_is = refl } where
@@ -39,7 +41,7 @@ backup_works id secret = (
       (
         record { follows = refl; rests = refl },
         (
-          record { follows = ((after_request serving.config, the_outcome, request_serves 1 2 [] [], refl), omega arith, (refl, omega arith, refl)); rests = refl },
+          record { follows = ((after_request serving.config, the_outcome, request_serves 1 2 [] (Lms []), refl), omega arith, (refl, omega arith, refl)); rests = refl },
           tt,
         ),
       ),
@@ -58,7 +60,7 @@ primary_works id secret = (
         record { follows = refl; rests = rw get-empty },
         (
           record {
-            follows = (rw get-empty (after_request serving.config, the_outcome, request_serves 1 2 [] [], refl), omega arith, (refl, omega arith, refl));
+            follows = (rw get-empty (after_request serving.config, the_outcome, request_serves 1 2 [] (Lms []), refl), omega arith, (refl, omega arith, refl));
             rests = rw (get-insert nat_cmp_total);
           },
           tt,

@@ -28,8 +28,8 @@ the_state secrets = after_request (episode_config secrets)
 -- the SHA-256 digest of that state's bytes
 abbrev pub the_state_digest : List ℕ
 the_state_digest =
-    202 ∷ 177 ∷ 248 ∷ 6 ∷ 246 ∷ 222 ∷ 99 ∷ 237 ∷ 191 ∷ 165 ∷ 118 ∷ 186 ∷ 8 ∷ 204 ∷ 163 ∷ 133 ∷
-    220 ∷ 132 ∷ 144 ∷ 197 ∷ 213 ∷ 255 ∷ 109 ∷ 2 ∷ 20 ∷ 235 ∷ 96 ∷ 169 ∷ 183 ∷ 218 ∷ 132 ∷ 94 ∷ []
+    25 ∷ 178 ∷ 37 ∷ 10 ∷ 209 ∷ 26 ∷ 170 ∷ 192 ∷ 172 ∷ 195 ∷ 236 ∷ 89 ∷ 83 ∷ 152 ∷ 241 ∷ 244 ∷
+    109 ∷ 196 ∷ 71 ∷ 112 ∷ 39 ∷ 196 ∷ 128 ∷ 145 ∷ 195 ∷ 146 ∷ 233 ∷ 37 ∷ 156 ∷ 147 ∷ 133 ∷ 216 ∷ []
 
 -- ---- what is said, by who says it and the leaf that signs
 

@@ -1,8 +1,8 @@
 -- Statement: an honest family of histories, and one of journals, in which a correct replica executes a client's request.
 -- With them agreement is no statement about nothing.
 use Rattle.std.specs.Prelude.{ℕ, zero, suc, ◌==◌, List, [], ◌∷◌, map, replicate, None}
-use Rattle.lms_tree.specs.declared.height.Height.TheVariants.{H5}
-use Rattle.lms_tree.specs.Signature.{public_key_of}
+use Rattle.host_types.specs.declared.key.PublicKey.{PublicKey}
+use Rattle.lms_tree.specs.Keys.{public_key_of_signer}
 use Rattle.pbft_model.specs.Words.{Configuration, SigningState, Signed, Body, RequestBody, Client, as_message, sealed_message}
 use Rattle.pbft_codec.specs.declared.body.Body.TheVariants as bodies
 use Rattle.pbft_model.specs.Setup.{Setup}
@@ -19,8 +19,8 @@ tree_id n = n ∷ replicate 15 0
 abbrev pub signer_of : (ℕ → List ℕ) → ℕ → SigningState
 signer_of secrets n = fresh (tree_id n) (secrets n)
 
-abbrev pub key_of : (ℕ → List ℕ) → ℕ → List ℕ
-key_of secrets n = public_key_of H5 (tree_id n) (secrets n)
+abbrev pub key_of : (ℕ → List ℕ) → ℕ → PublicKey
+key_of secrets n = public_key_of_signer (signer_of secrets n)
 
 abbrev pub the_config : (ℕ → List ℕ) → Configuration
 the_config secrets = record {

@@ -18,3 +18,4 @@ pub mod Worked
 pub mod Example
 pub mod Episode
 pub mod Ending
+pub mod Together

@@ -1,6 +1,7 @@
 -- Statement: a row is what one message or one timeout makes a replica do, up to where nothing is due; a journal
 -- is a list of rows.
 use Rattle.std.specs.Prelude.{◌≡◌, ◌⊎◌, ℕ, ◌+◌, ◌%◌, ◌==◌, ◌<◌, ◌≤◌, Bool, true, false, List, [], ◌∷◌, ◌++◌, Option, Some, None}
+use Rattle.host_types.specs.declared.key.PublicKey.{PublicKey}
 use Rattle.pbft_model.specs.Words.{SigningState, leaf_count, IsKeyOf, Signed, Body, Replica, Reply}
 use Rattle.seal.specs.Signers.{key_of}
 use Rattle.pbft_model.specs.Sequential.{Service, Outcome, IsStep}
@@ -176,7 +177,7 @@ leaves_in (row ∷ rows) = row.leaves + leaves_in rows
 
 -- The signer's key is the replica's listed one, at whatever leaf.
 abbrev pub IsListed : Setup → ℕ → SigningState → Type 0
-IsListed c me signer = (key : List ℕ) × (key_of c.config Replica me ≡ Some key) × IsKeyOf key signer
+IsListed c me signer = (key : PublicKey) × (key_of c.config Replica me ≡ Some key) × IsKeyOf key signer
 
 -- A lawful journal of a replica, of some signer with its key.
 pub record IsJournal (c : Setup) (me : ℕ) (rows : List Row) : Type 0 where

@@ -147,7 +147,7 @@ MaySay c me s (bodies.Snapshot b) = MaySupply s b
 
 -- ---- reading a state
 
--- The bytes encode this state, at this number, under the configuration.
+-- The bytes are the canonical encoding of this state, at this number, under the configuration.
 pub record IsStateAt (c : Setup) (number : ℕ) (bytes : List ℕ) (state : Service) : Type 0 where
   pub config_is : state.config ≡ c.config
   pub number_is : state.number ≡ number

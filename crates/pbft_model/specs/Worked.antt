@@ -4,7 +4,9 @@ use Rattle.std.specs.FinMap as finite
 use Rattle.host_types.specs.declared.config.ClientEntry.{ClientEntry}
 use Rattle.pbft_model.specs.Duties.{reply_body}
 use Rattle.pbft_model.specs.Words.{Configuration, SigningState, Signed, Body, RequestBody, Certificate, ViewChange, NewView, Replica, Client, Reply, as_message}
-use Rattle.lms_tree.specs.declared.height.Height.TheVariants.{H5}
+use Rattle.host_types.specs.declared.key.PublicKey.{PublicKey}
+use Rattle.host_types.specs.declared.key.PublicKey.TheVariants.{Lms}
+use Rattle.lms_tree.specs.declared.Height.TheVariants.{H5}
 use Rattle.pbft_codec.specs.declared.body.Body.TheVariants as bodies
 use Rattle.pbft_codec.specs.declared.body.fetch.Fetch.TheVariants as fetches
 use Rattle.pbft_model.specs.Sequential.{Service, Outcome}
@@ -24,11 +26,11 @@ abbrev pub toy : Setup
 toy = record { config = record { f = 1; k = 2; keys = []; clients = [] }; hash = toy_hash }
 
 -- The same with a client, whatever its key is and whatever the replicas' keys are.
-abbrev pub the_client : List ℕ → ClientEntry
+abbrev pub the_client : PublicKey → ClientEntry
 the_client key = record { id = record { 0 = 100 }; tenant = record { 0 = 0 }; key = key }
 
 abbrev pub serving : Setup
-serving = record { config = record { f = 1; k = 2; keys = []; clients = the_client [] ∷ [] }; hash = toy_hash }
+serving = record { config = record { f = 1; k = 2; keys = []; clients = the_client (Lms []) ∷ [] }; hash = toy_hash }
 
 -- the core after acts, the first first
 abbrev pub through : Setup → Core → List Act → Core
@@ -68,7 +70,7 @@ a_commit view number digest = bodies.Commit (record { view = record { 0 = view }
 
 -- a signer that has signed nothing
 abbrev pub fresh : List ℕ → List ℕ → SigningState
-fresh id secret = record { height = H5; id = id; secret = secret; next_leaf = 0 }
+fresh id secret = record { height = H5; bottom = None; id = id; secret = secret; next_leaf = 0 }
 
 -- own messages, by the leaf that signs
 abbrev pub own : SigningState → ℕ → ℕ → Body → Signed Body

@@ -3,6 +3,8 @@
 //! function with an empty body.
 #![tactic(auto)]
 
+mod together;
+
 ghost use Rattle.pbft_model.specs.Setup.{Setup, number_limit, view_limit};
 ghost use Rattle.pbft_model.specs.Ending.{left_to_do};
 ghost use Rattle.std.specs.Prelude.{◌≡◌, ◌≤◌, ◌<◌, ◌⊎◌, ℕ, List, [], ◌∷◌, ◌++◌, Option, Some, None, true};
@@ -28,6 +30,8 @@ ghost use Rattle.pbft_model.specs.Words.{Snapshot, leaf_count, part_of, as_messa
 ghost use Rattle.host_types.specs.declared.request.Reply.{Reply};
 ghost use Rattle.pbft_model.specs.Worked.{Works, reply_in_view_0, the_reply, toy, serving, fresh, through_backup, through_primary, timing_out, changing_view, joining_view, reaching_a_checkpoint, installing, through_all, IsDiscarded};
 ghost use Rattle.pbft_model.specs.Histories.{Family, IsCorrect, IsUnforged, IsSteady, HasCommitted, HasExecuted, AgreesByView, ExecutesAlike, IsHistory, core_after};
+
+pub use together::executions_are_done_together;
 
 /// Agreement by view: where nobody forges, no two digests are committed at one number, whatever
 /// their views.

@@ -1,5 +1,5 @@
 -- What the message just taken gives.
-use Rattle.std.proofs.Common.{◌≡◌, ℕ, ◌<◌, ◌≤◌, Bool, true, false, ◌&&◌, cond, inl, inr, List, Option, Some, None, refl, sym, ap, subst, ◌∙◌, arith}
+use Rattle.std.proofs.Common.{◌≡◌, ℕ, ◌<◌, ◌≤◌, Bool, true, false, ◌&&◌, cond, inl, inr, Option, Some, None, refl, sym, ap, subst, ◌∙◌, arith}
 use Rattle.std.specs.Prelude.{◌==◌, IsSome, IsTrue, is_some, nat_lt}
 use Rattle.std.specs.Ordering.{is_le, nat_cmp}
 use Rattle.std.specs.declared.cmp.Ordering.TheVariants.{Less, Equal, Greater}
@@ -9,6 +9,7 @@ use Rattle.std.proofs.lemmas.Option.{slice_get_within}
 use Rattle.sha2.specs.Sha256.{sha256}
 use Rattle.host_types.specs.Configuration.{Configuration, IsConfiguration, replicas_for}
 use Rattle.host_types.specs.declared.Digest.{Digest}
+use Rattle.host_types.specs.declared.key.PublicKey.{PublicKey}
 use Rattle.pbft_codec.specs.declared.body.Body.{Body}
 use Rattle.pbft_codec.specs.declared.body.Body.TheVariants as bodies
 use Rattle.pbft_model.specs.Words.{Client, Fetch, NewView, Replica, Role, Signed, Snapshot}
@@ -28,7 +29,7 @@ use Rattle.replica_core.specs.Replicas.{AreOne, KeptReplica, Parts, core_in, kep
 
 -- ---- a Fetch
 
-by_replica : (c : Configuration) (role : Role) (id : ℕ) (b : Fetch) (key : List ℕ) → IsConfiguration c → listed_key c role id ≡ Some key → IsTrue (may_sign c role id (bodies.Fetch b)) → id < replicas_for c.f
+by_replica : (c : Configuration) (role : Role) (id : ℕ) (b : Fetch) (key : PublicKey) → IsConfiguration c → listed_key c role id ≡ Some key → IsTrue (may_sign c role id (bodies.Fetch b)) → id < replicas_for c.f
 by_replica c Replica id b key k e may = omega (arith, slice_get_within c.keys id key e, k.a_key_each)
 by_replica c Client id b key k e may = absurd cc
 
@@ -54,6 +55,24 @@ enter_here c s m n taken is awaited valid =
     ap is_some
     (ap (on_taken (enter_by c s)) taken ∙ ap (enter_by c s m) is ∙ ap (λ (b : Bool). when (b && is_valid_new_view c n) (Do (Enter (with_body m n)))) awaited
     ∙ ap (λ (b : Bool). when b (Do (Enter (with_body m n)))) (faultless (are_for_view n) (have_proofs c n) (have_certificates c n) (have_order c n) valid))
+
+faulty : (a b d e : Bool) → is_ok (answer (first_fault a b d e)) ≡ false → (a && (b && (d && e))) ≡ false
+faulty true true true true h = absurd (false≢true (sym h))
+faulty true true true false h = refl
+faulty true true false e h = refl
+faulty true false d e h = refl
+faulty false b d e h = refl
+
+-- one that is not awaited is not entered
+pub enter_elsewhere : (c : Setup) (s : Core) (m : Signed Body) (n : NewView) → s.taken ≡ Some m → m.body ≡ bodies.NewView n → is_awaited s n.view.0 ≡ false → due_enter c s ≡ None
+enter_elsewhere c s m n taken is other =
+    ap (on_taken (enter_by c s)) taken ∙ ap (enter_by c s m) is ∙ ap (λ (b : Bool). when (b && is_valid_new_view c n) (Do (Enter (with_body m n)))) other
+
+-- nor is one that is not valid
+pub enter_faulty : (c : Setup) (s : Core) (m : Signed Body) (n : NewView) → s.taken ≡ Some m → m.body ≡ bodies.NewView n → is_awaited s n.view.0 ≡ true → is_ok (answer (new_view_fault c n)) ≡ false → due_enter c s ≡ None
+enter_faulty c s m n taken is awaited invalid =
+    ap (on_taken (enter_by c s)) taken ∙ ap (enter_by c s m) is ∙ ap (λ (b : Bool). when (b && is_valid_new_view c n) (Do (Enter (with_body m n)))) awaited
+    ∙ ap (λ (b : Bool). when b (Do (Enter (with_body m n)))) (faulty (are_for_view n) (have_proofs c n) (have_certificates c n) (have_order c n) invalid)
 
 -- ---- a Snapshot
 

@@ -94,14 +94,14 @@ module _ (c : Setup) (me : ℕ) (s : Core) (configuration : IsConfiguration c.co
   snapshot_kept number asker d = some_of _ (at s.snapshots (number_key number.0)) (subst (λ (o : Option Duty). IsSome o) d.0 d.1)
 
   -- a snapshot that is kept has a sequence number, and is short
-  kept_fits : (number : ℕ) (o : Option (List ℕ)) → at s.snapshots (number_key number) ≡ o → IsSome o → (number < number_limit) × IfSome o (λ bytes. length bytes ≤ 5_787_825)
+  kept_fits : (number : ℕ) (o : Option (List ℕ)) → at s.snapshots (number_key number) ≡ o → IsSome o → (number < number_limit) × IfSome o (λ bytes. length bytes ≤ 5_788_337)
   kept_fits number None e some = absurd (false≢true some)
   kept_fits number (Some bytes) e some = snapshot_fits s number bytes range e
 
   pub snapshot_low : (number : SeqNo) (asker : ReplicaId) → IsDue c me s (Some (duties.Supply number asker)) → number.0 < number_limit
   snapshot_low number asker d = (kept_fits number.0 (at s.snapshots (number_key number.0)) refl (snapshot_kept number asker d)).0
 
-  pub snapshot_short : (number : SeqNo) (asker : ReplicaId) → IsDue c me s (Some (duties.Supply number asker)) → IfSome (at s.snapshots (number_key number.0)) (λ bytes. length bytes ≤ 5_787_825)
+  pub snapshot_short : (number : SeqNo) (asker : ReplicaId) → IsDue c me s (Some (duties.Supply number asker)) → IfSome (at s.snapshots (number_key number.0)) (λ bytes. length bytes ≤ 5_788_337)
   snapshot_short number asker d = (kept_fits number.0 (at s.snapshots (number_key number.0)) refl (snapshot_kept number asker d)).1
 
   pub to_enter : IsDue c me s (Some duties.Enter) → IsSome (due_enter c s)

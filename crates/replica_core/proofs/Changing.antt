@@ -10,6 +10,7 @@ use Rattle.std.specs.BTreeMap as tree
 use Rattle.std.proofs.lemmas.Bool.{eq-eqb}
 use Rattle.std.proofs.lemmas.Option.{slice_get_within}
 use Rattle.host_types.specs.Configuration.{Configuration, IsConfiguration, replicas_for}
+use Rattle.host_types.specs.declared.key.PublicKey.{PublicKey}
 use Rattle.pbft_codec.specs.declared.body.Body.{Body}
 use Rattle.pbft_codec.specs.declared.body.Body.TheVariants as bodies
 use Rattle.pbft_model.specs.Certificates.{is_by, some_by}
@@ -97,7 +98,7 @@ wanted_found c es view id all =
 
 -- ---- what a checked ViewChange is
 
-by_replica : (c : Configuration) (role : Role) (id : ℕ) (b : ViewChange) (key : List ℕ) → IsConfiguration c → listed_key c role id ≡ Some key → IsTrue (may_sign c role id (bodies.ViewChange b)) → (role ≡ Replica) × (id < replicas_for c.f)
+by_replica : (c : Configuration) (role : Role) (id : ℕ) (b : ViewChange) (key : PublicKey) → IsConfiguration c → listed_key c role id ≡ Some key → IsTrue (may_sign c role id (bodies.ViewChange b)) → (role ≡ Replica) × (id < replicas_for c.f)
 by_replica c Replica id b key k e may = (refl, omega (arith, slice_get_within c.keys id key e, k.a_key_each))
 by_replica c Client id b key k e may = absurd cc
 

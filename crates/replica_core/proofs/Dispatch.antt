@@ -4,7 +4,7 @@ use Rattle.std.specs.Prelude.{IfErr, IsSome, OnOk, Result, Ok, Err, is_some}
 use Rattle.std.specs.Option.{option_map}
 use Rattle.std.proofs.lemmas.Bool.{false≢true}
 use Rattle.lms_tree.specs.Keys.{leaf_count}
-use Rattle.lms_tree.specs.SigningState.{SigningState, leaf_count_of}
+use Rattle.lms_tree.specs.SigningState.{SigningState}
 use Rattle.pbft_codec.specs.declared.body.Body.{Body}
 use Rattle.pbft_codec.specs.declared.body.Body.TheVariants as bodies
 use Rattle.host_types.specs.declared.SeqNo.{SeqNo}
@@ -131,7 +131,7 @@ module _ (k : KeptReplica) where
 
   -- ---- the act is noted
 
-  pub advances : (t u : KeptReplica) (left : ℕ) → Performs k is_due t → u ≡ record t { core = acted t.core } → u.core.signer.next_leaf + left ≡ leaf_count_of u.core.signer.height → Advances k u
+  pub advances : (t u : KeptReplica) (left : ℕ) → Performs k is_due t → u ≡ record t { core = acted t.core } → u.core.signer.next_leaf + left ≡ leaf_count u.core.signer → Advances k u
   advances t u left (a, does, is) noted leaves = (
     a,
     record {
@@ -152,5 +152,5 @@ module _ (k : KeptReplica) where
     enough : HasLeaves k.core a
     enough =
         let next : u.core.signer.next_leaf ≡ k.core.signer.next_leaf + leaves_for a = ap (λ (x : SigningState). x.next_leaf) signer in
-        let many : leaf_count_of u.core.signer.height ≡ leaf_count k.core.signer = ap (λ (x : SigningState). leaf_count x) signer in
+        let many : leaf_count u.core.signer ≡ leaf_count k.core.signer = ap (λ (x : SigningState). leaf_count x) signer in
         omega (arith, next, many, leaves)

@@ -4,7 +4,7 @@ use Rattle.std.specs.Prelude.{IsSome, OnOk, Result}
 use Rattle.std.proofs.lemmas.Bool.{false≢true}
 use Rattle.host_types.specs.Configuration.{Configuration}
 use Rattle.lms_tree.specs.Keys.{leaf_count}
-use Rattle.lms_tree.specs.SigningState.{SigningState, leaf_count_of}
+use Rattle.lms_tree.specs.SigningState.{SigningState}
 use Rattle.pbft_codec.specs.declared.body.Body.{Body}
 use Rattle.pbft_codec.specs.declared.body.Body.TheVariants as bodies
 use Rattle.pbft_model.specs.Words.{Signed, NewView}
@@ -27,7 +27,7 @@ no_more [] = refl
 no_more {X} (x ∷ xs) = ap (λ (ys : List X). x ∷ ys) (no_more xs)
 
 -- the leaves that are taken are among those that there are
-pub are_taken : (s : SigningState) (left : ℕ) → s.next_leaf + left ≡ leaf_count_of s.height → s.next_leaf ≤ leaf_count s
+pub are_taken : (s : SigningState) (left : ℕ) → s.next_leaf + left ≡ leaf_count s → s.next_leaf ≤ leaf_count s
 are_taken s left e = omega (arith, e)
 
 -- ---- a NewView is entered

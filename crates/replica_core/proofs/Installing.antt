@@ -8,7 +8,6 @@ use Rattle.sha2.specs.Sha256.{sha256}
 use Rattle.host_types.specs.Configuration.{Configuration}
 use Rattle.seal.specs.Opening.{CheckedMessage}
 use Rattle.lms_tree.specs.Keys.{leaf_count}
-use Rattle.lms_tree.specs.SigningState.{leaf_count_of}
 use Rattle.pbft_codec.specs.declared.body.Body.{Body}
 use Rattle.pbft_codec.specs.declared.body.Body.TheVariants as bodies
 use Rattle.pbft_model.specs.Acts.{Install, acted, discarded_to}
@@ -69,7 +68,7 @@ abbrev message_in : Option CheckedMessage → Option (Signed Body)
 message_in o = option_map (λ m. m.message) o
 
 pub is_ready : (c : Configuration) (me : ℕ) (p : Parts) → AreOne c me p → (k : KeptReplica) (m : CheckedMessage) (b : Snapshot) (body : Body) (left : ℕ) → kept_in c me p ≡ k
-    → p.signer.next_leaf + left ≡ leaf_count_of p.signer.height → p.step.taken ≡ Some m → body ≡ m.message.body → body ≡ bodies.Snapshot b → IsSome (due_install (setup_of k.config) k.core)
+    → p.signer.next_leaf + left ≡ leaf_count p.signer → p.step.taken ≡ Some m → body ≡ m.message.body → body ≡ bodies.Snapshot b → IsSome (due_install (setup_of k.config) k.core)
     → ((m : Signed Body) (b : Snapshot) (state : Service) → k.core.taken ≡ Some m → m.body ≡ bodies.Snapshot b → k.core.reading ≡ Some state
     → IsStateAt (setup_of k.config) b.number.0 b.state state)
     → IsReady k b

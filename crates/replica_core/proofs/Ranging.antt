@@ -205,9 +205,9 @@ module _ (c : Setup) (me : ℕ) (signer : SigningState) (configuration : IsConfi
   in_range_at (a ∷ acts) is = range_after acts a is.0 is.1 (in_range_at acts is.0)
 
 -- a snapshot's number and length
-pub snapshot_fits : (s : Core) (number : ℕ) (bytes : List ℕ) → IsInRange s → at s.snapshots (number_key number) ≡ Some bytes → (number < number_limit) × (length bytes ≤ 5_787_825)
+pub snapshot_fits : (s : Core) (number : ℕ) (bytes : List ℕ) → IsInRange s → at s.snapshots (number_key number) ≡ Some bytes → (number < number_limit) × (length bytes ≤ 5_788_337)
 snapshot_fits s number bytes range e =
     let w = range.snapshots (number_key number) bytes e in
     let same : number ≡ w.state.number = ap first_in w.number in
     let low = w.sound.bounded.number_in_range in
-    (omega (arith, same, low), subst (λ (xs : List ℕ). length xs ≤ 5_787_825) w.is (state_length w.state w.sound.bounded))
+    (omega (arith, same, low), subst (λ (xs : List ℕ). length xs ≤ 5_788_337) w.is (state_length w.state w.sound.bounded))

@@ -193,7 +193,7 @@ impl Core {
 
     /// Sends the snapshot that is kept at a number.
     pub(crate) fn send_snapshot(&mut self, number: SeqNo, asker: ReplicaId) -> Result<(), Halt>
-        requires kept { IfSome (at self.old.core.snapshots (number_key number.0)) (λ bytes. length bytes ≤ 5_787_825) }
+        requires kept { IfSome (at self.old.core.snapshots (number_key number.0)) (λ bytes. length bytes ≤ 5_788_337) }
         requires some { IsSome (at self.old.core.snapshots (number_key number.0)) }
         requires number { number.0 < 2 ^ 48 }
         ensures sent { (bytes : List ℕ) → at self.old.core.snapshots (number_key number.0) ≡ Some bytes

@@ -125,7 +125,7 @@ impl Core {
         ensures memory { IfErr result (λ halt. halt ≡ Memory) }
     {
         let config = Arc::try_clone(&self.config)?;
-        match State::from_bytes(self.alloc, config, snapshot.state.as_slice()) {
+        match State::from_canonical(self.alloc, config, snapshot.state.as_slice()) {
             Ok(state) => Ok(if_at(state, snapshot.number)),
             Err(StateFault::BadState) => Ok(None),
             Err(StateFault::Memory) => Err(Halt::Memory),

@@ -3,6 +3,7 @@ use Rattle.std.proofs.Common.{◌≡◌, ℕ, ◌<◌, List, [], ◌∷◌, ◌+
 use Rattle.std.specs.Prelude.{IsSomeAnd, IfOk, IfErr}
 use Rattle.std.proofs.lemmas.List.{map-append}
 use Rattle.host_types.specs.Configuration.{Configuration}
+use Rattle.host_types.specs.declared.key.PublicKey.{PublicKey}
 use Rattle.lms_tree.specs.Keys.{IsKeyOf}
 use Rattle.lms_tree.specs.SigningState.{SigningState}
 use Rattle.pbft_codec.specs.declared.signed.Role.TheVariants as roles
@@ -24,7 +25,7 @@ use Rattle.replica_journal.specs.declared.unkept.Unkept.TheVariants as unkept
 
 -- ---- before the first message
 
-listed_from : (c : Configuration) (me : ℕ) (signer : SigningState) (key : Option (List ℕ)) → key_of c roles.Replica me ≡ key → IsSomeAnd key (λ k. IsKeyOf k signer)
+listed_from : (c : Configuration) (me : ℕ) (signer : SigningState) (key : Option PublicKey) → key_of c roles.Replica me ≡ key → IsSomeAnd key (λ k. IsKeyOf k signer)
     → IsListed (setup_of c) me signer
 listed_from c me signer None is listed = absurd listed
 listed_from c me signer (Some key) is listed = (key, is, listed)

@@ -2,6 +2,7 @@
 use Rattle.std.specs.Prelude.{◌≡◌, ℕ, ◌+◌, ◌<◌, List, [], ◌∷◌, length, slice_get, IsSomeAnd}
 use Rattle.host_types.specs.Configuration.{Configuration}
 use Rattle.host_types.specs.declared.ReplicaId.{ReplicaId}
+use Rattle.host_types.specs.declared.key.PublicKey.{PublicKey}
 use Rattle.lms_tree.specs.SigningState.{SigningState}
 use Rattle.lms_tree.specs.Keys.{IsKeyOf}
 use Rattle.replica_core.specs.Facts.{RowFacts}
@@ -18,10 +19,10 @@ AreIdsFrom id [] = Unit {0}
 AreIdsFrom id (x ∷ xs) = (x.0 ≡ id) × AreIdsFrom (id + 1) xs
 
 -- The key that is listed for a replica is that of its signer.
-abbrev pub HasKeyAt : List (List ℕ) → List SigningState → ℕ → Type 0
+abbrev pub HasKeyAt : List PublicKey → List SigningState → ℕ → Type 0
 HasKeyAt keys signers id = IsSomeAnd (slice_get keys id) (λ key. IsSomeAnd (slice_get signers id) (λ signer. IsKeyOf key signer))
 
 -- There is one signer for each listed key, which is its own.
-pub record HaveKeys (keys : List (List ℕ)) (signers : List SigningState) : Type 0 where
+pub record HaveKeys (keys : List PublicKey) (signers : List SigningState) : Type 0 where
   pub many : length signers ≡ length keys
   pub each : (id : ℕ) → id < length keys → HasKeyAt keys signers id

@@ -9,7 +9,7 @@ use crate::desk::Desk;
 use crate::links::{Letter, Links, Parcel, Posts};
 use crate::record::JournalRecord;
 use crossbeam_channel::{Receiver, Sender, unbounded};
-use host_types::{Config, ReplicaId};
+use host_types::{Config, PublicKey, ReplicaId};
 use lms_tree::Signer;
 use seal::Checked;
 use std::alloc::{AllocError, Global};
@@ -40,7 +40,7 @@ fn has_key_at(config: &Config, signers: &[Signer], id: ReplicaId) -> bool
     }
 }
 
-fn is_key_of(key: &[u8; 56], signer: Option<&Signer>) -> bool
+fn is_key_of(key: &PublicKey, signer: Option<&Signer>) -> bool
     ensures { IsTrue result ↔ IsSomeAnd (option_copied signer.entry) (λ signer. IsKeyOf key.now signer) }
 {
     match signer {

@@ -1,5 +1,7 @@
 mod Keys
+mod KeyLemmas
 mod Founds
+mod Unless
 mod Documents
 pub mod TextFaults
 mod Items

@@ -1,12 +1,12 @@
 -- Statement: what the scripts of a dialect may say. Those of running threads have requests for all replicas and timeouts
--- alone, and no faulty replica.
+-- alone, no faulty replica and no leaf used.
 use Rattle.std.specs.Prelude.{ℕ, codes, List, Bool, true, false, Option, Some, None, Result, Ok, Err, is_some, bytes_eq, option_and_then, if◌then◌else◌}
 use Rattle.toml.specs.Data.{Data, Items, Members, no_items, item, as_array, as_str, as_table, get_member}
 use Rattle.host_types.specs.declared.ReplicaId.{ReplicaId}
 use Rattle.script_text.specs.declared.dialect.Dialect.{Dialect}
 use Rattle.script_text.specs.declared.dialect.Dialect.TheVariants.{World, Threads}
 use Rattle.script_text.specs.declared.fault.TableFault.{TableFault}
-use Rattle.script_text.specs.declared.fault.TableFault.TheVariants.{MissingKey, WrongValue}
+use Rattle.script_text.specs.declared.fault.TableFault.TheVariants.{MissingKey, UnknownKey, WrongValue}
 use Rattle.script_text.specs.declared.script.Client.{Client}
 use Rattle.script_text.specs.declared.script.Step.{Step}
 use Rattle.script_text.specs.Faults.{least}
@@ -20,6 +20,12 @@ wrong_where false reading = reading
 wrong_where true (Ok x) = Err WrongValue
 wrong_where true (Err fault) = Err (least fault WrongValue)
 
+-- A reading where a key is unknown, besides what is wrong with it.
+abbrev pub unknown_where : {A : Type 0} → Bool → Result A TableFault → Result A TableFault
+unknown_where false reading = reading
+unknown_where true (Ok x) = Err UnknownKey
+unknown_where true (Err fault) = Err (least fault UnknownKey)
+
 -- whether a list has an item
 abbrev pub has_item : Option Items → Bool
 has_item None = false
@@ -29,10 +35,10 @@ has_item (Some (item d ds)) = true
 abbrev pub names_faulty : Members → Bool
 names_faulty members = has_item (option_and_then as_array (get_member (codes "faulty") members))
 
--- the head of a document in a dialect
+-- The head of a document in a dialect. Replicas that run begin with no leaf used.
 abbrev pub head_for : Dialect → Members → Result HeadFacts TableFault
 head_for World members = head_in members
-head_for Threads members = wrong_where (names_faulty members) (head_in members)
+head_for Threads members = unknown_where (is_some (get_member (codes "spent") members)) (wrong_where (names_faulty members) (head_in members))
 
 -- A step of running threads.
 abbrev pub thread_step : List ℕ → ℕ → List ReplicaId → List Client → Members → Result Step TableFault

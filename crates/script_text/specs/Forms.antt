@@ -5,13 +5,13 @@ use Rattle.std.specs.Option.{ok_or, option_map}
 use Rattle.hex.specs.Hex.{decode_of, decode_sized}
 use Rattle.hex.specs.declared.FromHexError.{FromHexError}
 use Rattle.host_types.specs.declared.ReplicaId.{ReplicaId}
-use Rattle.lms_tree.specs.declared.height.Height.{Height}
-use Rattle.lms_tree.specs.declared.height.Height.TheVariants.{H5, H10}
+use Rattle.lms_tree.specs.declared.Height.{Height}
+use Rattle.lms_tree.specs.declared.Height.TheVariants.{H5, H10}
 use Rattle.std.specs.declared.alloc.Global.{Global}
 use Rattle.toml.specs.Data.{Data, Items, Members, no_items, item, no_members, member, as_array, as_bool, as_integer, as_str, as_table, get_member}
-use Rattle.seal.specs.declared.vote.VoteKind.{VoteKind}
 use Rattle.seal.specs.declared.vote.VoteKind.TheVariants as votes
 use Rattle.host_types.specs.declared.ClientId.{ClientId}
+use Rattle.host_types.specs.declared.Digest.{Digest}
 use Rattle.host_types.specs.declared.SeqNo.{SeqNo}
 use Rattle.script_text.specs.declared.kind.Kind.{Kind}
 use Rattle.script_text.specs.declared.kind.Kind.TheVariants as kinds
@@ -20,6 +20,8 @@ use Rattle.script_text.specs.declared.script.Client.{Client}
 use Rattle.script_text.specs.declared.script.Node.{Node}
 use Rattle.script_text.specs.declared.script.Node.TheVariants as nodes
 use Rattle.script_text.specs.declared.script.Secret.{Secret}
+use Rattle.script_text.specs.declared.values.ForgedKind.{ForgedKind}
+use Rattle.script_text.specs.declared.values.ForgedKind.TheVariants as forged
 use Rattle.script_text.specs.declared.fault.TableFault.{TableFault}
 use Rattle.script_text.specs.declared.fault.TableFault.TheVariants.{MissingKey, WrongValue, UnknownKey}
 use Rattle.script_text.specs.Faults.{least}
@@ -111,6 +113,14 @@ height_of (negsuc n) = Err WrongValue
 abbrev pub height : Data → Result Height TableFault
 height d = if_found height_of (as_integer d)
 
+-- the height of bottom trees, 5 or 10; none for 0
+abbrev pub bottom_of : ℤ → Result (Option Height) TableFault
+bottom_of (pos n) = if n == 0 then Ok None else (if n == 5 then Ok (Some H5) else (if n == 10 then Ok (Some H10) else Err WrongValue))
+bottom_of (negsuc n) = Err WrongValue
+
+abbrev pub bottom : Data → Result (Option Height) TableFault
+bottom d = if_found bottom_of (as_integer d)
+
 -- 64 hex digits
 abbrev pub decoded_secret : Result (List ℕ) FromHexError → Result Secret TableFault
 decoded_secret (Ok bytes) = Ok (record { 0 = bytes })
@@ -118,6 +128,13 @@ decoded_secret (Err error) = Err WrongValue
 
 abbrev pub secret : Data → Result Secret TableFault
 secret d = if_found (λ text. decoded_secret (decode_sized text 32)) (as_str d)
+
+abbrev pub decoded_digest : Result (List ℕ) FromHexError → Result Digest TableFault
+decoded_digest (Ok bytes) = Ok (record { 0 = bytes })
+decoded_digest (Err error) = Err WrongValue
+
+abbrev pub digest : Data → Result Digest TableFault
+digest d = if_found (λ text. decoded_digest (decode_sized text 32)) (as_str d)
 
 -- spaces, tabs and line ends are passed over; no script has digits of more than 524,288 bytes
 abbrev pub is_blank : ℕ → Bool
@@ -154,18 +171,20 @@ kind_named t =
     else if bytes_eq t (codes "snapshot") then Some kinds.Snapshot
     else None
 
-abbrev pub vote_named : List ℕ → Option VoteKind
-vote_named t =
-    if bytes_eq t (codes "pre-prepare") then Some votes.PrePrepare
-    else if bytes_eq t (codes "prepare") then Some votes.Prepare
-    else if bytes_eq t (codes "commit") then Some votes.Commit
+abbrev pub forged_kind_named : List ℕ → Option ForgedKind
+forged_kind_named t =
+    if bytes_eq t (codes "pre-prepare") then Some (forged.Vote votes.PrePrepare)
+    else if bytes_eq t (codes "prepare") then Some (forged.Vote votes.Prepare)
+    else if bytes_eq t (codes "commit") then Some (forged.Vote votes.Commit)
+    else if bytes_eq t (codes "checkpoint") then Some forged.Checkpoint
+    else if bytes_eq t (codes "view-change") then Some forged.ViewChange
     else None
 
 abbrev pub kind_name : Data → Result Kind TableFault
 kind_name d = if_found (λ t. ok_or (kind_named t) WrongValue) (as_str d)
 
-abbrev pub vote_name : Data → Result VoteKind TableFault
-vote_name d = if_found (λ t. ok_or (vote_named t) WrongValue) (as_str d)
+abbrev pub forged_kind : Data → Result ForgedKind TableFault
+forged_kind d = if_found (λ t. ok_or (forged_kind_named t) WrongValue) (as_str d)
 
 -- ---- who is named
 

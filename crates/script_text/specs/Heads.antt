@@ -1,35 +1,41 @@
 -- Statement: the head of a script: who takes part.
-use Rattle.std.specs.Prelude.{◌≡◌, codes, ℕ, ℤ, pos, negsuc, ◌==◌, nat_lt, List, [], ◌∷◌, map, replicate, slice_get, Option, Some, None, is_none, option_and_then, Result, Ok, Err, if◌then◌else◌}
-use Rattle.toml.specs.Data.{Members, as_integer, get_member}
+use Rattle.std.specs.Prelude.{◌≡◌, codes, ℕ, ℤ, pos, negsuc, ◌==◌, nat_lt, List, [], ◌∷◌, map, replicate, Option, Some, None, is_none, option_and_then, Result, Ok, Err, if◌then◌else◌}
+use Rattle.toml.specs.Data.{Data, Members, as_integer, get_member}
 use Rattle.host_types.specs.Configuration.{Configuration, fault_of, replicas_for}
 use Rattle.host_types.specs.declared.ReplicaId.{ReplicaId}
 use Rattle.host_types.specs.declared.config.ClientEntry.{ClientEntry}
-use Rattle.lms_tree.specs.declared.height.Height.{Height}
-use Rattle.lms_tree.specs.declared.height.Height.TheVariants.{H5}
+use Rattle.host_types.specs.declared.key.PublicKey.{PublicKey}
+use Rattle.host_types.specs.declared.key.PublicKey.TheVariants.{Lms}
+use Rattle.lms_tree.specs.declared.Height.{Height}
+use Rattle.lms_tree.specs.declared.Height.TheVariants.{H5}
 use Rattle.script_text.specs.declared.fault.TableFault.{TableFault}
-use Rattle.script_text.specs.declared.fault.TableFault.TheVariants.{BadConfig}
+use Rattle.script_text.specs.declared.fault.TableFault.TheVariants.{BadConfig, WrongValue}
 use Rattle.script_text.specs.declared.head_keys.Needed.{Needed}
 use Rattle.script_text.specs.declared.head_keys.Optional.{Optional}
 use Rattle.script_text.specs.declared.script.Client.{Client}
+use Rattle.script_text.specs.declared.replica_keys.KeyShape.{KeyShape}
 use Rattle.script_text.specs.declared.script.Secret.{Secret}
-use Rattle.script_text.specs.Forms.{any_table, pair_of, client, height, list_of, needed_head, only_keys, optional_key, per_replica, replica}
+use Rattle.script_text.specs.KeyShapes.{KeyLists, can_be_spent, given_or}
+use Rattle.script_text.specs.Forms.{any_table, bottom, pair_of, client, height, list_of, needed_head, only_keys, optional_key, per_replica, replica, up_to}
 
 -- What a contract sees of a head.
 pub record HeadFacts : Type 0 where
   pub f : ℕ
   pub k : ℕ
   pub secret : Secret
-  -- the height of each replica's key
-  pub heights : Option (List Height)
+  -- how the replicas' keys are made
+  pub keys : KeyLists
+  -- the height of the one tree of each client's key or of its top tree, and that of its bottom trees
   pub client_height : Height
+  pub client_bottom : Option Height
   pub faulty : List ReplicaId
   pub clients : List Client
 
 -- ---- the configuration of a head, whatever the keys
 
 -- a key that no signature verifies under
-abbrev pub no_key : List ℕ
-no_key = replicate 56 0
+abbrev pub no_key : PublicKey
+no_key = Lms (replicate 56 0)
 
 abbrev pub keyless : Client → ClientEntry
 keyless c = record { id = c.id; tenant = c.tenant; key = no_key }
@@ -42,15 +48,9 @@ keyless_configuration f k clients =
 abbrev pub IsLegal : ℕ → ℕ → List Client → Type 0
 IsLegal f k clients = fault_of (keyless_configuration f k clients) ≡ None
 
--- what is given, or else this
-abbrev pub given_or : {A : Type 0} → Option A → A → A
-given_or None other = other
-given_or (Some x) other = x
-
--- the height of a replica's key: 5 where none is given
-abbrev pub height_at : Option (List Height) → ℕ → Height
-height_at None id = H5
-height_at (Some heights) id = given_or (slice_get heights id) H5
+-- how the key of each client is made: no leaf of it is used
+abbrev pub client_shape : HeadFacts → KeyShape
+client_shape h = record { height = h.client_height; bottom = h.client_bottom; spent = 0 }
 
 -- ---- what is read
 
@@ -71,13 +71,31 @@ replica_count (negsuc n) = None
 abbrev pub named_count : Members → Option ℕ
 named_count members = option_and_then replica_count (option_and_then as_integer (get_member (codes "f") members))
 
-abbrev pub optional_from : Result (Option (List Height) × (Option Height × Option (List ReplicaId))) TableFault → Result Optional TableFault
-optional_from (Ok r) = Ok (record { heights = r.0; client_height = r.1.0; faulty = r.1.1 })
-optional_from (Err fault) = Err fault
+-- a list has an entry for each replica
+abbrev pub optional_list : {A : Type 0} → (Data → Result A TableFault) → List ℕ → Members → Result (Option (List A)) TableFault
+optional_list form key members = optional_key (per_replica (named_count members) form) key members
 
--- a list of heights has one for each replica
-abbrev pub optional_heights : Members → Result (Option (List Height)) TableFault
-optional_heights members = optional_key (per_replica (named_count members) height) (codes "heights") members
+-- what is said of the replicas' keys, if they have the leaves that are used
+abbrev pub if_spendable : KeyLists → Result KeyLists TableFault
+if_spendable keys = if can_be_spent keys then Ok keys else Err WrongValue
+
+abbrev pub keys_from : Result (Option (List Height) × (Option (List (Option Height)) × Option (List ℕ))) TableFault → Result KeyLists TableFault
+keys_from (Ok r) = if_spendable (record { heights = r.0; bottoms = r.1.0; spent = r.1.1 })
+keys_from (Err fault) = Err fault
+
+abbrev pub keys_in : Members → Result KeyLists TableFault
+keys_in members =
+    keys_from (pair_of (optional_list height (codes "heights") members)
+    (pair_of (optional_list bottom (codes "bottom") members) (optional_list (up_to 2048) (codes "spent") members)))
+
+-- the heights of a client's key: one tree of height 5 where nothing is given
+abbrev pub client_heights_from : Result (Option Height × Option (Option Height)) TableFault → Result (Height × Option Height) TableFault
+client_heights_from (Ok r) = Ok (given_or r.0 H5, given_or r.1 None)
+client_heights_from (Err fault) = Err fault
+
+abbrev pub client_heights_in : Members → Result (Height × Option Height) TableFault
+client_heights_in members =
+    client_heights_from (pair_of (optional_key height (codes "client_height") members) (optional_key bottom (codes "client_bottom") members))
 
 abbrev pub count_of_faulty : Members → ℕ
 count_of_faulty members = given_or (named_count members) 255
@@ -86,18 +104,21 @@ abbrev pub optional_faulty : Members → Result (Option (List ReplicaId)) TableF
 optional_faulty members = optional_key (list_of (replica (count_of_faulty members))) (codes "faulty") members
 
 -- what may be left out
+abbrev pub optional_from : Result (KeyLists × ((Height × Option Height) × Option (List ReplicaId))) TableFault → Result Optional TableFault
+optional_from (Ok r) = Ok (record { keys = r.0; client_height = r.1.0.0; client_bottom = r.1.0.1; faulty = r.1.1 })
+optional_from (Err fault) = Err fault
+
 abbrev pub optional_head : Members → Result Optional TableFault
-optional_head members =
-    optional_from (pair_of (optional_heights members)
-    (pair_of (optional_key height (codes "client_height") members) (optional_faulty members)))
+optional_head members = optional_from (pair_of (keys_in members) (pair_of (client_heights_in members) (optional_faulty members)))
 
 abbrev pub head_of : ℕ → ℕ → Secret → Optional → Option (List Client) → HeadFacts
 head_of f k secret o clients = record {
   f = f;
   k = k;
   secret = secret;
-  heights = o.heights;
-  client_height = given_or o.client_height H5;
+  keys = o.keys;
+  client_height = o.client_height;
+  client_bottom = o.client_bottom;
   faulty = given_or o.faulty [];
   clients = given_or clients [];
 }
@@ -119,8 +140,12 @@ abbrev pub head_read : Result (Needed × (Optional × Option (List Client))) Tab
 head_read (Ok r) = head_from (byte_of r.0.f) (byte_of r.0.k) r.0.secret r.1.0 r.1.1
 head_read (Err fault) = Err fault
 
+abbrev pub head_keys : List (List ℕ)
+head_keys =
+    codes "f" ∷ codes "k" ∷ codes "secret" ∷ codes "heights" ∷ codes "bottom" ∷ codes "spent" ∷ codes "client_height" ∷ codes "client_bottom"
+    ∷ codes "faulty" ∷ codes "client" ∷ codes "step" ∷ []
+
 -- the head of a document
 abbrev pub head_in : Members → Result HeadFacts TableFault
 head_in members =
-    head_read (only_keys (pair_of (needed_head members) (pair_of (optional_head members) (listed_clients members)))
-    (codes "f" ∷ codes "k" ∷ codes "secret" ∷ codes "heights" ∷ codes "client_height" ∷ codes "faulty" ∷ codes "client" ∷ codes "step" ∷ []) members)
+    head_read (only_keys (pair_of (needed_head members) (pair_of (optional_head members) (listed_clients members))) head_keys members)

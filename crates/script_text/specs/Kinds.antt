@@ -2,8 +2,6 @@
 use Rattle.std.specs.Prelude.{ℕ}
 use Rattle.pbft_codec.specs.declared.body.Body.{Body}
 use Rattle.pbft_codec.specs.declared.body.Body.TheVariants as bodies
-use Rattle.seal.specs.declared.vote.VoteKind.{VoteKind}
-use Rattle.seal.specs.declared.vote.VoteKind.TheVariants as votes
 use Rattle.script_text.specs.declared.kind.Kind.{Kind}
 use Rattle.script_text.specs.declared.kind.Kind.TheVariants.{Request, PrePrepare, Prepare, Commit, Reply, Checkpoint, ViewChange, NewView, Fetch, Snapshot}
 
@@ -18,11 +16,6 @@ kind_of_body (bodies.ViewChange b) = ViewChange
 kind_of_body (bodies.NewView b) = NewView
 kind_of_body (bodies.Fetch b) = Fetch
 kind_of_body (bodies.Snapshot b) = Snapshot
-
-abbrev pub kind_of_vote : VoteKind → Kind
-kind_of_vote votes.PrePrepare = PrePrepare
-kind_of_vote votes.Prepare = Prepare
-kind_of_vote votes.Commit = Commit
 
 -- kinds differ by their numbers
 abbrev pub kind_number : Kind → ℕ

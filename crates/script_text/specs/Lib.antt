@@ -1,5 +1,6 @@
 pub mod Faults
 pub mod Forms
+pub mod KeyShapes
 pub mod Heads
 pub mod Kinds
 pub mod Scripts

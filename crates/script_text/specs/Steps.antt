@@ -5,10 +5,17 @@ use Rattle.toml.specs.Data.{Members, get_member}
 use Rattle.script_text.specs.declared.fault.TableFault.{TableFault}
 use Rattle.script_text.specs.declared.script.Client.{Client}
 use Rattle.script_text.specs.declared.fault.TableFault.TheVariants.{WrongValue}
+use Rattle.script_text.specs.declared.script.Damage.{Damage}
+use Rattle.script_text.specs.declared.script.Damage.TheVariants.{Cut, Flip}
 use Rattle.script_text.specs.declared.script.Filter.{Filter}
+use Rattle.script_text.specs.declared.script.ForgedMessage.{ForgedMessage}
+use Rattle.script_text.specs.declared.script.ForgedMessage.TheVariants.{Vote, Checkpoint, ViewChange}
 use Rattle.script_text.specs.declared.script.Forgery.{Forgery}
+use Rattle.script_text.specs.declared.values.ForgedKind.{ForgedKind}
+use Rattle.script_text.specs.declared.values.ForgedKind.TheVariants as forged
 use Rattle.std.specs.Int.{to_be_bytes, w32}
 use Rattle.host_types.specs.declared.ClientId.{ClientId}
+use Rattle.host_types.specs.declared.Digest.{Digest}
 use Rattle.host_types.specs.declared.ReplicaId.{ReplicaId}
 use Rattle.host_types.specs.declared.SeqNo.{SeqNo}
 use Rattle.script_text.specs.declared.script.Order.{Order}
@@ -16,25 +23,53 @@ use Rattle.script_text.specs.declared.script.Node.{Node}
 use Rattle.script_text.specs.declared.script.Step.{Step}
 use Rattle.script_text.specs.declared.script.Step.TheVariants as steps
 use Rattle.script_text.specs.declared.kind.Kind.{Kind}
-use Rattle.script_text.specs.Forms.{pair_of, client_name, faulty_index, hex_bytes, kind_name, list_of, needed_key, only_keys, optional_key, node, replica, sequence_number, up_to, vote_name, yes}
+use Rattle.script_text.specs.Forms.{pair_of, client_name, faulty_index, hex_bytes, digest, forged_kind, kind_name, list_of, needed_key, only_keys, optional_key, node, replica, sequence_number, up_to, yes}
 
--- the kind, the view and the number of a vote
-abbrev pub vote_in : Members → Result (VoteKind × (ℕ × SeqNo)) TableFault
-vote_in members =
-    pair_of (needed_key vote_name (codes "kind") members)
-    (pair_of (needed_key (up_to 4294967295) (codes "view") members) (needed_key sequence_number (codes "number") members))
+-- whose messages of the queue, for whom and of which kinds
+abbrev pub Selection : Type 0
+Selection = Option (List Node) × (Option (List Node) × Option (List Kind))
 
-abbrev pub filter_from : Result (Option (List Node) × (Option (List Node) × Option (List Kind))) TableFault → Result Filter TableFault
-filter_from (Ok r) = Ok (record { from = r.0; to = r.1.0; kinds = r.1.1 })
+abbrev pub selection_in : ℕ → List Client → Members → Result Selection TableFault
+selection_in count clients members =
+    pair_of (optional_key (list_of (node count clients)) (codes "from") members)
+    (pair_of (optional_key (list_of (node count clients)) (codes "to") members) (optional_key (list_of kind_name) (codes "kinds") members))
+
+abbrev pub filter_of : Selection → Filter
+filter_of r = record { from = r.0; to = r.1.0; kinds = r.1.1 }
+
+abbrev pub filter_from : Result Selection TableFault → Result Filter TableFault
+filter_from (Ok r) = Ok (filter_of r)
 filter_from (Err fault) = Err fault
 
 -- which messages of the queue are meant
 abbrev pub filter_in : ℕ → List Client → Members → Result Filter TableFault
 filter_in count clients members =
-    filter_from (only_keys
-    (pair_of (optional_key (list_of (node count clients)) (codes "from") members)
-    (pair_of (optional_key (list_of (node count clients)) (codes "to") members) (optional_key (list_of kind_name) (codes "kinds") members)))
-    (codes "do" ∷ codes "from" ∷ codes "to" ∷ codes "kinds" ∷ []) members)
+    filter_from (only_keys (selection_in count clients members) (codes "do" ∷ codes "from" ∷ codes "to" ∷ codes "kinds" ∷ []) members)
+
+-- ---- changed copies
+
+abbrev pub mangle_from : Result (Damage × Selection) TableFault → Result Step TableFault
+mangle_from (Ok r) = Ok (steps.Mangle (filter_of r.1) r.0)
+mangle_from (Err fault) = Err fault
+
+abbrev pub mangle_with : Result Damage TableFault → List (List ℕ) → ℕ → List Client → Members → Result Step TableFault
+mangle_with damage keys count clients members =
+    mangle_from (only_keys (pair_of damage (selection_in count clients members)) keys members)
+
+abbrev pub damage_from : (ℕ → Damage) → Result ℕ TableFault → Result Damage TableFault
+damage_from damage (Ok n) = Ok (damage n)
+damage_from damage (Err fault) = Err fault
+
+-- how many bytes, as far as a document can name a number
+abbrev pub damage_at : (ℕ → Damage) → List ℕ → Members → Result Damage TableFault
+damage_at damage key members = damage_from damage (needed_key (up_to 9223372036854775807) key members)
+
+-- The last bytes are cut off where there is such a key, else a bit is flipped.
+abbrev pub mangle_in : ℕ → List Client → Members → Result Step TableFault
+mangle_in count clients members =
+    if is_some (get_member (codes "cut") members)
+    then mangle_with (damage_at Cut (codes "cut") members) (codes "do" ∷ codes "from" ∷ codes "to" ∷ codes "kinds" ∷ codes "cut" ∷ []) count clients members
+    else mangle_with (damage_at Flip (codes "flip") members) (codes "do" ∷ codes "from" ∷ codes "to" ∷ codes "kinds" ∷ codes "flip" ∷ []) count clients members
 
 -- where timeouts come
 abbrev pub timeout_from : Result (List ReplicaId) TableFault → Result Step TableFault
@@ -54,6 +89,15 @@ abbrev pub state_in : ℕ → Members → Result Step TableFault
 state_in count members =
     state_from (only_keys (needed_key (replica count) (codes "at") members) (codes "do" ∷ codes "at" ∷ []) members)
 
+-- bytes of a state
+abbrev pub upgrade_from : Result (List ℕ) TableFault → Result Step TableFault
+upgrade_from (Ok bytes) = Ok (steps.Upgrade bytes)
+upgrade_from (Err fault) = Err fault
+
+abbrev pub upgrade_in : Members → Result Step TableFault
+upgrade_in members =
+    upgrade_from (only_keys (needed_key hex_bytes (codes "bytes") members) (codes "do" ∷ codes "bytes" ∷ []) members)
+
 -- bytes, and for whom they are queued
 abbrev pub raw_from : Result (List Node × List ℕ) TableFault → Result Step TableFault
 raw_from (Ok r) = Ok (steps.Raw r.0 r.1)
@@ -65,7 +109,7 @@ raw_in count clients members =
     (pair_of (needed_key (list_of (node count clients)) (codes "to") members) (needed_key hex_bytes (codes "bytes") members))
     (codes "do" ∷ codes "to" ∷ codes "bytes" ∷ []) members)
 
--- who signs a vote, and for whom it is queued
+-- who signs a forged message, and for whom it is queued
 abbrev pub route_in : ℕ → List ReplicaId → List Client → Members → Result (ReplicaId × List Node) TableFault
 route_in count faulty clients members =
     pair_of (needed_key (faulty_index faulty) (codes "from") members) (needed_key (list_of (node count clients)) (codes "to") members)
@@ -122,43 +166,74 @@ order_in count clients members =
     then order_with (install_in members) (codes "do" ∷ codes "client" ∷ codes "install" ∷ codes "to" ∷ []) count clients members
     else order_with (call_in members) (codes "do" ∷ codes "client" ∷ codes "call" ∷ codes "args" ∷ codes "to" ∷ []) count clients members
 
--- ---- a forged vote
+-- ---- a forged message
 
--- who signs a vote, for whom it is queued, and its kind, view and number
-abbrev pub Ballot : Type 0
-Ballot = (ReplicaId × List Node) × (VoteKind × (ℕ × SeqNo))
+-- who signs a message, and for whom it is queued
+abbrev pub Route : Type 0
+Route = ReplicaId × List Node
 
-abbrev pub forgery_of : Option (ClientId × ℕ) → Ballot → Forgery
-forgery_of request b = record {
-  from = b.0.0;
-  to = b.0.1;
-  kind = b.1.0;
-  view = record { 0 = b.1.1.0 };
-  number = b.1.1.1;
-  request = request;
-}
-
-abbrev pub forgery_from : Result (Option (ClientId × ℕ) × Ballot) TableFault → Result Forgery TableFault
-forgery_from (Ok r) = Ok (forgery_of r.0 r.1)
+abbrev pub forgery_from : Result (ForgedMessage × Route) TableFault → Result Forgery TableFault
+forgery_from (Ok r) = Ok (record { from = r.1.0; to = r.1.1; message = r.0 })
 forgery_from (Err fault) = Err fault
 
-abbrev pub ballot_in : ℕ → List ReplicaId → List Client → Members → Result Ballot TableFault
-ballot_in count faulty clients members = pair_of (route_in count faulty clients members) (vote_in members)
+-- what is forged, in a table of these keys
+abbrev pub forgery_with : Result ForgedMessage TableFault → List (List ℕ) → ℕ → List ReplicaId → List Client → Members → Result Forgery TableFault
+forgery_with message keys count faulty clients members =
+    forgery_from (only_keys (pair_of message (route_in count faulty clients members)) keys members)
 
-abbrev pub forgery_with : Result (Option (ClientId × ℕ)) TableFault → List (List ℕ) → ℕ → List ReplicaId → List Client → Members → Result Forgery TableFault
-forgery_with request keys count faulty clients members =
-    forgery_from (only_keys (pair_of request (ballot_in count faulty clients members)) keys members)
+abbrev pub vote_of : VoteKind → Option (ClientId × ℕ) × (ℕ × SeqNo) → ForgedMessage
+vote_of kind r = Vote (record { kind = kind; view = record { 0 = r.1.0 }; number = r.1.1; request = r.0 })
+
+abbrev pub vote_from : VoteKind → Result (Option (ClientId × ℕ) × (ℕ × SeqNo)) TableFault → Result ForgedMessage TableFault
+vote_from kind (Ok r) = Ok (vote_of kind r)
+vote_from kind (Err fault) = Err fault
+
+-- a vote for this request
+abbrev pub vote_for : VoteKind → Result (Option (ClientId × ℕ)) TableFault → Members → Result ForgedMessage TableFault
+vote_for kind request members =
+    vote_from kind (pair_of request
+    (pair_of (needed_key (up_to 4294967295) (codes "view") members) (needed_key sequence_number (codes "number") members)))
 
 -- a vote for the null request where there is such a key, else for a client's
-abbrev pub forgery_in : ℕ → List ReplicaId → List Client → Members → Result Forgery TableFault
-forgery_in count faulty clients members =
+abbrev pub forged_vote_in : VoteKind → ℕ → List ReplicaId → List Client → Members → Result Forgery TableFault
+forged_vote_in kind count faulty clients members =
     if is_some (get_member (codes "null") members)
-    then forgery_with (null_in members)
+    then forgery_with (vote_for kind (null_in members) members)
     (codes "do" ∷ codes "from" ∷ codes "to" ∷ codes "kind" ∷ codes "view" ∷ codes "number" ∷ codes "null" ∷ [])
     count faulty clients members
-    else forgery_with (named_in clients members)
+    else forgery_with (vote_for kind (named_in clients members) members)
     (codes "do" ∷ codes "from" ∷ codes "to" ∷ codes "kind" ∷ codes "view" ∷ codes "number" ∷ codes "client" ∷ codes "time" ∷ [])
     count faulty clients members
+
+abbrev pub checkpoint_from : Result (SeqNo × Digest) TableFault → Result ForgedMessage TableFault
+checkpoint_from (Ok r) = Ok (Checkpoint r.0 r.1)
+checkpoint_from (Err fault) = Err fault
+
+abbrev pub checkpoint_in : Members → Result ForgedMessage TableFault
+checkpoint_in members =
+    checkpoint_from (pair_of (needed_key sequence_number (codes "number") members) (needed_key digest (codes "digest") members))
+
+abbrev pub view_change_from : Result ℕ TableFault → Result ForgedMessage TableFault
+view_change_from (Ok view) = Ok (ViewChange (record { 0 = view }))
+view_change_from (Err fault) = Err fault
+
+abbrev pub view_change_in : Members → Result ForgedMessage TableFault
+view_change_in members = view_change_from (needed_key (up_to 4294967295) (codes "view") members)
+
+-- A message of a kind. Where the kind isn't known, only whose it is and for whom is looked at.
+abbrev pub forgery_of : Result ForgedKind TableFault → ℕ → List ReplicaId → List Client → Members → Result Forgery TableFault
+forgery_of (Ok (forged.Vote kind)) count faulty clients members = forged_vote_in kind count faulty clients members
+forgery_of (Ok forged.Checkpoint) count faulty clients members =
+    forgery_with (checkpoint_in members)
+    (codes "do" ∷ codes "from" ∷ codes "to" ∷ codes "kind" ∷ codes "number" ∷ codes "digest" ∷ [])
+    count faulty clients members
+forgery_of (Ok forged.ViewChange) count faulty clients members =
+    forgery_with (view_change_in members) (codes "do" ∷ codes "from" ∷ codes "to" ∷ codes "kind" ∷ codes "view" ∷ [])
+    count faulty clients members
+forgery_of (Err fault) count faulty clients members = forgery_from (pair_of (Err fault) (route_in count faulty clients members))
+
+abbrev pub forgery_in : ℕ → List ReplicaId → List Client → Members → Result Forgery TableFault
+forgery_in count faulty clients members = forgery_of (needed_key forged_kind (codes "kind") members) count faulty clients members
 
 -- ---- a step
 
@@ -180,8 +255,10 @@ step_named t count faulty clients members =
     else if bytes_eq t (codes "repeat") then as_step steps.Repeat (filter_in count clients members)
     else if bytes_eq t (codes "timeout") then timeout_in count members
     else if bytes_eq t (codes "forge") then as_step steps.Forge (forgery_in count faulty clients members)
+    else if bytes_eq t (codes "mangle") then mangle_in count clients members
     else if bytes_eq t (codes "raw") then raw_in count clients members
     else if bytes_eq t (codes "show") then bare steps.Show members
     else if bytes_eq t (codes "digest") then bare steps.Digest members
     else if bytes_eq t (codes "state") then state_in count members
+    else if bytes_eq t (codes "upgrade") then upgrade_in members
     else Err WrongValue

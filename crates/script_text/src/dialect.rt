@@ -5,6 +5,6 @@
 pub enum Dialect {
     /// A world, whose events the script says.
     World,
-    /// Running threads: requests for all replicas and timeouts alone, and no replica is faulty.
+    /// Running threads: requests for all replicas and timeouts alone; no replica is faulty, and no leaf is used.
     Threads,
 }

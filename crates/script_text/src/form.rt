@@ -8,7 +8,7 @@ ghost use Rattle.toml.specs.Data.{Data, get_member};
 ghost use Rattle.toml.specs.View.{table_view, view};
 ghost use Rattle.script_text.specs.declared.fault.TableFault.{TableFault};
 ghost use Rattle.script_text.specs.Faults.{IsUnlessMemory};
-ghost use Rattle.script_text.specs.Dialects.{wrong_where};
+ghost use Rattle.script_text.specs.Dialects.{unknown_where, wrong_where};
 ghost use Rattle.script_text.specs.Forms.{pair_of, has_only, needed_key, only_keys, optional_key};
 
 use crate::fault::TableFault;
@@ -104,6 +104,20 @@ pub(crate) fn wrong_where<A: Drop>(
         (reading, false) => reading,
         (Ok(_), true) => Err(TableFault::WrongValue),
         (Err(fault), true) => Err(fault.least(TableFault::WrongValue)),
+    }
+}
+
+/// A reading where a key is unknown, besides what is wrong with it.
+pub(crate) fn unknown_where<A: Drop>(
+    unknown: bool,
+    reading: Result<A, TableFault>,
+) -> Result<A, TableFault>
+    ensures { (a : Result A TableFault) → IsUnlessMemory reading a → IsUnlessMemory result (unknown_where unknown a) }
+{
+    match (reading, unknown) {
+        (reading, false) => reading,
+        (Ok(_), true) => Err(TableFault::UnknownKey),
+        (Err(fault), true) => Err(fault.least(TableFault::UnknownKey)),
     }
 }
 

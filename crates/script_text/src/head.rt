@@ -1,9 +1,11 @@
 //! The head of a script.
 
-ghost use Rattle.std.specs.Prelude.{◌≡◌};
+ghost use Rattle.std.specs.Prelude.{◌≡◌, ◌≤◌};
 ghost use Rattle.host_types.specs.Configuration.{replicas_for};
-ghost use Rattle.script_text.specs.Heads.{IsLegal, height_at};
+ghost use Rattle.script_text.specs.Heads.{IsLegal, client_shape};
+ghost use Rattle.script_text.specs.KeyShapes.{leaves_of, shape_at};
 
+use crate::replica_keys::{KeyShape, ReplicaKeys};
 use crate::script::{Client, Secret};
 use host_types::ReplicaId;
 use lms_tree::Height;
@@ -16,8 +18,9 @@ pub struct Head {
     pub(crate) f: u8,
     pub(crate) k: u8,
     pub(crate) secret: Secret,
-    pub(crate) heights: Option<Sequence<Height>>,
+    pub(crate) keys: ReplicaKeys,
     pub(crate) client_height: Height,
+    pub(crate) client_bottom: Option<Height>,
     pub(crate) faulty: Sequence<ReplicaId>,
     pub(crate) clients: Sequence<Client>,
 }
@@ -27,7 +30,7 @@ impl Model for Head {
 
     ghost Value = { HeadFacts };
 
-    ghost view = { λ h. record { f = h.f; k = h.k; secret = h.secret; heights = h.heights; client_height = h.client_height; faulty = h.faulty; clients = h.clients } };
+    ghost view = { λ h. record { f = h.f; k = h.k; secret = h.secret; keys = h.keys; client_height = h.client_height; client_bottom = h.client_bottom; faulty = h.faulty; clients = h.clients } };
 
     ghost invariant = { λ h. IsLegal h.f h.k h.clients };
 }
@@ -62,24 +65,23 @@ impl Head {
         &self.secret
     }
 
-    /// The height of a replica's key: 5 where none is given.
-    pub fn height(&self, id: ReplicaId) -> Height
-        ensures { result ≡ height_at self.now.heights id.0 }
+    /// How a replica's key is made. It has the leaves that are used at the start.
+    pub fn replica_key(&self, id: ReplicaId) -> KeyShape
+        ensures value { result ≡ shape_at self.now.keys id.0 }
+        ensures spendable { result.spent ≤ leaves_of result }
     {
-        let Some(heights) = &self.heights else {
-            return Height::H5;
-        };
-        match heights.as_slice().get(usize::from(id.0)) {
-            Some(height) => *height,
-            None => Height::H5,
-        }
+        self.keys.shape(id)
     }
 
-    /// The height of a client's key.
-    pub fn client_height(&self) -> Height
-        ensures { result ≡ self.now.client_height }
+    /// How each client's key is made. None of its leaves is used at the start.
+    pub fn client_key(&self) -> KeyShape
+        ensures { result ≡ client_shape self.now }
     {
-        self.client_height
+        KeyShape {
+            height: self.client_height,
+            bottom: self.client_bottom,
+            spent: 0,
+        }
     }
 
     /// The faulty replicas, as they are listed.

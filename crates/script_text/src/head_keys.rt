@@ -7,30 +7,36 @@ ghost use Rattle.toml.specs.View.{table_view, view};
 ghost use Rattle.script_text.specs.Dialects.{has_item, head_for, names_faulty};
 ghost use Rattle.script_text.specs.Faults.{IsUnlessMemory};
 ghost use Rattle.script_text.specs.Forms.{needed_head};
-ghost use Rattle.script_text.specs.Heads.{byte_of, count_of_faulty, given_or, head_from, head_in, head_of, if_legal, optional_faulty, optional_heights, keyless, keyless_configuration, listed_clients, named_count, no_key, optional_head, replica_count};
+ghost use Rattle.script_text.specs.Heads.{byte_of, client_heights_in, count_of_faulty, head_from, head_in, head_of, if_legal, keys_in, optional_faulty, optional_list, keyless, keyless_configuration, listed_clients, named_count, no_key, optional_head, replica_count};
+ghost use Rattle.script_text.specs.KeyShapes.{given_or};
 
 use crate::dialect::Dialect;
 use crate::fault::TableFault;
-use crate::form::{Form, needed, optional, pair, value_at, with_only, wrong_where};
+use crate::form::{Form, needed, optional, pair, unknown_where, value_at, with_only, wrong_where};
 use crate::head::Head;
+use crate::replica_keys::ReplicaKeys;
 use crate::script::{Client, Secret};
 use crate::values::{
-    AnyTable, Integer, KeyHeight, ListOf, PerReplica, ReplicaIndex, SecretDigits, Word, table_of,
+    AnyTable, BottomHeight, Integer, KeyHeight, ListOf, PerReplica, ReplicaIndex, SecretDigits,
+    SpentLeaves, Word, table_of,
 };
 use host_types::limits::MAX_FAULTY;
-use host_types::{ClientEntry, ClientId, Config, ReplicaId, TenantId};
+use host_types::{ClientEntry, ClientId, Config, PublicKey, ReplicaId, TenantId};
 use lms_tree::Height;
 use pbft_codec::Sequence;
 use std::alloc::{AllocError, Global};
 use toml::{Table, Value};
 
 /// The keys of a head.
-const HEAD_KEYS: [&str; 8] = [
+const HEAD_KEYS: [&str; 11] = [
     "f",
     "k",
     "secret",
     "heights",
+    "bottom",
+    "spent",
     "client_height",
+    "client_bottom",
     "faulty",
     "client",
     "step",
@@ -40,7 +46,7 @@ const HEAD_KEYS: [&str; 8] = [
 const CLIENT_KEYS: [&str; 2] = ["id", "tenant"];
 
 /// A key that no signature verifies under.
-const NO_KEY: [u8; 56] = [0; 56];
+const NO_KEY: PublicKey = PublicKey::Lms([0; 56]);
 
 /// What is needed of a head, as it is written.
 #[derive(Drop)]
@@ -53,8 +59,9 @@ struct Needed {
 /// What may be left out.
 #[derive(Drop)]
 struct Optional {
-    heights: Option<Sequence<Height>>,
-    client_height: Option<Height>,
+    keys: ReplicaKeys,
+    client_height: Height,
+    client_bottom: Option<Height>,
     faulty: Option<Sequence<ReplicaId>>,
 }
 
@@ -64,7 +71,10 @@ pub(crate) fn read_head(alloc: Global, dialect: Dialect, table: &Table) -> Resul
 {
     match dialect {
         Dialect::World => read_any_head(alloc, table),
-        Dialect::Threads => wrong_where(names_faulty(table), read_any_head(alloc, table)),
+        Dialect::Threads => unknown_where(
+            value_at(table, "spent").is_some(),
+            wrong_where(names_faulty(table), read_any_head(alloc, table)),
+        ),
     }
 }
 
@@ -145,8 +155,9 @@ fn legal_head(
         f,
         k,
         secret,
-        heights: optional.heights,
-        client_height: given_or(optional.client_height, Height::H5),
+        keys: optional.keys,
+        client_height: optional.client_height,
+        client_bottom: optional.client_bottom,
         faulty,
         clients,
     })
@@ -188,29 +199,57 @@ fn read_needed(alloc: Global, table: &Table) -> Result<Needed, TableFault>
 fn read_optional(alloc: Global, table: &Table) -> Result<Optional, TableFault>
     ensures { IsUnlessMemory result (optional_head (table_view table.now)) }
 {
-    let (heights, (client_height, faulty)) = pair(
-        read_heights(alloc, table),
-        pair(
-            optional(alloc, table, "client_height", &KeyHeight),
-            read_faulty(alloc, table),
-        ),
+    let (keys, ((client_height, client_bottom), faulty)) = pair(
+        read_keys(alloc, table),
+        pair(read_client_heights(alloc, table), read_faulty(alloc, table)),
     )?;
     Ok(Optional {
-        heights,
+        keys,
         client_height,
+        client_bottom,
         faulty,
     })
 }
 
-/// The heights of the replicas' keys, one for each of them.
-fn read_heights(alloc: Global, table: &Table) -> Result<Option<Sequence<Height>>, TableFault>
-    ensures { IsUnlessMemory result (optional_heights (table_view table.now)) }
+/// How the replicas' keys are made.
+fn read_keys(alloc: Global, table: &Table) -> Result<ReplicaKeys, TableFault>
+    ensures { IsUnlessMemory result (keys_in (table_view table.now)) }
+{
+    let (heights, (bottoms, spent)) = pair(
+        read_list(alloc, table, "heights", KeyHeight),
+        pair(
+            read_list(alloc, table, "bottom", BottomHeight),
+            read_list(alloc, table, "spent", SpentLeaves),
+        ),
+    )?;
+    ReplicaKeys::new(heights, bottoms, spent).ok_or(TableFault::WrongValue)
+}
+
+/// A list with an entry for each replica.
+fn read_list<F: Form + Copy>(
+    alloc: Global,
+    table: &Table,
+    key: &str,
+    form: F,
+) -> Result<Option<Sequence<F::Says>>, TableFault>
+    ensures { IsUnlessMemory result (optional_list (F.reads form) key.now (table_view table.now)) }
 {
     let form = PerReplica {
         count: named_count(table),
-        form: KeyHeight,
+        form,
     };
-    optional(alloc, table, "heights", &form)
+    optional(alloc, table, key, &form)
+}
+
+/// The heights of the clients' keys.
+fn read_client_heights(alloc: Global, table: &Table) -> Result<(Height, Option<Height>), TableFault>
+    ensures { IsUnlessMemory result (client_heights_in (table_view table.now)) }
+{
+    let (height, bottom) = pair(
+        optional(alloc, table, "client_height", &KeyHeight),
+        optional(alloc, table, "client_bottom", &BottomHeight),
+    )?;
+    Ok((given_or(height, Height::H5), given_or(bottom, None)))
 }
 
 /// The faulty ones among the replicas.
@@ -282,7 +321,7 @@ fn is_legal(alloc: Global, f: u8, k: u8, clients: &[Client]) -> Result<bool, All
 }
 
 /// So many keys that no signature verifies under.
-fn no_keys(alloc: Global, count: u8) -> Result<Vec<[u8; 56]>, AllocError>
+fn no_keys(alloc: Global, count: u8) -> Result<Vec<PublicKey>, AllocError>
     ensures { IfOk result (λ keys. keys.items ≡ replicate count no_key) }
 {
     let mut keys = Vec::new(alloc);

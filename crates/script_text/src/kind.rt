@@ -1,7 +1,6 @@
 //! The kinds of messages, by their names in a script.
 
 use pbft_codec::Body;
-use seal::VoteKind;
 
 /// A kind of message, by its name in a script.
 #[derive(Clone, Copy, Debug, PartialEq, Eq)]
@@ -21,7 +20,7 @@ pub enum Kind {
 impl Kind {
     ghost use Rattle.std.specs.Prelude.{◌≡◌};
     ghost use Rattle.script_text.specs.Forms.{kind_named};
-    ghost use Rattle.script_text.specs.Kinds.{kind_number, kind_of_body, kind_of_vote};
+    ghost use Rattle.script_text.specs.Kinds.{kind_number, kind_of_body};
 
     /// The kind of a body.
     pub fn of(body: &Body) -> Kind
@@ -38,17 +37,6 @@ impl Kind {
             Body::NewView(_) => Kind::NewView,
             Body::Fetch(_) => Kind::Fetch,
             Body::Snapshot(_) => Kind::Snapshot,
-        }
-    }
-
-    /// The kind of a vote.
-    pub fn of_vote(vote: VoteKind) -> Kind
-        ensures { result ≡ kind_of_vote vote }
-    {
-        match vote {
-            VoteKind::PrePrepare => Kind::PrePrepare,
-            VoteKind::Prepare => Kind::Prepare,
-            VoteKind::Commit => Kind::Commit,
         }
     }
 

@@ -10,10 +10,12 @@
 mod dialect;
 mod document;
 mod fault;
+mod forgery_keys;
 mod form;
 mod head;
 mod head_keys;
 mod kind;
+mod replica_keys;
 mod script;
 mod step_keys;
 mod values;
@@ -23,6 +25,8 @@ pub use document::{MAX_SCRIPT, read_script, read_thread_script};
 pub use fault::{ScriptFault, ScriptKind};
 pub use head::Head;
 pub use kind::Kind;
+pub use replica_keys::KeyShape;
 pub use script::{
-    Client, Filter, Forgery, Node, Number, Operation, Order, Script, ScriptBytes, Secret, Step,
+    Client, Damage, Filter, ForgedMessage, ForgedVote, Forgery, Node, Number, Operation, Order,
+    Script, ScriptBytes, Secret, Step,
 };

@@ -4,7 +4,7 @@ ghost use Rattle.std.specs.Prelude.{◌≡◌, ◌≤◌, ◌<◌, ◌^◌, leng
 
 use crate::head::Head;
 use crate::kind::Kind;
-use host_types::{Bytes, ClientId, ReplicaId, SeqNo, TenantId, View};
+use host_types::{Bytes, ClientId, Digest, ReplicaId, SeqNo, TenantId, View};
 use pbft_codec::Sequence;
 use seal::VoteKind;
 use std::marker::Model;
@@ -42,16 +42,42 @@ pub struct Filter {
     pub kinds: Option<Sequence<Kind>>,
 }
 
-/// A vote that a faulty replica signs.
+/// A message that a faulty replica signs, and for whom it is queued.
 #[derive(Drop)]
 pub struct Forgery {
     pub from: ReplicaId,
     pub to: Sequence<Node>,
+    pub message: ForgedMessage,
+}
+
+/// What a forged message says.
+#[derive(Drop)]
+pub enum ForgedMessage {
+    /// A vote for a request.
+    Vote(ForgedVote),
+    /// A Checkpoint of a number and a digest.
+    Checkpoint { number: Number, digest: Digest },
+    /// A ViewChange for a view from number 0, with no Checkpoint and no certificate.
+    ViewChange(View),
+}
+
+/// A forged PrePrepare, Prepare or Commit.
+#[derive(Drop)]
+pub struct ForgedVote {
     pub kind: VoteKind,
     pub view: View,
     pub number: Number,
     /// The client and the time of the request that is named; none for the null request.
     pub request: Option<(ClientId, u64)>,
+}
+
+/// How the copy of a message is changed. A message that is too short for it stays as it is.
+#[derive(Clone, Copy, Debug, PartialEq, Eq)]
+pub enum Damage {
+    /// So many of the last bytes are cut off.
+    Cut(u64),
+    /// The lowest bit of the byte so many places before the last one is flipped.
+    Flip(u64),
 }
 
 /// Bytes that a script gives: at most 524,288, since a script has no more than twice as many digits.
@@ -176,8 +202,13 @@ pub enum Step {
     Repeat(Filter),
     /// Timeouts at these replicas, in this order.
     Timeout(Sequence<ReplicaId>),
-    /// Queues a vote that a faulty replica signs.
+    /// Queues a message that a faulty replica signs.
     Forge(Forgery),
+    /// Queues a changed copy of each message that is meant.
+    Mangle {
+        filter: Filter,
+        damage: Damage,
+    },
     /// Queues these bytes, which have no sender or kind.
     Raw {
         to: Sequence<Node>,
@@ -189,4 +220,6 @@ pub enum Step {
     Digest,
     /// Prints the bytes of a replica's state.
     State(ReplicaId),
+    /// Prints the canonical encoding of the state that these bytes encode.
+    Upgrade(ScriptBytes),
 }

@@ -1,27 +1,28 @@
 //! The keys of a script's steps.
 
-ghost use Rattle.std.specs.Prelude.{◌≡◌, ℕ, List, Option, Result, map};
+ghost use Rattle.std.specs.Prelude.{◌≡◌, ℕ, List, Result, codes, map};
 ghost use Rattle.host_types.specs.Configuration.{replicas_for};
-ghost use Rattle.host_types.specs.declared.ClientId.{ClientId};
 ghost use Rattle.toml.specs.View.{table_view, view};
 ghost use Rattle.script_text.specs.declared.fault.TableFault.{TableFault};
+ghost use Rattle.script_text.specs.declared.script.Damage.{Damage as DamageSaid};
+ghost use Rattle.script_text.specs.declared.script.Damage.TheVariants as damages;
 ghost use Rattle.script_text.specs.Faults.{IsUnlessMemory};
-ghost use Rattle.script_text.specs.Steps.{Ballot as BallotSaid, ballot_in, bare, call_in, filter_in, forgery_from, forgery_in, forgery_of, forgery_with, install_in, named_in, null_in, order_in, order_with, raw_in, route_in, state_in, step_named, timeout_in, vote_in};
+ghost use Rattle.script_text.specs.Steps.{Selection as SelectionSaid, bare, call_in, damage_at, filter_in, filter_of, install_in, mangle_from, mangle_in, mangle_with, order_in, order_with, raw_in, selection_in, state_in, step_named, timeout_in, upgrade_in};
 ghost use Rattle.script_text.specs.Dialects.{step, step_named_for, thread_step};
 
 use crate::dialect::Dialect;
 use crate::fault::TableFault;
+use crate::forgery_keys::read_forgery;
 use crate::form::{needed, optional, pair, value_at, with_only, wrong_where};
 use crate::head::Head;
-use crate::script::{Client, Filter, Forgery, Node, Number, Operation, Order, Step};
+use crate::kind::Kind;
+use crate::script::{Client, Damage, Filter, Node, Operation, Order, Step};
 use crate::values::{
-    ClientName, FaultyIndex, HexBytes, KindName, ListOf, NodeName, ReplicaIndex, SequenceNumber,
-    True, UpTo, VoteName, Word, table_of,
+    ClientName, HexBytes, KindName, ListOf, NodeName, ReplicaIndex, UpTo, Word, table_of,
 };
 use host_types::operation::{CALL, INSTALL};
-use host_types::{Bytes, ClientId, ReplicaId, View};
+use host_types::{Bytes, ReplicaId};
 use pbft_codec::Sequence;
-use seal::VoteKind;
 use std::alloc::Global;
 use toml::{Table, Value};
 
@@ -33,11 +34,9 @@ const FILTER_KEYS: [&str; 4] = ["do", "from", "to", "kinds"];
 
 const TIMEOUT_KEYS: [&str; 2] = ["do", "at"];
 
-const FORGE_KEYS: [&str; 8] = [
-    "do", "from", "to", "kind", "view", "number", "client", "time",
-];
+const CUT_KEYS: [&str; 5] = ["do", "from", "to", "kinds", "cut"];
 
-const FORGE_NULL_KEYS: [&str; 7] = ["do", "from", "to", "kind", "view", "number", "null"];
+const FLIP_KEYS: [&str; 5] = ["do", "from", "to", "kinds", "flip"];
 
 const RAW_KEYS: [&str; 3] = ["do", "to", "bytes"];
 
@@ -45,19 +44,24 @@ const BARE_KEYS: [&str; 1] = ["do"];
 
 const STATE_KEYS: [&str; 2] = ["do", "at"];
 
-/// The greatest time that a document can name: that of its integers.
-const MAX_TIME: u64 = 9_223_372_036_854_775_807;
+const UPGRADE_KEYS: [&str; 2] = ["do", "bytes"];
 
-/// Who signs a vote, for whom it is queued, and its kind, view and number.
-type Ballot = ((ReplicaId, Sequence<Node>), (VoteKind, (u32, Number)));
+/// The greatest integer of a document.
+pub(crate) const MAX_INTEGER: u64 = 9_223_372_036_854_775_807;
+
+/// Whose messages of the queue, for whom and of which kinds.
+type Selection = (
+    Option<Sequence<Node>>,
+    (Option<Sequence<Node>>, Option<Sequence<Kind>>),
+);
 
 /// What the values of a step may name.
 #[derive(Clone, Copy)]
-struct Names<'a> {
+pub(crate) struct Names<'a> {
     /// How many replicas there are.
-    count: u8,
-    faulty: &'a [ReplicaId],
-    clients: &'a [Client],
+    pub count: u8,
+    pub faulty: &'a [ReplicaId],
+    pub clients: &'a [Client],
 }
 
 /// A step under a head. Its first fault is reported.
@@ -135,10 +139,12 @@ fn read_named_step(
         "repeat" => Ok(Step::Repeat(read_filter(alloc, names, table)?)),
         "timeout" => read_timeout(alloc, names, table),
         "forge" => Ok(Step::Forge(read_forgery(alloc, names, table)?)),
+        "mangle" => read_mangle(alloc, names, table),
         "raw" => read_raw(alloc, names, table),
         "show" => read_bare(table, Step::Show),
         "digest" => read_bare(table, Step::Digest),
         "state" => read_state(alloc, names, table),
+        "upgrade" => read_upgrade(alloc, table),
         _ => Err(TableFault::WrongValue),
     }
 }
@@ -227,19 +233,84 @@ fn read_call(alloc: Global, table: &Table) -> Result<Operation, TableFault>
 fn read_filter(alloc: Global, names: &Names<'_>, table: &Table) -> Result<Filter, TableFault>
     ensures { IsUnlessMemory result (filter_in names.now.count names.now.clients.now (table_view table.now)) }
 {
+    let selection = read_selection(alloc, names, table);
+    Ok(filter_of(with_only(selection, table, &FILTER_KEYS)?))
+}
+
+fn filter_of(selection: Selection) -> Filter
+    ensures { result ≡ filter_of selection }
+{
+    let (from, (to, kinds)) = selection;
+    Filter { from, to, kinds }
+}
+
+/// Whose messages of the queue, for whom and of which kinds.
+fn read_selection(alloc: Global, names: &Names<'_>, table: &Table) -> Result<Selection, TableFault>
+    ensures { IsUnlessMemory result (selection_in names.now.count names.now.clients.now (table_view table.now)) }
+{
     let nodes = ListOf(NodeName {
         count: names.count,
         clients: names.clients,
     });
-    let named = pair(
+    pair(
         optional(alloc, table, "from", &nodes),
         pair(
             optional(alloc, table, "to", &nodes),
             optional(alloc, table, "kinds", &ListOf(KindName)),
         ),
-    );
-    let (from, (to, kinds)) = with_only(named, table, &FILTER_KEYS)?;
-    Ok(Filter { from, to, kinds })
+    )
+}
+
+/// Which messages of the queue are copied, and how the copies are changed.
+fn read_mangle(alloc: Global, names: &Names<'_>, table: &Table) -> Result<Step, TableFault>
+    ensures { IsUnlessMemory result (mangle_in names.now.count names.now.clients.now (table_view table.now)) }
+{
+    if value_at(table, "cut").is_some() {
+        let cut = read_cut(alloc, table);
+        read_mangle_by(alloc, names, table, cut, &CUT_KEYS)
+    } else {
+        let flip = read_flip(alloc, table);
+        read_mangle_by(alloc, names, table, flip, &FLIP_KEYS)
+    }
+}
+
+/// Copies that are changed so, in a table of these keys.
+fn read_mangle_by(
+    alloc: Global,
+    names: &Names<'_>,
+    table: &Table,
+    damage: Result<Damage, TableFault>,
+    keys: &[&str],
+) -> Result<Step, TableFault>
+    ensures { (d : Result DamageSaid TableFault) → IsUnlessMemory damage d → IsUnlessMemory result (mangle_with d (map (λ k. k.now) keys.now) names.now.count names.now.clients.now (table_view table.now)) }
+{
+    let named = pair(damage, read_selection(alloc, names, table));
+    as_mangle(with_only(named, table, keys))
+}
+
+/// What was read of changed copies, as a step.
+fn as_mangle(read: Result<(Damage, Selection), TableFault>) -> Result<Step, TableFault>
+    ensures { (r : Result (DamageSaid × SelectionSaid) TableFault) → IsUnlessMemory read r → IsUnlessMemory result (mangle_from r) }
+{
+    match read {
+        Ok((damage, selection)) => Ok(Step::Mangle {
+            filter: filter_of(selection),
+            damage,
+        }),
+        Err(fault) => Err(fault),
+    }
+}
+
+fn read_cut(alloc: Global, table: &Table) -> Result<Damage, TableFault>
+    ensures { IsUnlessMemory result (damage_at damages.Cut (codes "cut") (table_view table.now)) }
+{
+    Ok(Damage::Cut(needed(alloc, table, "cut", &UpTo(MAX_INTEGER))?))
+}
+
+fn read_flip(alloc: Global, table: &Table) -> Result<Damage, TableFault>
+    ensures { IsUnlessMemory result (damage_at damages.Flip (codes "flip") (table_view table.now)) }
+{
+    Ok(Damage::Flip(needed(alloc, table, "flip", &UpTo(MAX_INTEGER))?))
 }
 
 fn read_timeout(alloc: Global, names: &Names<'_>, table: &Table) -> Result<Step, TableFault>
@@ -273,122 +344,9 @@ fn read_state(alloc: Global, names: &Names<'_>, table: &Table) -> Result<Step, T
     Ok(Step::State(with_only(named, table, &STATE_KEYS)?))
 }
 
-/// A vote of a faulty replica, for a client's request or for the null request.
-fn read_forgery(alloc: Global, names: &Names<'_>, table: &Table) -> Result<Forgery, TableFault>
-    ensures { IsUnlessMemory result (forgery_in names.now.count names.now.faulty.now names.now.clients.now (table_view table.now)) }
+fn read_upgrade(alloc: Global, table: &Table) -> Result<Step, TableFault>
+    ensures { IsUnlessMemory result (upgrade_in (table_view table.now)) }
 {
-    if value_at(table, "null").is_some() {
-        let request = read_null(alloc, table);
-        read_vote_for(alloc, names, table, request, &FORGE_NULL_KEYS)
-    } else {
-        let request = read_named(alloc, names, table);
-        read_vote_for(alloc, names, table, request, &FORGE_KEYS)
-    }
-}
-
-/// A vote for this request, in a table of these keys.
-fn read_vote_for(
-    alloc: Global,
-    names: &Names<'_>,
-    table: &Table,
-    request: Result<Option<(ClientId, u64)>, TableFault>,
-    keys: &[&str],
-) -> Result<Forgery, TableFault>
-    ensures { (r : Result (Option (ClientId × ℕ)) TableFault) → IsUnlessMemory request r → IsUnlessMemory result (forgery_with r (map (λ k. k.now) keys.now) names.now.count names.now.faulty.now names.now.clients.now (table_view table.now)) }
-{
-    let named = pair(request, read_ballot(alloc, names, table));
-    as_forgery(with_only(named, table, keys))
-}
-
-/// What was read of a vote, as one.
-fn as_forgery(
-    read: Result<(Option<(ClientId, u64)>, Ballot), TableFault>,
-) -> Result<Forgery, TableFault>
-    ensures { (r : Result (Option (ClientId × ℕ) × BallotSaid) TableFault) → IsUnlessMemory read r → IsUnlessMemory result (forgery_from r) }
-{
-    match read {
-        Ok((request, ballot)) => Ok(forgery_of(request, ballot)),
-        Err(fault) => Err(fault),
-    }
-}
-
-fn forgery_of(request: Option<(ClientId, u64)>, ballot: Ballot) -> Forgery
-    ensures { result ≡ forgery_of request ballot }
-{
-    let ((from, to), (kind, (view, number))) = ballot;
-    Forgery {
-        from,
-        to,
-        kind,
-        view: View(view),
-        number,
-        request,
-    }
-}
-
-/// Who signs a vote, for whom it is queued, and what it says.
-fn read_ballot(alloc: Global, names: &Names<'_>, table: &Table) -> Result<Ballot, TableFault>
-    ensures { IsUnlessMemory result (ballot_in names.now.count names.now.faulty.now names.now.clients.now (table_view table.now)) }
-{
-    pair(read_route(alloc, names, table), read_vote(alloc, table))
-}
-
-/// The null request.
-fn read_null(alloc: Global, table: &Table) -> Result<Option<(ClientId, u64)>, TableFault>
-    ensures { IsUnlessMemory result (null_in (table_view table.now)) }
-{
-    needed(alloc, table, "null", &True)?;
-    Ok(None)
-}
-
-/// A client's request, by its time.
-fn read_named(
-    alloc: Global,
-    names: &Names<'_>,
-    table: &Table,
-) -> Result<Option<(ClientId, u64)>, TableFault>
-    ensures { IsUnlessMemory result (named_in names.now.clients.now (table_view table.now)) }
-{
-    let client = ClientName {
-        clients: names.clients,
-    };
-    let request = pair(
-        needed(alloc, table, "client", &client),
-        needed(alloc, table, "time", &UpTo(MAX_TIME)),
-    )?;
-    Ok(Some(request))
-}
-
-/// Who signs, and for whom it is queued.
-fn read_route(
-    alloc: Global,
-    names: &Names<'_>,
-    table: &Table,
-) -> Result<(ReplicaId, Sequence<Node>), TableFault>
-    ensures { IsUnlessMemory result (route_in names.now.count names.now.faulty.now names.now.clients.now (table_view table.now)) }
-{
-    let nodes = ListOf(NodeName {
-        count: names.count,
-        clients: names.clients,
-    });
-    let signer = FaultyIndex {
-        faulty: names.faulty,
-    };
-    pair(
-        needed(alloc, table, "from", &signer),
-        needed(alloc, table, "to", &nodes),
-    )
-}
-
-/// The kind, the view and the number of a vote.
-fn read_vote(alloc: Global, table: &Table) -> Result<(VoteKind, (u32, Number)), TableFault>
-    ensures { IsUnlessMemory result (vote_in (table_view table.now)) }
-{
-    pair(
-        needed(alloc, table, "kind", &VoteName),
-        pair(
-            needed(alloc, table, "view", &Word),
-            needed(alloc, table, "number", &SequenceNumber),
-        ),
-    )
+    let named = needed(alloc, table, "bytes", &HexBytes);
+    Ok(Step::Upgrade(with_only(named, table, &UPGRADE_KEYS)?))
 }

@@ -5,7 +5,7 @@ ghost use Rattle.toml.specs.Data.{as_table};
 ghost use Rattle.toml.specs.View.{items_view, table_view, view};
 ghost use Rattle.script_text.specs.declared.fault.TableFault.{TableFault};
 ghost use Rattle.script_text.specs.declared.fault.TableFault.TheVariants.{WrongValue};
-ghost use Rattle.script_text.specs.Forms.{client_named, each_from, faulty_named, is_blank, items_in, vote_named, with_last};
+ghost use Rattle.script_text.specs.Forms.{client_named, each_from, faulty_named, is_blank, forged_kind_named, items_in, with_last};
 ghost use Rattle.script_text.specs.Faults.{IsUnlessMemory};
 
 use crate::fault::TableFault;
@@ -14,7 +14,7 @@ use crate::kind::Kind;
 use crate::script::{Client, Node, Number, ScriptBytes, Secret};
 use hex::{FromHex, FromHexError};
 use host_types::limits::SEQUENCE_NUMBER_LIMIT;
-use host_types::{Bytes, ClientId, ReplicaId, SeqNo};
+use host_types::{Bytes, ClientId, Digest, ReplicaId, SeqNo};
 use lms_tree::Height;
 use pbft_codec::Sequence;
 use seal::VoteKind;
@@ -23,6 +23,9 @@ use toml::{Table, Value};
 
 /// The most bytes that hex digits give: a script has no more than twice as many.
 const MAX_HEX_BYTES: usize = 524_288;
+
+/// The most leaves that a key may have used at the start.
+const MAX_SPENT: u32 = 2_048;
 
 /// Any integer.
 #[derive(Clone, Copy)]
@@ -136,6 +139,47 @@ impl Form for KeyHeight {
     }
 }
 
+/// The height of bottom trees, 5 or 10; none for 0.
+#[derive(Clone, Copy)]
+pub(crate) struct BottomHeight;
+
+impl Form for BottomHeight {
+    ghost use Rattle.script_text.specs.Forms.{bottom};
+
+    ghost reads = { λ _ d. bottom d };
+
+    type Says = Option<Height>;
+
+    fn read(&self, _: Global, value: &Value) -> Result<Option<Height>, TableFault> {
+        match value.as_integer() {
+            Some(0) => Ok(None),
+            Some(5) => Ok(Some(Height::H5)),
+            Some(10) => Ok(Some(Height::H10)),
+            _ => Err(TableFault::WrongValue),
+        }
+    }
+}
+
+/// A number of leaves that are used at the start.
+#[derive(Clone, Copy)]
+pub(crate) struct SpentLeaves;
+
+impl Form for SpentLeaves {
+    ghost use Rattle.script_text.specs.Forms.{up_to};
+
+    ghost reads = { λ _ d. up_to 2048 d };
+
+    type Says = u32;
+
+    fn read(&self, alloc: Global, value: &Value) -> Result<u32, TableFault> {
+        let integer = Integer.read(alloc, value)?;
+        match u32::try_from(integer) {
+            Ok(number) if number <= MAX_SPENT => Ok(number),
+            _ => Err(TableFault::WrongValue),
+        }
+    }
+}
+
 /// 64 hex digits.
 #[derive(Clone, Copy)]
 pub(crate) struct SecretDigits;
@@ -153,6 +197,28 @@ impl Form for SecretDigits {
         };
         match <[u8; 32] as FromHex>::from_hex(text) {
             Ok(bytes) => Ok(Secret(bytes)),
+            Err(_) => Err(TableFault::WrongValue),
+        }
+    }
+}
+
+/// A digest of 64 hex digits.
+#[derive(Clone, Copy)]
+pub(crate) struct DigestDigits;
+
+impl Form for DigestDigits {
+    ghost use Rattle.script_text.specs.Forms.{digest};
+
+    ghost reads = { λ _ d. digest d };
+
+    type Says = Digest;
+
+    fn read(&self, _: Global, value: &Value) -> Result<Digest, TableFault> {
+        let Some(text) = value.as_str() else {
+            return Err(TableFault::WrongValue);
+        };
+        match <[u8; 32] as FromHex>::from_hex(text) {
+            Ok(bytes) => Ok(Digest(bytes)),
             Err(_) => Err(TableFault::WrongValue),
         }
     }
@@ -220,33 +286,43 @@ impl Form for KindName {
     }
 }
 
-/// The name of a kind of vote.
+/// The kind of a message that can be forged.
+#[derive(Clone, Copy, Debug, PartialEq, Eq)]
+pub(crate) enum ForgedKind {
+    Vote(VoteKind),
+    Checkpoint,
+    ViewChange,
+}
+
+/// The name of the kind of a forged message.
 #[derive(Clone, Copy)]
-pub(crate) struct VoteName;
+pub(crate) struct ForgedKindName;
 
-impl Form for VoteName {
-    ghost use Rattle.script_text.specs.Forms.{vote_name};
+impl Form for ForgedKindName {
+    ghost use Rattle.script_text.specs.Forms.{forged_kind};
 
-    ghost reads = { λ _ d. vote_name d };
+    ghost reads = { λ _ d. forged_kind d };
 
-    type Says = VoteKind;
+    type Says = ForgedKind;
 
-    fn read(&self, _: Global, value: &Value) -> Result<VoteKind, TableFault> {
+    fn read(&self, _: Global, value: &Value) -> Result<ForgedKind, TableFault> {
         match value.as_str() {
-            Some(name) => vote_named(name).ok_or(TableFault::WrongValue),
+            Some(name) => forged_kind_named(name).ok_or(TableFault::WrongValue),
             None => Err(TableFault::WrongValue),
         }
     }
 }
 
-/// The kind of vote of this name.
-fn vote_named(name: &str) -> Option<VoteKind>
-    ensures { result ≡ vote_named name.now }
+/// The kind of forged message of this name.
+fn forged_kind_named(name: &str) -> Option<ForgedKind>
+    ensures { result ≡ forged_kind_named name.now }
 {
     match name {
-        "pre-prepare" => Some(VoteKind::PrePrepare),
-        "prepare" => Some(VoteKind::Prepare),
-        "commit" => Some(VoteKind::Commit),
+        "pre-prepare" => Some(ForgedKind::Vote(VoteKind::PrePrepare)),
+        "prepare" => Some(ForgedKind::Vote(VoteKind::Prepare)),
+        "commit" => Some(ForgedKind::Vote(VoteKind::Commit)),
+        "checkpoint" => Some(ForgedKind::Checkpoint),
+        "view-change" => Some(ForgedKind::ViewChange),
         _ => None,
     }
 }

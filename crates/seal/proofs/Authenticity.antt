@@ -5,7 +5,8 @@ use Rattle.std.specs.List.{AllByRecursion}
 use Rattle.std.proofs.Math.Seq.{drop-cons}
 use Rattle.std.proofs.Math.ListN.{drop_of_length-le}
 use Rattle.host_types.specs.Configuration.{Configuration}
-use Rattle.lms_tree.specs.declared.fault.SigFault.{SigFault}
+use Rattle.host_types.specs.declared.key.PublicKey.{PublicKey}
+use Rattle.lms_tree.specs.declared.SigFault.{SigFault}
 use Rattle.pbft_codec.specs.declared.body.Body.{Body}
 use Rattle.pbft_codec.specs.declared.signed.Signed.{Signed}
 use Rattle.seal.specs.declared.fault.SealFault.{SealFault}
@@ -33,7 +34,7 @@ role_and_valid true None e = (refl, refl)
 role_and_valid true (Some x) e = absurd cc
 role_and_valid false f e = absurd cc
 
-under_key : (c : Configuration) (m : Signed Body) (key : Option (List ℕ)) → key_of c m.role m.id ≡ key → fault_under c key m ≡ None → IsAuthentic c m
+under_key : (c : Configuration) (m : Signed Body) (key : Option PublicKey) → key_of c m.role m.id ≡ key → fault_under c key m ≡ None → IsAuthentic c m
 under_key c m None is e = absurd cc
 under_key c m (Some key) is e =
     let pair = role_and_valid (may_sign c m.role m.id m.body) _ e in
@@ -55,17 +56,17 @@ unlisted c claim m is none =
     let key : key_of c m.role m.id ≡ None = rw (is.role, is.id) none in
     rw key refl
 
-pub out_of_role : (c : Configuration) (claim : Claim) (m : Signed Body) (key : List ℕ) → IsClaimOf claim m → key_of c claim.role claim.id ≡ Some key → may_sign c claim.role claim.id m.body ≡ false → own_fault c m ≡ Some WrongRole
+pub out_of_role : (c : Configuration) (claim : Claim) (m : Signed Body) (key : PublicKey) → IsClaimOf claim m → key_of c claim.role claim.id ≡ Some key → may_sign c claim.role claim.id m.body ≡ false → own_fault c m ≡ Some WrongRole
 unfolding own_fault
 out_of_role c claim m key is listed wrong =
     let known : key_of c m.role m.id ≡ Some key = rw (is.role, is.id) listed in
     let role : may_sign c m.role m.id m.body ≡ false = rw (is.role, is.id) wrong in
     rw (known, role) refl
 
-pub may_have_signed : (c : Configuration) (claim : Claim) (m : Signed Body) (key : List ℕ) → IsClaimOf claim m → key_of c claim.role claim.id ≡ Some key → may_sign c claim.role claim.id m.body ≡ true → MayHaveSigned c m key
+pub may_have_signed : (c : Configuration) (claim : Claim) (m : Signed Body) (key : PublicKey) → IsClaimOf claim m → key_of c claim.role claim.id ≡ Some key → may_sign c claim.role claim.id m.body ≡ true → MayHaveSigned c m key
 may_have_signed c claim m key is listed right = record { listed = rw (is.role, is.id) listed; role = rw (is.role, is.id) right }
 
-pub own_fault_by_key : (c : Configuration) (m : Signed Body) (key text sig : List ℕ) (found : Option SigFault) → MayHaveSigned c m key → m.sig ≡ sig → text ≡ signed_text m → signature_fault key text sig ≡ found → own_fault c m ≡ cond (is_some found) (Some BadSignature) None
+pub own_fault_by_key : (c : Configuration) (m : Signed Body) (key : PublicKey) (text sig : List ℕ) (found : Option SigFault) → MayHaveSigned c m key → m.sig ≡ sig → text ≡ signed_text m → signature_fault key text sig ≡ found → own_fault c m ≡ cond (is_some found) (Some BadSignature) None
 unfolding own_fault
 own_fault_by_key c m key text sig found may of_sig said e =
     let known = may.listed in

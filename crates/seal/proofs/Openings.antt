@@ -2,6 +2,7 @@
 use Rattle.std.proofs.Common.{◌≡◌, ℕ, Bool, true, false, not, cond, List, [], ◌∷◌, Option, Some, None, Result, Ok, Err, refl, sym, ap, subst, ◌∙◌, ◌⊎◌, inl, inr}
 use Rattle.std.specs.List.{AllByRecursion}
 use Rattle.host_types.specs.Configuration.{Configuration}
+use Rattle.host_types.specs.declared.key.PublicKey.{PublicKey}
 use Rattle.pbft_codec.specs.declared.body.Body.{Body}
 use Rattle.pbft_codec.specs.declared.fault.CodecFault.{CodecFault}
 use Rattle.pbft_codec.specs.declared.fault.CodecFault.TheVariants as codec
@@ -74,7 +75,7 @@ proper_test true true f e = proper_some BadSignature f e tt
 proper_test true false f e = absurd cc
 proper_test false s f e = proper_some WrongRole f e tt
 
-proper_under : (c : Configuration) (key : Option (List ℕ)) (m : Signed Body) (f : SealFault) → fault_under c key m ≡ Some f → IsProper f
+proper_under : (c : Configuration) (key : Option PublicKey) (m : Signed Body) (f : SealFault) → fault_under c key m ≡ Some f → IsProper f
 proper_under c None m f e = proper_some UnknownSigner f e tt
 proper_under c (Some key) m f e = proper_test (may_sign c m.role m.id m.body) _ f e
 

@@ -2,6 +2,7 @@
 use Rattle.std.proofs.Common.{◌≡◌, ℕ, ◌<◌, false, List, Option, Some, None, refl, ap, arith}
 use Rattle.std.specs.Prelude.{IfSome, IsSome, IsTrue}
 use Rattle.host_types.specs.Configuration.{Configuration, IsConfiguration, replicas_for}
+use Rattle.host_types.specs.declared.key.PublicKey.{PublicKey}
 use Rattle.pbft_codec.specs.declared.body.Body.{Body}
 use Rattle.pbft_codec.specs.declared.body.Body.TheVariants as bodies
 use Rattle.pbft_codec.specs.declared.signed.Role.{Role}
@@ -20,12 +21,12 @@ record IsReplica (c : Configuration) (role : Role) (id : ℕ) (sender : Sender) 
   listed : id < replicas_for c.f
   sends : IsTrue (replica_may_send c id sender)
 
-is_replica : (c : Configuration) → IsConfiguration c → (role : Role) (id : ℕ) (body : Body) (key : List ℕ) → key_of c role id ≡ Some key → IsTrue (may_sign c role id body) → client_may_send (sender_of body) ≡ false → IsReplica c role id (sender_of body)
+is_replica : (c : Configuration) → IsConfiguration c → (role : Role) (id : ℕ) (body : Body) (key : PublicKey) → key_of c role id ≡ Some key → IsTrue (may_sign c role id body) → client_may_send (sender_of body) ≡ false → IsReplica c role id (sender_of body)
 is_replica c k Replica id body key e may other =
     record { is = refl; listed = omega (arith, slice_get_within c.keys id key e, k.a_key_each); sends = may }
 is_replica c k Client id body key e may other = absurd cc
 
-vote_proper : (c : Configuration) → IsConfiguration c → (role : Role) (id : ℕ) (sig : List ℕ) (body : Body) (key : List ℕ) → key_of c role id ≡ Some key → IsTrue (may_sign c role id body) → BodyWellFormed body → IfSome (vote_in id body) (λ v. IsVoteOf (record { config = c; message = record { role = role; id = id; body = body; sig = sig } }) v)
+vote_proper : (c : Configuration) → IsConfiguration c → (role : Role) (id : ℕ) (sig : List ℕ) (body : Body) (key : PublicKey) → key_of c role id ≡ Some key → IsTrue (may_sign c role id body) → BodyWellFormed body → IfSome (vote_in id body) (λ v. IsVoteOf (record { config = c; message = record { role = role; id = id; body = body; sig = sig } }) v)
 vote_proper c k role id sig (bodies.PrePrepare p) key e may number =
     let r = is_replica c k role id (bodies.PrePrepare p) key e may refl in
     record { role = r.is; listed = r.listed; number = number; primary_proposes = λ _. grind (arith, r.sends); backups_prepare = λ w. absurd cc }

@@ -3,6 +3,7 @@ use Rattle.std.specs.Prelude.{◌≡◌, ℕ, ◌%◌, ◌==◌, not, Bool, true
 use Rattle.std.specs.Option.{option_map}
 use Rattle.host_types.specs.Configuration.{Configuration, entry_of, replicas_for}
 use Rattle.host_types.specs.declared.View.{View}
+use Rattle.host_types.specs.declared.key.PublicKey.{PublicKey}
 use Rattle.lms_tree.specs.Keys.{IsValid}
 use Rattle.lms_tree.specs.Signature.{signature_fault}
 use Rattle.pbft_codec.specs.declared.body.Body.{Body}
@@ -17,7 +18,7 @@ use Rattle.seal.specs.declared.fault.SealFault.{SealFault}
 use Rattle.seal.specs.declared.fault.SealFault.TheVariants.{UnknownSigner, BadSignature, WrongRole}
 
 -- The listed key of a replica or a client.
-abbrev pub key_of : Configuration → Role → ℕ → Option (List ℕ)
+abbrev pub key_of : Configuration → Role → ℕ → Option PublicKey
 key_of c Replica id = slice_get c.keys id
 key_of c Client id = option_map (λ entry. entry.key) (entry_of c.clients id)
 
@@ -45,14 +46,14 @@ may_sign c Client id body = client_may_send (sender_of body)
 
 -- A message whose signer is listed, may sign its body, and did.
 pub record IsAuthentic (c : Configuration) (m : Signed Body) : Type 0 where
-  pub key : List ℕ
+  pub key : PublicKey
   pub listed : key_of c m.role m.id ≡ Some key
   pub role : IsTrue (may_sign c m.role m.id m.body)
   pub signature : IsValid key (signed_text m) m.sig
 
 -- ---- the first fault
 
-abbrev pub fault_under : Configuration → Option (List ℕ) → Signed Body → Option SealFault
+abbrev pub fault_under : Configuration → Option PublicKey → Signed Body → Option SealFault
 fault_under c None m = Some UnknownSigner
 fault_under c (Some key) m =
     if not (may_sign c m.role m.id m.body) then Some WrongRole

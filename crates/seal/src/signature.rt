@@ -2,11 +2,12 @@
 
 ghost use Rattle.std.specs.Prelude.{◌≡◌, ◌⊎◌, ◌++◌, ℕ, List, Some, None, IfOk, IfErr, OnOk, MatchResult};
 ghost use Rattle.lms_tree.specs.Signature.{signature_fault};
-ghost use Rattle.lms_tree.specs.Verifying.{Holds};
-ghost use Rattle.lms_tree.specs.declared.fault.SigFault.{SigFault};
+ghost use Rattle.lms_tree.specs.Verifying.{IsFed};
+ghost use Rattle.lms_tree.specs.declared.SigFault.{SigFault};
 ghost use Rattle.seal.specs.declared.fault.SealFault.TheVariants.{BadSignature, Memory};
 
 use crate::fault::SealFault;
+use host_types::PublicKey;
 use lms_tree::{SigFault, Verifier};
 use std::alloc::{AllocError, Global};
 
@@ -19,7 +20,12 @@ const PIECE: usize = 1024;
 const FRONT: usize = 5;
 
 /// Whether a signature of a text is valid.
-pub fn check_signature(key: &[u8; 56], head: &[u8], tail: &[u8], sig: &[u8]) -> Result<(), SigFault>
+pub fn check_signature(
+    key: &PublicKey,
+    head: &[u8],
+    tail: &[u8],
+    sig: &[u8],
+) -> Result<(), SigFault>
     ensures { MatchResult result (λ _. signature_fault key.now (head.now ++ tail.now) sig.now ≡ None)
         (λ fault. signature_fault key.now (head.now ++ tail.now) sig.now ≡ Some fault) }
 {
@@ -34,7 +40,7 @@ pub fn check_signature(key: &[u8; 56], head: &[u8], tail: &[u8], sig: &[u8]) -> 
 /// `BadSignature`, or `Memory`.
 pub fn copy_checked(
     alloc: Global,
-    key: &[u8; 56],
+    key: &PublicKey,
     head: &[u8],
     tail: &[u8],
     sig: &[u8],
@@ -68,8 +74,7 @@ fn update_and_copy(
     copy: &mut Vec<u8>,
 ) -> Result<(), AllocError>
     ensures same { OnOk result ((verifier.new.key.now ≡ verifier.old.key.now) × (verifier.new.sig.now ≡ verifier.old.sig.now)) }
-    ensures fed { OnOk result ((key sig body : List ℕ) → Holds verifier.old.hasher key sig body →
-        Holds verifier.new.hasher key sig (body ++ text.now)) }
+    ensures fed { OnOk result ((body : List ℕ) → IsFed verifier.old body → IsFed verifier.new (body ++ text.now)) }
     ensures copied { OnOk result (copy.new.items ≡ copy.old.items ++ bytes.now) }
 {
     let mut unhashed = text;

@@ -15,12 +15,12 @@ ghost use Rattle.seal.specs.Signers.{key_of, may_sign, client_may_send, replica_
 use crate::fault::SealFault;
 use crate::nested_messages::descendants;
 use crate::signature::{check_signature, copy_checked};
-use host_types::{ClientId, Config, ReplicaId};
+use host_types::{ClientId, Config, PublicKey, ReplicaId};
 use pbft_codec::{Body, Role, Sender, Signed, SignedSnapshot, signed_bytes, signed_parts};
 use std::alloc::Global;
 
 /// The listed key of a replica or a client.
-pub fn listed_key(config: &Config, role: Role, id: u32) -> Option<&[u8; 56]>
+pub fn listed_key(config: &Config, role: Role, id: u32) -> Option<&PublicKey>
     ensures { option_copied result ≡ key_of config.now role id }
 {
     match role {
@@ -84,7 +84,7 @@ struct Claim<'a> {
 }
 
 /// The key of the one who claims to have signed a message, if it is listed and may send such a body.
-fn signers_key<'a>(config: &'a Config, claim: &Claim<'_>) -> Result<&'a [u8; 56], SealFault>
+fn signers_key<'a>(config: &'a Config, claim: &Claim<'_>) -> Result<&'a PublicKey, SealFault>
     ensures { (m : Signed Body) → IsClaimOf claim.now m → MatchResult result
         (λ key. MayHaveSigned config.now m key.now) (λ fault. own_fault config.now m ≡ Some fault) }
 {

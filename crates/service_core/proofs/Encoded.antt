@@ -11,7 +11,7 @@ use Rattle.service_core.specs.declared.state_fault.StateFault.{StateFault}
 use Rattle.service_core.specs.declared.state_fault.StateFault.TheVariants.{BadState, Memory}
 use Rattle.host_types.specs.Configuration.{Configuration}
 use Rattle.service_model.specs.TenantStates.{Service}
-use Rattle.service_model.specs.Decoding.{Encodes}
+use Rattle.service_model.specs.Decoding.{Decodes}
 use Rattle.service_model.specs.Words.{u32_bytes, u64_bytes}
 use Rattle.service_core.specs.Readings.{Begins, Fails, Reads}
 use Rattle.service_model.proofs.PrefixFree.{IsPrefixFree, free_four}
@@ -29,9 +29,9 @@ passes s F b s' F' b' Memory f h = tt
 
 -- a fault in a part of what would be a state: there is none
 pub none_encoded : {R A : Type 0} (s : A → List ℕ) (F : A → Type 0) (b : List ℕ) (config : Configuration) (bytes : List ℕ) (result : Result R StateFault) (e fault : StateFault) → result ≡ Err e → e ≡ fault
-    → Fails s F b fault → ((state : Service) → Encodes config bytes state → Begins s F b) → IfErr result (λ f. f ≡ BadState → (state : Service) → Encodes config bytes state → ⊥)
-none_encoded {R} {A} s F b config bytes result e fault is same h begins = subst (λ (r : Result R StateFault). IfErr r (λ f. f ≡ BadState → (state : Service) → Encodes config bytes state → ⊥)) (sym (is ∙ ap Err same)) (none fault h) where
-  none : (f : StateFault) → Fails s F b f → f ≡ BadState → (state : Service) → Encodes config bytes state → ⊥
+    → Fails s F b fault → ((state : Service) → Decodes config bytes state → Begins s F b) → IfErr result (λ f. f ≡ BadState → (state : Service) → Decodes config bytes state → ⊥)
+none_encoded {R} {A} s F b config bytes result e fault is same h begins = subst (λ (r : Result R StateFault). IfErr r (λ f. f ≡ BadState → (state : Service) → Decodes config bytes state → ⊥)) (sym (is ∙ ap Err same)) (none fault h) where
+  none : (f : StateFault) → Fails s F b f → f ≡ BadState → (state : Service) → Decodes config bytes state → ⊥
   none BadState h is = λ state is_encoded. h (begins state is_encoded)
   none Memory h is = absurd cc
 

@@ -8,7 +8,7 @@ pub mod Encoded
 pub mod Replies
 pub mod Turns
 pub mod KeysInOrder
-pub mod ShortCodes
+pub mod ProceduresRead
 pub mod Parts
 pub mod RepliesInTurn
 pub mod StateRead

@@ -10,13 +10,15 @@ use Rattle.host_types.specs.declared.config.ClientEntry.{ClientEntry}
 use Rattle.host_types.specs.declared.request.Reply.{Reply}
 use Rattle.host_types.specs.Configuration.{Configuration, IsConfiguration, insert_sorted, client_ids_of, tenants_of, entry_of}
 use Rattle.host_types.proofs.InsertSorted.{insert_sorted_before, insert_sorted_here, insert_sorted_after}
+use Rattle.service_model.specs.declared.version.Version.{Version}
 use Rattle.service_model.specs.Words.{u32_bytes, u64_bytes}
+use Rattle.service_model.specs.Versions.{version_number}
 use Rattle.service_model.specs.TenantStates.{Replies, TenantState, Service, empty_tenant, tenant_at, tenant_index, last_reply_of}
 use Rattle.service_model.specs.Encoding.{encoded_tenant, encoded_replies, encoded_reply, last_replies_of}
 use Rattle.service_model.specs.Sound.{IsSoundTenant}
 use Rattle.service_model.specs.Bounded.{IsBoundedReply, IsBoundedTenant}
-use Rattle.service_model.specs.Decoding.{Encodes}
-use Rattle.service_core.specs.Readings.{Begins, AreLastReplies, ArePartsOf, HaveReplies, is_of, replies_to_tenant}
+use Rattle.service_model.specs.Decoding.{IsToldIn, EncodesIn, Decodes}
+use Rattle.service_core.specs.Readings.{Begins, encoded_head, AreLastReplies, ArePartsOf, HaveReplies, is_of, replies_to_tenant}
 use Rattle.service_model.proofs.Clients.{Each, has, client_ids_ascend, or_left, or_right, or_cases}
 use Rattle.service_core.proofs.LastReplies.{to, get-replies_of}
 use Rattle.service_model.proofs.TenantIndexes.{index_for, listed_has_index}
@@ -24,7 +26,7 @@ use Rattle.service_model.proofs.Found.{tenant_at_index}
 use Rattle.service_model.proofs.PrefixFree.{same_length, free_eight, free_list}
 use Rattle.service_core.proofs.Replies.{IsFit, free_fit}
 use Rattle.service_core.proofs.RepliesInTurn.{last_replies_fit, turn_found, tenant_replies_found, found_passes, tenant_replies_bounded, tenant_replies_sound}
-use Rattle.service_model.proofs.Injective.{four_long}
+use Rattle.service_model.proofs.Injective.{four_long, one_version, begins_with}
 use Rattle.service_core.proofs.Parts.{ids_of, number, free_parts}
 
 -- ---- the clients' ids are those that are listed
@@ -93,13 +95,13 @@ each_keeps f g all (id ∷ ids) inside same = (same id.0 inside.0, each_keeps f 
 
 -- ---- the whole state
 
-abbrev rest_of : List TenantState → List ℕ
-rest_of parts = u32_bytes (length parts) ++ flat_map encoded_tenant parts
+abbrev rest_of : Version → List TenantState → List ℕ
+rest_of version parts = u32_bytes (length parts) ++ flat_map (encoded_tenant version) parts
 
 regrouped : (a b c d e : List ℕ) → (((a ++ b) ++ c) ++ d) ++ e ≡ (a ++ b) ++ (c ++ (d ++ e))
 regrouped a b c d e = simp append_assoc
 
-module _ (config : Configuration) (n : ℕ) (replies : List Reply) (parts : List TenantState) (legal : IsConfiguration config) (below : n < 2 ^ 48) (turn : AreLastReplies config.clients n replies) (are : ArePartsOf (tenants_of config.clients) parts)
+module _ (version : Version) (config : Configuration) (n : ℕ) (replies : List Reply) (parts : List TenantState) (legal : IsConfiguration config) (below : n < 2 ^ 48) (turn : AreLastReplies config.clients n replies) (are : ArePartsOf version (tenants_of config.clients) parts)
     (keeps : HaveReplies config.clients replies parts) where
   abbrev state : Service
   state = record { config = config; number = n; tenants = parts }
@@ -125,73 +127,84 @@ module _ (config : Configuration) (n : ℕ) (replies : List Reply) (parts : List
     own = λ q some. tenant_replies_sound config.clients (get_or parts k d).tenant q replies (subst (λ (m : Replies). IsSome (finite.get m q)) (keeps k d lt) some);
   }
 
-  pub is_encoded : (bytes r1 r2 r3 : List ℕ) → bytes ≡ (1 ∷ [] ++ u64_bytes n) ++ r1 → r1 ≡ encoded_replies replies ++ r2 → r2 ≡ (u32_bytes (length parts) ++ flat_map encoded_tenant parts) ++ r3 → r3 ≡ []
-      → Encodes config bytes (record { config = config; number = n; tenants = parts })
+  told_part : (k : ℕ) (d : TenantState) → k < length parts → IsToldIn version (get_or parts k d)
+  told_part k d lt = λ i c below. ((are.1 k d lt).0.1 i c below).2
+
+  pub is_encoded : (bytes r1 r2 r3 : List ℕ) → bytes ≡ (version_number version ∷ [] ++ u64_bytes n) ++ r1 → r1 ≡ encoded_replies replies ++ r2 → r2 ≡ (u32_bytes (length parts) ++ flat_map (encoded_tenant version) parts) ++ r3 → r3 ≡ []
+      → EncodesIn version config bytes (record { config = config; number = n; tenants = parts })
   is_encoded bytes r1 r2 r3 e1 e2 e3 e4 = record {
     config_is = refl;
-    encodes = regrouped (1 ∷ []) (u64_bytes n) (encoded_replies (last_replies_of state)) (u32_bytes (length parts)) (flat_map encoded_tenant parts)
-        ∙ ap (λ (rs : List Reply). (1 ∷ [] ++ u64_bytes n) ++ (encoded_replies rs ++ rest_of parts)) same_last
-        ∙ sym (e1 ∙ ap (λ (r : List ℕ). (1 ∷ [] ++ u64_bytes n) ++ r) (e2 ∙ ap (λ (r : List ℕ). encoded_replies replies ++ r) (e3 ∙ ap (λ (r : List ℕ). rest_of parts ++ r) e4 ∙ append-nil (rest_of parts))));
+    encodes = regrouped (version_number version ∷ []) (u64_bytes n) (encoded_replies (last_replies_of state)) (u32_bytes (length parts)) (flat_map (encoded_tenant version) parts)
+        ∙ ap (λ (rs : List Reply). (version_number version ∷ [] ++ u64_bytes n) ++ (encoded_replies rs ++ rest_of version parts)) same_last
+        ∙ sym (e1 ∙ ap (λ (r : List ℕ). (version_number version ∷ [] ++ u64_bytes n) ++ r) (e2 ∙ ap (λ (r : List ℕ). encoded_replies replies ++ r) (e3 ∙ ap (λ (r : List ℕ). rest_of version parts ++ r) e4 ∙ append-nil (rest_of version parts))));
     bounded = record { is_configuration = legal; number_in_range = below; same_tenants = are.0; tenants_in_range = bounded_part };
     sound = sound_part;
+    told = told_part;
   }
 
 -- ---- no state
 
--- what a state's bytes begin with
-pub behind_head : (config : Configuration) (bytes : List ℕ) (s : Service) → Encodes config bytes s → bytes ≡ (1 ∷ [] ++ u64_bytes s.number) ++ (encoded_replies (last_replies_of s) ++ (u32_bytes (length s.tenants) ++ flat_map encoded_tenant s.tenants))
-behind_head config bytes s is = sym is.encodes ∙ regrouped (1 ∷ []) (u64_bytes s.number) (encoded_replies (last_replies_of s)) (u32_bytes (length s.tenants)) (flat_map encoded_tenant s.tenants)
+-- bytes that encode a state encode it in the version that was read
+pub in_version : (version : Version) (config : Configuration) (bytes : List ℕ) (s : Service) (rest : List ℕ) → bytes ≡ version_number version ∷ rest → Decodes config bytes s → EncodesIn version config bytes s
+in_version version config bytes s rest e (v, is) =
+    let begun = begins_with v s in
+    subst (λ (w : Version). EncodesIn w config bytes s) (one_version v version begun.0 rest (sym begun.1 ∙ is.encodes ∙ e)) is
 
-pub begins_head : (config : Configuration) (bytes : List ℕ) (s : Service) → Encodes config bytes s → Begins (λ n. 1 ∷ [] ++ u64_bytes n) (λ n. n < 2 ^ 48) bytes
-begins_head config bytes s is = (s.number, encoded_replies (last_replies_of s) ++ (u32_bytes (length s.tenants) ++ flat_map encoded_tenant s.tenants), is.bounded.number_in_range, behind_head config bytes s is)
+-- what a state's bytes begin with
+pub behind_head : (version : Version) (config : Configuration) (bytes : List ℕ) (s : Service) → EncodesIn version config bytes s → bytes ≡ (version_number version ∷ [] ++ u64_bytes s.number) ++ (encoded_replies (last_replies_of s) ++ (u32_bytes (length s.tenants) ++ flat_map (encoded_tenant version) s.tenants))
+behind_head version config bytes s is = sym is.encodes ∙ regrouped (version_number version ∷ []) (u64_bytes s.number) (encoded_replies (last_replies_of s)) (u32_bytes (length s.tenants)) (flat_map (encoded_tenant version) s.tenants)
+
+pub begins_head : (config : Configuration) (bytes : List ℕ) (s : Service) → Decodes config bytes s → Begins encoded_head (λ head. head.1 < 2 ^ 48) bytes
+begins_head config bytes s (version, is) =
+    ((version, s.number), encoded_replies (last_replies_of s) ++ (u32_bytes (length s.tenants) ++ flat_map (encoded_tenant version) s.tenants), is.bounded.number_in_range, behind_head version config bytes s is)
 
 -- the number, and what is behind it
-number_determined : (config : Configuration) (bytes : List ℕ) (s : Service) → Encodes config bytes s → (n : ℕ) (r1 : List ℕ) → n < 2 ^ 48 → bytes ≡ (1 ∷ [] ++ u64_bytes n) ++ r1
-    → (n ≡ s.number) × (r1 ≡ encoded_replies (last_replies_of s) ++ (u32_bytes (length s.tenants) ++ flat_map encoded_tenant s.tenants))
-number_determined config bytes s is n r1 below e =
-    let last = encoded_replies (last_replies_of s) ++ (u32_bytes (length s.tenants) ++ flat_map encoded_tenant s.tenants) in
-    let version = same_length (1 ∷ []) (1 ∷ []) (u64_bytes n ++ r1) (u64_bytes s.number ++ last) refl
-    (sym (append_assoc (1 ∷ []) (u64_bytes n) r1) ∙ sym e ∙ behind_head config bytes s is ∙ append_assoc (1 ∷ []) (u64_bytes s.number) last) in
+number_determined : (version : Version) (config : Configuration) (bytes : List ℕ) (s : Service) → EncodesIn version config bytes s → (n : ℕ) (r1 : List ℕ) → n < 2 ^ 48 → bytes ≡ (version_number version ∷ [] ++ u64_bytes n) ++ r1
+    → (n ≡ s.number) × (r1 ≡ encoded_replies (last_replies_of s) ++ (u32_bytes (length s.tenants) ++ flat_map (encoded_tenant version) s.tenants))
+number_determined version config bytes s is n r1 below e =
+    let last = encoded_replies (last_replies_of s) ++ (u32_bytes (length s.tenants) ++ flat_map (encoded_tenant version) s.tenants) in
+    let version = same_length (version_number version ∷ []) (version_number version ∷ []) (u64_bytes n ++ r1) (u64_bytes s.number ++ last) refl
+    (sym (append_assoc (version_number version ∷ []) (u64_bytes n) r1) ∙ sym e ∙ behind_head version config bytes s is ∙ append_assoc (version_number version ∷ []) (u64_bytes s.number) last) in
     free_eight n s.number r1 last (omega (arith, below)) (omega (arith, is.bounded.number_in_range)) version.1
 
-fit_replies : (config : Configuration) (bytes : List ℕ) (s : Service) → Encodes config bytes s → (n : ℕ) → n ≡ s.number → AreLastReplies config.clients n (last_replies_of s)
-fit_replies config bytes s is n same =
+fit_replies : (version : Version) (config : Configuration) (bytes : List ℕ) (s : Service) → EncodesIn version config bytes s → (n : ℕ) → n ≡ s.number → AreLastReplies config.clients n (last_replies_of s)
+fit_replies version config bytes s is n same =
     subst (λ (k : ℕ). AreLastReplies config.clients k (last_replies_of s)) (sym same) (subst (λ (c : Configuration). AreLastReplies c.clients s.number (last_replies_of s)) is.config_is (last_replies_fit s is.bounded))
 
-pub begins_replies : (config : Configuration) (bytes : List ℕ) (s : Service) → Encodes config bytes s → (n : ℕ) (r1 : List ℕ) → n < 2 ^ 48 → bytes ≡ (1 ∷ [] ++ u64_bytes n) ++ r1 → Begins encoded_replies (AreLastReplies config.clients n) r1
-begins_replies config bytes s is n r1 below e =
-    let determined = number_determined config bytes s is n r1 below e in
-    (last_replies_of s, u32_bytes (length s.tenants) ++ flat_map encoded_tenant s.tenants, fit_replies config bytes s is n determined.0, determined.1)
+pub begins_replies : (version : Version) (config : Configuration) (bytes : List ℕ) (s : Service) → EncodesIn version config bytes s → (n : ℕ) (r1 : List ℕ) → n < 2 ^ 48 → bytes ≡ (version_number version ∷ [] ++ u64_bytes n) ++ r1 → Begins encoded_replies (AreLastReplies config.clients n) r1
+begins_replies version config bytes s is n r1 below e =
+    let determined = number_determined version config bytes s is n r1 below e in
+    (last_replies_of s, u32_bytes (length s.tenants) ++ flat_map (encoded_tenant version) s.tenants, fit_replies version config bytes s is n determined.0, determined.1)
 
 -- the replies, and what is behind them
-replies_determined : (config : Configuration) (bytes : List ℕ) (s : Service) → Encodes config bytes s → (n : ℕ) (replies : List Reply) (r1 r2 : List ℕ) → n < 2 ^ 48 → bytes ≡ (1 ∷ [] ++ u64_bytes n) ++ r1
-    → AreLastReplies config.clients n replies → r1 ≡ encoded_replies replies ++ r2 → r2 ≡ u32_bytes (length s.tenants) ++ flat_map encoded_tenant s.tenants
-replies_determined config bytes s is n replies r1 r2 below e fits text =
-    let determined = number_determined config bytes s is n r1 below e in
-    let mine = fit_replies config bytes s is n determined.0 in
-    (free_list encoded_reply (IsFit n) (free_fit n (omega (arith, below))) replies (last_replies_of s) r2 (u32_bytes (length s.tenants) ++ flat_map encoded_tenant s.tenants)
+replies_determined : (version : Version) (config : Configuration) (bytes : List ℕ) (s : Service) → EncodesIn version config bytes s → (n : ℕ) (replies : List Reply) (r1 r2 : List ℕ) → n < 2 ^ 48 → bytes ≡ (version_number version ∷ [] ++ u64_bytes n) ++ r1
+    → AreLastReplies config.clients n replies → r1 ≡ encoded_replies replies ++ r2 → r2 ≡ u32_bytes (length s.tenants) ++ flat_map (encoded_tenant version) s.tenants
+replies_determined version config bytes s is n replies r1 r2 below e fits text =
+    let determined = number_determined version config bytes s is n r1 below e in
+    let mine = fit_replies version config bytes s is n determined.0 in
+    (free_list encoded_reply (IsFit n) (free_fit n (omega (arith, below))) replies (last_replies_of s) r2 (u32_bytes (length s.tenants) ++ flat_map (encoded_tenant version) s.tenants)
     (omega (arith, fits.0.0), fits.0.1) (omega (arith, mine.0.0), mine.0.1) (sym text ∙ determined.1)).1
 
-parts_of : (config : Configuration) (bytes : List ℕ) (s : Service) → Encodes config bytes s → ArePartsOf (tenants_of config.clients) s.tenants
-parts_of config bytes s is = subst (λ (c : Configuration). ArePartsOf (tenants_of c.clients) s.tenants) is.config_is (
+parts_of : (version : Version) (config : Configuration) (bytes : List ℕ) (s : Service) → EncodesIn version config bytes s → ArePartsOf version (tenants_of config.clients) s.tenants
+parts_of version config bytes s is = subst (λ (c : Configuration). ArePartsOf version (tenants_of c.clients) s.tenants) is.config_is (
   is.bounded.same_tenants,
   λ k d lt. (
-    ((is.bounded.tenants_in_range k d lt).procedures_in_range, λ i c below. ((is.bounded.tenants_in_range k d lt).codes_in_range i c below, (is.sound k d lt).accepted i c below)),
+    ((is.bounded.tenants_in_range k d lt).procedures_in_range, λ i c below. ((is.bounded.tenants_in_range k d lt).codes_in_range i c below, (is.sound k d lt).accepted i c below, is.told k d lt i c below)),
     (is.bounded.tenants_in_range k d lt).entries_in_range,
   ),
 )
 
-pub begins_parts : (config : Configuration) (bytes : List ℕ) (s : Service) → Encodes config bytes s → (n : ℕ) (replies : List Reply) (r1 r2 : List ℕ) → n < 2 ^ 48 → bytes ≡ (1 ∷ [] ++ u64_bytes n) ++ r1
-    → AreLastReplies config.clients n replies → r1 ≡ encoded_replies replies ++ r2 → Begins (λ parts. u32_bytes (length parts) ++ flat_map encoded_tenant parts) (ArePartsOf (tenants_of config.clients)) r2
-begins_parts config bytes s is n replies r1 r2 below e fits text =
-    (s.tenants, [], parts_of config bytes s is, replies_determined config bytes s is n replies r1 r2 below e fits text ∙ sym (append-nil (u32_bytes (length s.tenants) ++ flat_map encoded_tenant s.tenants)))
+pub begins_parts : (version : Version) (config : Configuration) (bytes : List ℕ) (s : Service) → EncodesIn version config bytes s → (n : ℕ) (replies : List Reply) (r1 r2 : List ℕ) → n < 2 ^ 48 → bytes ≡ (version_number version ∷ [] ++ u64_bytes n) ++ r1
+    → AreLastReplies config.clients n replies → r1 ≡ encoded_replies replies ++ r2 → Begins (λ parts. u32_bytes (length parts) ++ flat_map (encoded_tenant version) parts) (ArePartsOf version (tenants_of config.clients)) r2
+begins_parts version config bytes s is n replies r1 r2 below e fits text =
+    (s.tenants, [], parts_of version config bytes s is, replies_determined version config bytes s is n replies r1 r2 below e fits text ∙ sym (append-nil (u32_bytes (length s.tenants) ++ flat_map (encoded_tenant version) s.tenants)))
 
 -- nothing is behind the parts
-pub ends : (config : Configuration) (bytes : List ℕ) (s : Service) → Encodes config bytes s → (n : ℕ) (replies : List Reply) (parts : List TenantState) (r1 r2 r3 : List ℕ) → n < 2 ^ 48 → bytes ≡ (1 ∷ [] ++ u64_bytes n) ++ r1
-    → AreLastReplies config.clients n replies → r1 ≡ encoded_replies replies ++ r2 → ArePartsOf (tenants_of config.clients) parts → r2 ≡ (u32_bytes (length parts) ++ flat_map encoded_tenant parts) ++ r3 → r3 ≡ []
-ends config bytes s is n replies parts r1 r2 r3 below e fits text are here =
-    let mine = parts_of config bytes s is in
-    let determined = replies_determined config bytes s is n replies r1 r2 below e fits text in
-    let behind = same_length (u32_bytes (length parts)) (u32_bytes (length s.tenants)) (flat_map encoded_tenant parts ++ r3) (flat_map encoded_tenant s.tenants) (four_long (length parts) (length s.tenants))
-    (sym (append_assoc (u32_bytes (length parts)) (flat_map encoded_tenant parts) r3) ∙ sym here ∙ determined) in
-    free_parts parts s.tenants r3 [] (are.0 ∙ sym mine.0) are.1 mine.1 (behind.1 ∙ sym (append-nil (flat_map encoded_tenant s.tenants)))
+pub ends : (version : Version) (config : Configuration) (bytes : List ℕ) (s : Service) → EncodesIn version config bytes s → (n : ℕ) (replies : List Reply) (parts : List TenantState) (r1 r2 r3 : List ℕ) → n < 2 ^ 48 → bytes ≡ (version_number version ∷ [] ++ u64_bytes n) ++ r1
+    → AreLastReplies config.clients n replies → r1 ≡ encoded_replies replies ++ r2 → ArePartsOf version (tenants_of config.clients) parts → r2 ≡ (u32_bytes (length parts) ++ flat_map (encoded_tenant version) parts) ++ r3 → r3 ≡ []
+ends version config bytes s is n replies parts r1 r2 r3 below e fits text are here =
+    let mine = parts_of version config bytes s is in
+    let determined = replies_determined version config bytes s is n replies r1 r2 below e fits text in
+    let behind = same_length (u32_bytes (length parts)) (u32_bytes (length s.tenants)) (flat_map (encoded_tenant version) parts ++ r3) (flat_map (encoded_tenant version) s.tenants) (four_long (length parts) (length s.tenants))
+    (sym (append_assoc (u32_bytes (length parts)) (flat_map (encoded_tenant version) parts) r3) ∙ sym here ∙ determined) in
+    free_parts version parts s.tenants r3 [] (are.0 ∙ sym mine.0) are.1 mine.1 (behind.1 ∙ sym (append-nil (flat_map (encoded_tenant version) s.tenants)))

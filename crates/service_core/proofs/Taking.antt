@@ -10,13 +10,13 @@ use Rattle.host_types.specs.Configuration.{Configuration, entry_of}
 use Rattle.tenant_maps.specs.Entries.{Entries}
 use Rattle.service_model.specs.declared.outcome.Outcome.{Outcome}
 use Rattle.service_model.specs.Operations.{Operation, operation_of, Does}
-use Rattle.service_model.specs.TenantStates.{Replies, TenantState, Service, with_tenant}
+use Rattle.service_model.specs.TenantStates.{Procedure, Replies, TenantState, Service, with_tenant}
 use Rattle.service_model.specs.Steps.{reply_to, Executes, IsTenantStep, TakesRequest}
 use Rattle.service_model.proofs.Found.{with_tenant_at}
 use Rattle.service_model.proofs.TenantIndexes.{index_for, tenant_for_index}
 use Rattle.service_model.proofs.Matches.{match_true, match_false, match_none, match_some}
 
-pub executed : (number tenant : ℕ) (procedures procedures' : List (List ℕ)) (entries entries' : Entries) (replies replies' : Replies) (request : Request) (op : Operation) (result bytes : List ℕ) (copy : Reply)
+pub executed : (number tenant : ℕ) (procedures procedures' : List Procedure) (entries entries' : Entries) (replies replies' : Replies) (request : Request) (op : Operation) (result bytes : List ℕ) (copy : Reply)
     → op ≡ operation_of request.op → bytes ≡ result → Does request.client.0 op procedures entries procedures' entries' result
     → replies' ≡ finite.insert replies request.client.0 (reply_to request number bytes) → copy ≡ reply_to request number bytes
     → Executes number (record { tenant = tenant; procedures = procedures; entries = entries; last_replies = replies }) request

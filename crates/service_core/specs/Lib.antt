@@ -1,3 +1,4 @@
+pub mod Procedures
 pub mod ReadOperations
 pub mod Sinks
 pub mod StateFaults

@@ -8,7 +8,7 @@ use Rattle.service_model.specs.Operations.{Operation, Install, Call, Bad}
 
 -- the operation that was read
 abbrev pub meaning_of : Read → Operation
-meaning_of (ReadInstall code) = Install code.now
+meaning_of (ReadInstall profile code) = Install profile code.now
 meaning_of (ReadCall procedure arguments) = Call procedure arguments.now
 meaning_of ReadBad = Bad
 

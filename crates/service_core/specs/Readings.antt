@@ -13,10 +13,12 @@ use Rattle.host_types.specs.Configuration.{entry_of, client_ids_of}
 use Rattle.tenant_maps.specs.Entries.{Entries}
 use Rattle.service_core.specs.declared.state_fault.StateFault.{StateFault}
 use Rattle.service_core.specs.declared.state_fault.StateFault.TheVariants.{BadState, Memory}
-use Rattle.service_model.specs.Words.{u32_bytes}
-use Rattle.service_model.specs.TenantStates.{TenantState, replies_of}
+use Rattle.service_model.specs.declared.version.Version.{Version}
+use Rattle.service_model.specs.Words.{u32_bytes, u64_bytes}
+use Rattle.service_model.specs.Versions.{version_number, IsTold}
+use Rattle.service_model.specs.TenantStates.{Procedure, TenantState, replies_of}
 use Rattle.service_model.specs.Encoding.{encoded_procedures, encoded_entries}
-use Rattle.service_model.specs.Sound.{IsAcceptedCode}
+use Rattle.service_model.specs.Sound.{IsAcceptedProcedure}
 use Rattle.service_model.specs.Bounded.{IsSizedMap, IsBoundedReply}
 
 -- The bytes begin with the encoding of a value that fits.
@@ -32,6 +34,10 @@ Fails encoding WellFormed bytes Memory = Unit {0}
 abbrev pub Reads : {R A : Type 0} → (R → A × List ℕ) → (A → List ℕ) → (A → Type 0) → List ℕ → Result R StateFault → Type 0
 Reads view encoding WellFormed bytes (Ok r) = WellFormed (view r).0 × (bytes ≡ encoding (view r).0 ++ (view r).1)
 Reads view encoding WellFormed bytes (Err fault) = Fails encoding WellFormed bytes fault
+
+-- The version and the number of a state, which its bytes begin with.
+abbrev pub encoded_head : Version × ℕ → List ℕ
+encoded_head head = version_number head.0 ∷ [] ++ u64_bytes head.1
 
 -- Whether replies are to some of these clients, in their order, one each at most.
 abbrev pub in_turn : List ClientId → List Reply → Bool
@@ -62,9 +68,14 @@ reply_to_tenant clients tenant reply = if is_of tenant (entry_of clients reply.c
 abbrev pub replies_to_tenant : List ClientEntry → ℕ → List Reply → List Reply
 replies_to_tenant clients tenant replies = filter_map (reply_to_tenant clients tenant) replies
 
--- Procedures that the verifier accepts, at most 64.
-abbrev pub AreProcedures : List (List ℕ) → Type 0
-AreProcedures codes = (length codes ≤ 64) × All (λ code. (length code ≤ 8192) × IsAcceptedCode code) codes
+-- A procedure that the verifier accepts under its profile, which the version tells.
+abbrev pub IsProcedureIn : Version → Procedure → Type 0
+IsProcedureIn version procedure =
+    (length procedure.code ≤ 8192) × IsAcceptedProcedure procedure × IsTold version procedure.profile
+
+-- At most 64 such procedures.
+abbrev pub AreProcedures : Version → List Procedure → Type 0
+AreProcedures version procedures = (length procedures ≤ 64) × All (IsProcedureIn version) procedures
 
 -- A map of so many entries, from keys of 16 bytes to values of 32.
 pub record AreSizedEntries (count : ℕ) (entries : Entries) : Type 0 where
@@ -78,19 +89,19 @@ IsAbove entries key = All (λ other. slice_cmp nat_cmp other key ≡ Less) (fini
 
 -- What the bytes of a tenant say of it besides its id: its procedures and its entries.
 abbrev pub Contents : Type 0
-Contents = List (List ℕ) × Entries
+Contents = List Procedure × Entries
 
-abbrev pub encoded_contents : ℕ → Contents → List ℕ
-encoded_contents tenant contents = u32_bytes tenant ++ encoded_procedures contents.0 ++ encoded_entries contents.1
+abbrev pub encoded_contents : Version → ℕ → Contents → List ℕ
+encoded_contents version tenant contents = u32_bytes tenant ++ encoded_procedures version contents.0 ++ encoded_entries contents.1
 
-abbrev pub AreContents : Contents → Type 0
-AreContents contents = AreProcedures contents.0 × IsSizedMap contents.1
+abbrev pub AreContents : Version → Contents → Type 0
+AreContents version contents = AreProcedures version contents.0 × IsSizedMap contents.1
 
 -- The parts of these tenants, with what their bytes say.
-abbrev pub ArePartsOf : List TenantId → List TenantState → Type 0
-ArePartsOf tenants parts =
+abbrev pub ArePartsOf : Version → List TenantId → List TenantState → Type 0
+ArePartsOf version tenants parts =
     (map (λ part. part.tenant) parts ≡ map (λ tenant. tenant.0) tenants)
-    × All (λ part. AreContents (part.procedures, part.entries)) parts
+    × All (λ part. AreContents version (part.procedures, part.entries)) parts
 
 -- Each has the replies to its clients among these.
 abbrev pub HaveReplies : List ClientEntry → List Reply → List TenantState → Type 0

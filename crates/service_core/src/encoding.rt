@@ -1,9 +1,11 @@
-//! The canonical encoding of a state, piece by piece into a sink.
+//! The canonical encoding of a state, version 2, piece by piece into a sink.
 
 ghost use Rattle.std.specs.Prelude.{◌≡◌, ◌≤◌, ◌<◌, ◌^◌, ◌++◌, ℕ, length, map, OnOk, flat_map, All};
 ghost use Rattle.service_model.specs.Words.{u32_bytes, u64_bytes};
+ghost use Rattle.service_model.specs.declared.version.Version.TheVariants.{Second};
+ghost use Rattle.service_core.specs.Procedures.{procedure_of};
 ghost use Rattle.service_core.specs.Sinks.{Feeds};
-ghost use Rattle.service_model.specs.Encoding.{length_prefixed, encoded_reply, encoded_procedures, encoded_entries, encoded_tenant};
+ghost use Rattle.service_model.specs.Encoding.{length_prefixed, encoded_reply, encoded_procedure, encoded_procedures, encoded_entries, encoded_tenant};
 
 use crate::sink::Sink;
 use crate::tenant_part::TenantPart;
@@ -50,14 +52,22 @@ pub(crate) fn put_reply<S: Sink>(sink: &mut S, reply: &Reply) -> Result<(), S::F
     put_length_prefixed(sink, reply.result.as_slice())
 }
 
+/// A procedure: its profile and its code.
+fn put_procedure<S: Sink>(sink: &mut S, procedure: &Procedure) -> Result<(), S::Fault>
+    ensures { OnOk result (Feeds S.holds sink.old sink.new (encoded_procedure Second (procedure_of procedure.now))) }
+{
+    sink.emit(&[procedure.profile()])?;
+    put_length_prefixed(sink, procedure.code())
+}
+
 /// A tenant's procedures.
 fn put_procedures<S: Sink>(sink: &mut S, procedures: &[Procedure]) -> Result<(), S::Fault>
     requires { length procedures.now ≤ 64 }
-    ensures { OnOk result (Feeds S.holds sink.old sink.new (encoded_procedures (map (λ p. p.bytes) procedures.now))) }
+    ensures { OnOk result (Feeds S.holds sink.old sink.new (encoded_procedures Second (map procedure_of procedures.now))) }
 {
     put_u32(sink, procedures.len() as u32)?;
     for procedure in procedures {
-        put_length_prefixed(sink, procedure.code())?;
+        put_procedure(sink, procedure)?;
     }
     Ok(())
 }
@@ -92,7 +102,7 @@ fn entry_bytes(key: &[u8; 16], value: &[u8; 32]) -> [u8; 48]
 
 /// A tenant's part without its clients' replies.
 pub(crate) fn put_tenant<S: Sink>(sink: &mut S, part: &TenantPart) -> Result<(), S::Fault>
-    ensures { OnOk result (Feeds S.holds sink.old sink.new (encoded_tenant part.now)) }
+    ensures { OnOk result (Feeds S.holds sink.old sink.new (encoded_tenant Second part.now)) }
 {
     put_u32(sink, part.tenant.0)?;
     put_procedures(sink, &part.procedures)?;

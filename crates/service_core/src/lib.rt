@@ -13,9 +13,10 @@ mod tenant_part;
 mod tenant_reader;
 
 pub use service_model::{
-    Outcome, a_step_exists, a_step_has_one_outcome, equal_bytes_are_equal_states,
-    installed_procedures_cannot_go_wrong, maps_stay_maps, requests_have_one_outcome,
-    states_are_bounded, states_are_sound,
+    Outcome, a_request_is_its_tenants, a_step_exists, a_step_has_one_outcome,
+    equal_bytes_are_equal_states, installed_procedures_cannot_go_wrong, maps_stay_maps,
+    requests_have_one_outcome, states_are_bounded, states_are_sound,
 };
 pub use state::State;
 pub use state_fault::StateFault;
+pub use tenant_part::TenantPart;

@@ -1,14 +1,18 @@
 //! What a client asks for: to install code, or to call a procedure; and doing it.
 
-ghost use Rattle.std.specs.Prelude.{◌≡◌, ◌≤◌, [], ◌∷◌, map, length, IfOk};
+ghost use Rattle.std.specs.Prelude.{◌≡◌, ◌≤◌, ℕ, [], ◌∷◌, map, length, IfOk, MatchResult};
+ghost use Rattle.bpf_model.specs.Verdict.{AcceptsUnder};
+ghost use Rattle.bpf_model.specs.declared.fault.VerifyFault.TheVariants.{Memory};
 ghost use Rattle.service_model.specs.Operations.{Installs, Calls, Does, operation_of, installed, called};
+ghost use Rattle.service_core.specs.Procedures.{procedure_of};
 ghost use Rattle.service_core.specs.ReadOperations.{meaning_of, result_byte};
 
 use bpf_machine::{Finished, run};
+use bpf_model::Profile;
 use bpf_model::layout::ARGUMENTS_SIZE;
-use bpf_verifier::{Procedure, VerifyFault, verify};
+use bpf_verifier::{Procedure, Refusal, VerifyFault, verify, verify2};
 use host_types::ClientId;
-use host_types::operation::{CALL, INSTALL};
+use host_types::operation::{CALL, INSTALL, INSTALL2};
 use std::alloc::{AllocError, Global};
 use tenant_maps::TenantMap;
 
@@ -18,8 +22,8 @@ pub(crate) const MAX_PROCEDURES: usize = 64;
 /// What a client asks for.
 #[derive(Clone, Copy)]
 pub(crate) enum Operation<'a> {
-    /// To install this code.
-    Install(&'a [u8]),
+    /// To install this code under this profile.
+    Install(Profile, &'a [u8]),
     /// To call the procedure of this id with these arguments.
     Call(u32, &'a [u8]),
     /// Nothing that this service knows.
@@ -35,7 +39,10 @@ impl<'a> Operation<'a> {
             return Operation::Bad;
         };
         if *kind == INSTALL {
-            return Operation::Install(rest);
+            return Operation::Install(Profile::One, rest);
+        }
+        if *kind == INSTALL2 {
+            return Operation::Install(Profile::Two, rest);
         }
         if *kind == CALL && rest.len() >= 4 {
             let procedure = u32::from_be_bytes([rest[0], rest[1], rest[2], rest[3]]);
@@ -64,12 +71,12 @@ pub(crate) fn perform(
     client: ClientId,
     operation: Operation<'_>,
 ) -> Result<Vec<u8>, AllocError>
-    ensures does { IfOk result (λ bytes. Does client.0 (meaning_of operation.entry) (map (λ p. p.bytes) procedures.old.items) entries.old.entries (map (λ p. p.bytes) procedures.new.items) entries.new.entries bytes.items) }
+    ensures does { IfOk result (λ bytes. Does client.0 (meaning_of operation.entry) (map procedure_of procedures.old.items) entries.old.entries (map procedure_of procedures.new.items) entries.new.entries bytes.items) }
     ensures few { length procedures.old.items ≤ 64 → length procedures.new.items ≤ 64 }
     ensures short { IfOk result (λ bytes. length bytes.items ≤ 265) }
 {
     match operation {
-        Operation::Install(code) => install(alloc, procedures, code),
+        Operation::Install(profile, code) => install(alloc, procedures, profile, code),
         Operation::Call(procedure, arguments) => call(
             alloc, procedures, entries, client, procedure, arguments,
         ),
@@ -83,13 +90,31 @@ fn code_alone(alloc: Global, code: ResultCode) -> Result<Vec<u8>, AllocError>
 {
     [code as u8].to_vec(alloc)
 }
-/// Installs code that the verifier accepts as the tenant's next procedure.
+
+/// Verifies code under a profile.
+pub(crate) fn verify_under(
+    alloc: Global,
+    profile: Profile,
+    code: &[u8],
+) -> Result<Procedure, Refusal>
+    ensures accepted { IfOk result (λ p. (procedure_of p ≡ record { profile = profile; code = code.now }) × AcceptsUnder profile code.now p.bound) }
+    ensures only { (bound : ℕ) → AcceptsUnder profile code.now bound →
+        MatchResult result (λ p. p.bound ≡ bound) (λ refusal. refusal.fault ≡ Memory) }
+{
+    match profile {
+        Profile::One => verify(alloc, code),
+        Profile::Two => verify2(alloc, code),
+    }
+}
+
+/// Installs code that the profile accepts as the tenant's next procedure.
 fn install(
     alloc: Global,
     procedures: &mut Vec<Procedure>,
+    profile: Profile,
     code: &[u8],
 ) -> Result<Vec<u8>, AllocError>
-    ensures installs { IfOk result (λ bytes. Installs (map (λ p. p.bytes) procedures.old.items) code.now (map (λ p. p.bytes) procedures.new.items) bytes.items) }
+    ensures installs { IfOk result (λ bytes. Installs (map procedure_of procedures.old.items) (record { profile = profile; code = code.now }) (map procedure_of procedures.new.items) bytes.items) }
     ensures few { length procedures.old.items ≤ 64 → length procedures.new.items ≤ 64 }
     ensures short { IfOk result (λ bytes. length bytes.items ≤ 265) }
 {
@@ -97,7 +122,7 @@ fn install(
     if id >= MAX_PROCEDURES {
         return code_alone(alloc, ResultCode::TooManyProcedures);
     }
-    match verify(alloc, code) {
+    match verify_under(alloc, profile, code) {
         Ok(procedure) => {
             procedures.push(procedure)?;
             installed(alloc, id as u32)
@@ -129,7 +154,7 @@ fn call(
     id: u32,
     args: &[u8],
 ) -> Result<Vec<u8>, AllocError>
-    ensures calls { IfOk result (λ bytes. Calls client.0 (map (λ p. p.bytes) procedures.now) id args.now entries.old.entries entries.new.entries bytes.items) }
+    ensures calls { IfOk result (λ bytes. Calls client.0 (map procedure_of procedures.now) id args.now entries.old.entries entries.new.entries bytes.items) }
     ensures short { IfOk result (λ bytes. length bytes.items ≤ 265) }
 {
     let id = id as usize;

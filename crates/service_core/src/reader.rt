@@ -5,12 +5,12 @@ ghost use Rattle.host_types.specs.Configuration.{IsConfiguration};
 ghost use Rattle.service_model.specs.Words.{u32_bytes, u64_bytes};
 ghost use Rattle.service_model.specs.Encoding.{length_prefixed, encoded_reply, encoded_replies};
 ghost use Rattle.service_model.specs.Bounded.{IsBoundedReply};
-ghost use Rattle.service_core.specs.Readings.{Reads, in_turn, AreBoundedReplies, AreLastReplies};
+ghost use Rattle.service_core.specs.Readings.{Reads, encoded_head, in_turn, AreBoundedReplies, AreLastReplies};
 
-use crate::state::VERSION;
 use crate::state_fault::StateFault;
 use host_types::limits::{MAX_CLIENTS, SEQUENCE_NUMBER_LIMIT};
 use host_types::{Bytes, ClientId, Config, Reply, SeqNo};
+use service_model::Version;
 use std::alloc::Global;
 
 /// The most last replies: one for each client.
@@ -70,20 +70,20 @@ pub(crate) fn read_length_prefixed(limit: u32, bytes: &[u8]) -> Result<(&[u8], &
 }
 
 /// The version and the state's number.
-pub(crate) fn read_head(bytes: &[u8]) -> Result<(u64, &[u8]), StateFault>
-    ensures { Reads (λ x. (x.0, x.1.now)) (λ n. 1 ∷ [] ++ u64_bytes n) (λ n. n < 2 ^ 48) bytes.now result }
+pub(crate) fn read_head(bytes: &[u8]) -> Result<(Version, u64, &[u8]), StateFault>
+    ensures { Reads (λ x. ((x.0, x.1), x.2.now)) encoded_head (λ head. head.1 < 2 ^ 48) bytes.now result }
 {
-    let Some((version, rest)) = bytes.split_first() else {
+    let Some((first, rest)) = bytes.split_first() else {
         return Err(StateFault::BadState);
     };
-    if *version != VERSION {
+    let Some(version) = Version::of(*first) else {
         return Err(StateFault::BadState);
-    }
+    };
     let (number, rest) = read_u64(rest)?;
     if number >= SEQUENCE_NUMBER_LIMIT {
         return Err(StateFault::BadState);
     }
-    Ok((number, rest))
+    Ok((version, number, rest))
 }
 
 /// A client's last reply, in a state that has taken so many requests.

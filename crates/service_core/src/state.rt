@@ -1,5 +1,7 @@
 //! The state of the service, and what the next request makes of it.
 
+mod parts;
+
 ghost use Rattle.std.specs.Prelude.{◌≡◌, ◌+◌, ◌^◌, ◌<◌, ◌≤◌, ◌++◌, flat_map, IfOk, IfErr, IsSome, is_some, OnOk, OnErr, IfSome, length, map};
 ghost use Rattle.std.specs.List.{filter_map};
 ghost use Rattle.std.specs.Option.{option_copied, option_map};
@@ -7,7 +9,8 @@ ghost use Rattle.std.specs.Arc.{arc_value};
 ghost use Rattle.sha2.specs.Sha256.{sha256};
 ghost use Rattle.host_types.specs.Configuration.{entry_of};
 ghost use Rattle.service_model.specs.Words.{u32_bytes};
-ghost use Rattle.service_model.specs.Decoding.{Encodes};
+ghost use Rattle.service_model.specs.declared.version.Version.TheVariants.{Second};
+ghost use Rattle.service_model.specs.Decoding.{Encodes, Decodes};
 ghost use Rattle.service_core.specs.declared.state_fault.StateFault.TheVariants.{BadState};
 ghost use Rattle.service_model.specs.TenantStates.{Service, genesis_of, tenant_index, client_index, last_reply_of};
 ghost use Rattle.service_model.specs.Steps.{IsStep};
@@ -21,14 +24,11 @@ use crate::state_fault::StateFault;
 use crate::tenant_part::TenantPart;
 use crate::tenant_reader::read_tenants;
 use host_types::{ClientId, Config, Digest, Reply, Request, SeqNo, TenantId};
-use service_model::Outcome;
+use service_model::{Outcome, Version};
 use sha2::Sha256;
 use std::alloc::{AllocError, Global};
 use std::marker::Model;
 use std::sync::Arc;
-
-/// The version of a state's bytes.
-pub(crate) const VERSION: u8 = 1;
 
 /// The state of the service under a configuration: how many requests it has taken, and each tenant's
 /// procedures, map and last replies.
@@ -76,19 +76,19 @@ impl State {
         })
     }
 
-    /// The state whose canonical encoding under the configuration these bytes are: the one that
-    /// `to_bytes` gives them for. `BadState` comes exactly where there is no such state: for another
-    /// version or encoding, a number of 2^48 or more, a reply to a client that is not listed, of a
-    /// number that is 0 or above the state's, or with a result over 265 bytes, tenants other than the
-    /// configuration's, code that the verifier refuses, or a passed limit. `Memory` comes where memory
-    /// ran out. The state takes its memory from `alloc`.
+    /// The state whose encoding under the configuration these bytes are, in version 1 or 2. `BadState`
+    /// comes exactly where there is no such state: for another version or encoding, a number of 2^48 or
+    /// more, a reply to a client that is not listed, of a number that is 0 or above the state's, or with
+    /// a result over 265 bytes, tenants other than the configuration's, a profile that is neither 1 nor
+    /// 2, code that the verifier refuses under its profile (in version 1 under the first), or a passed
+    /// limit. `Memory` comes where memory ran out. The state takes its memory from `alloc`.
     pub fn from_bytes(alloc: Global, config: Arc<Config>, bytes: &[u8]) -> Result<State, StateFault>
-        ensures state { IfOk result (λ state. Encodes (arc_value config) bytes.now state) }
-        ensures none { IfErr result (λ fault. fault ≡ BadState → (state : Service) → Encodes (arc_value config) bytes.now state → ⊥) }
+        ensures state { IfOk result (λ state. Decodes (arc_value config) bytes.now state) }
+        ensures none { IfErr result (λ fault. fault ≡ BadState → (state : Service) → Decodes (arc_value config) bytes.now state → ⊥) }
     {
-        let (number, rest) = read_head(bytes)?;
+        let (version, number, rest) = read_head(bytes)?;
         let (replies, rest) = read_replies(alloc, &config, number, rest)?;
-        let (tenants, rest) = read_tenants(alloc, &config, &replies, rest)?;
+        let (tenants, rest) = read_tenants(alloc, version, &config, &replies, rest)?;
         if !rest.is_empty() {
             return Err(StateFault::BadState);
         }
@@ -98,6 +98,24 @@ impl State {
             number,
             tenants,
         })
+    }
+
+    /// The state whose canonical encoding under the configuration these bytes are: the one that
+    /// `to_bytes` gives them for. `BadState` comes exactly where there is no such state: where
+    /// `from_bytes` gives it, and for version 1. `Memory` comes where memory ran out. The state takes
+    /// its memory from `alloc`.
+    pub fn from_canonical(
+        alloc: Global,
+        config: Arc<Config>,
+        bytes: &[u8],
+    ) -> Result<State, StateFault>
+        ensures state { IfOk result (λ state. Encodes (arc_value config) bytes.now state) }
+        ensures none { IfErr result (λ fault. fault ≡ BadState → (state : Service) → Encodes (arc_value config) bytes.now state → ⊥) }
+    {
+        if bytes.first().copied() != Some(Version::Second.number()) {
+            return Err(StateFault::BadState);
+        }
+        State::from_bytes(alloc, config, bytes)
     }
 
     /// Takes the next request, or the null request, which raises the number and does nothing else. The
@@ -127,8 +145,8 @@ impl State {
         Ok(outcome)
     }
 
-    /// The index of the client's tenant.
-    fn client_index(&self, client: ClientId) -> Option<usize>
+    /// The index of the client's tenant among the state's parts, or none where the client isn't listed.
+    pub fn client_index(&self, client: ClientId) -> Option<usize>
         ensures { result ≡ client_index self.now client.0 }
     {
         match self.config.client(client) {
@@ -172,7 +190,7 @@ impl State {
         }
     }
 
-    /// The canonical encoding of the state, version 1. Its memory is from the state's allocator.
+    /// The canonical encoding of the state, version 2. Its memory is from the state's allocator.
     pub fn to_bytes(&self) -> Result<Vec<u8>, AllocError>
         ensures { IfOk result (λ bytes. bytes.items ≡ encoded self.now) }
     {
@@ -196,7 +214,7 @@ impl State {
     fn put<S: Sink>(&self, sink: &mut S) -> Result<(), S::Fault>
         ensures { OnOk result (Feeds S.holds sink.old sink.new (encoded self.now)) }
     {
-        sink.emit(&[VERSION])?;
+        sink.emit(&[Version::Second.number()])?;
         put_u64(sink, self.number)?;
         let all = self.config.client_ids();
         let ids = all.as_slice();
@@ -242,7 +260,7 @@ fn tenant_index(tenants: &[TenantPart], tenant: TenantId) -> Option<usize>
 /// Puts the tenants' parts into a sink, after their count.
 fn put_tenants<S: Sink>(sink: &mut S, tenants: &[TenantPart]) -> Result<(), S::Fault>
     requires { length tenants.now ≤ 8 }
-    ensures { OnOk result (Feeds S.holds sink.old sink.new (u32_bytes (length tenants.now) ++ flat_map encoded_tenant tenants.now)) }
+    ensures { OnOk result (Feeds S.holds sink.old sink.new (u32_bytes (length tenants.now) ++ flat_map (encoded_tenant Second) tenants.now)) }
 {
     put_u32(sink, tenants.len() as u32)?;
     for tenant in tenants {

@@ -5,6 +5,7 @@ ghost use Rattle.std.specs.Option.{option_copied};
 ghost use Rattle.std.specs.FinMap as finite;
 ghost use Rattle.service_model.specs.TenantStates.{replies_of, empty_tenant};
 ghost use Rattle.service_model.specs.Steps.{Executes, IsTenantStep};
+ghost use Rattle.service_core.specs.Procedures.{procedure_of};
 
 use crate::operation::{Operation, perform};
 use bpf_verifier::Procedure;
@@ -16,7 +17,7 @@ use tenant_maps::TenantMap;
 
 /// A tenant's part of the state: its procedures, its map and the last replies to its clients.
 #[derive(Drop)]
-pub(crate) struct TenantPart {
+pub struct TenantPart {
     alloc: Global,
     pub(crate) tenant: TenantId,
     pub(crate) procedures: Vec<Procedure>,
@@ -28,12 +29,13 @@ impl Model for TenantPart {
     ghost use Rattle.std.specs.Prelude.{◌≤◌, map, length, All};
     ghost use Rattle.service_model.specs.TenantStates.{TenantState, replies_of};
     ghost use Rattle.service_model.specs.Equality.{tenant_code};
+    ghost use Rattle.service_core.specs.Procedures.{procedure_of};
 
     ghost Value = { TenantState };
 
     ghost coded = { tenant_code };
 
-    ghost view = { λ p. record { tenant = p.tenant.0; procedures = map (λ q. q.bytes) p.procedures.items; entries = p.entries.entries; last_replies = replies_of p.last_replies.items } };
+    ghost view = { λ p. record { tenant = p.tenant.0; procedures = map procedure_of p.procedures.items; entries = p.entries.entries; last_replies = replies_of p.last_replies.items } };
 
     ghost invariant = { λ p. (length p.procedures.items ≤ 64) × All (λ reply. length reply.result ≤ 265) p.last_replies.items };
 }
@@ -63,7 +65,7 @@ impl TenantPart {
         requires procedures { length procedures.items ≤ 64 }
         requires replies { All (λ reply. length reply.result ≤ 265) last_replies.items }
         ensures tenant { result.tenant ≡ tenant.0 }
-        ensures procedures { result.procedures ≡ map (λ p. p.bytes) procedures.items }
+        ensures procedures { result.procedures ≡ map procedure_of procedures.items }
         ensures entries { result.entries ≡ entries.entries }
         ensures replies { result.last_replies ≡ replies_of last_replies.items }
     {
@@ -76,6 +78,13 @@ impl TenantPart {
         }
     }
 
+    /// The tenant whose part it is.
+    pub fn tenant(&self) -> TenantId
+        ensures { result.0 ≡ self.now.tenant }
+    {
+        self.tenant
+    }
+
     /// The last reply to a client.
     pub(crate) fn last_reply(&self, client: ClientId) -> Option<&Reply>
         ensures value { option_copied result ≡ finite.get self.now.last_replies client.0 }
@@ -84,12 +93,10 @@ impl TenantPart {
         find_reply(&self.last_replies, client)
     }
 
-    /// Takes a request of one of the tenant's clients as this number.
-    pub(crate) fn apply_at(
-        &mut self,
-        number: SeqNo,
-        request: &Request,
-    ) -> Result<Outcome, AllocError>
+    /// Takes a request of one of the tenant's clients as this number: what a state's `apply` does to the part, and
+    /// what it answers. When it runs out of memory the part is unusable: it has its tenant, and nothing else is
+    /// promised of it.
+    pub fn apply_at(&mut self, number: SeqNo, request: &Request) -> Result<Outcome, AllocError>
         ensures step { IfOk result (λ outcome. IsTenantStep number.0 self.old request.now self.new outcome.reply outcome.kept × (outcome.number ≡ number)) }
         ensures tenant { self.new.tenant ≡ self.old.tenant }
     {

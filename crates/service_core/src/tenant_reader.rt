@@ -1,36 +1,68 @@
 //! Reading the tenants' parts of a state: each gives its value and the bytes behind it.
 
 ghost use Rattle.std.specs.Prelude.{◌≡◌, ◌≢◌, ◌≤◌, ◌++◌, ℕ, List, length, flat_map, map, All, IfOk, MatchBool};
+ghost use Rattle.service_model.specs.declared.version.Version.TheVariants.{Second};
 ghost use Rattle.std.specs.FinMap as finite;
 ghost use Rattle.bpf_model.specs.declared.fault.VerifyFault.TheVariants as faults;
 ghost use Rattle.service_core.specs.declared.state_fault.StateFault.TheVariants.{BadState, Memory};
 ghost use Rattle.service_model.specs.Words.{u32_bytes};
 ghost use Rattle.host_types.specs.Configuration.{tenants_of, entry_of};
 ghost use Rattle.service_model.specs.TenantStates.{replies_of};
-ghost use Rattle.service_model.specs.Encoding.{length_prefixed, encoded_procedures, encoded_entries, encoded_tenant};
-ghost use Rattle.service_model.specs.Sound.{IsAcceptedCode};
+ghost use Rattle.service_model.specs.Encoding.{encoded_procedure, encoded_procedures, encoded_entries, encoded_tenant};
+ghost use Rattle.service_model.specs.Versions.{encoded_profile, IsTold};
 ghost use Rattle.service_model.specs.Bounded.{IsSizedMap};
-ghost use Rattle.service_core.specs.Readings.{Reads, AreProcedures, AreContents, encoded_contents, ArePartsOf, HaveReplies, AreSizedEntries, IsAbove, is_of, replies_to_tenant};
+ghost use Rattle.service_core.specs.Procedures.{procedure_of};
+ghost use Rattle.service_core.specs.Readings.{Reads, IsProcedureIn, AreProcedures, AreContents, encoded_contents, ArePartsOf, HaveReplies, AreSizedEntries, IsAbove, is_of, replies_to_tenant};
 
-use crate::operation::MAX_PROCEDURES;
+use crate::operation::{MAX_PROCEDURES, verify_under};
 use crate::reader::{read_count, read_length_prefixed, read_u32};
 use crate::state_fault::StateFault;
 use crate::tenant_part::{TenantPart, copy_of};
 use bpf_decode::{MAX_SLOTS, SLOT_SIZE};
-use bpf_verifier::{Procedure, VerifyFault, verify};
+use bpf_model::Profile;
+use bpf_verifier::{Procedure, VerifyFault};
 use host_types::{ClientId, Config, Reply, TenantId};
+use service_model::Version;
 use std::alloc::{AllocError, Global};
 use tenant_maps::{MAX_ENTRIES, MapPort, TenantMap};
 
 /// The most bytes of a procedure.
 const MAX_CODE: u32 = (SLOT_SIZE * MAX_SLOTS) as u32;
 
-/// A procedure, which is verified anew.
-fn read_procedure(alloc: Global, bytes: &[u8]) -> Result<(Procedure, &[u8]), StateFault>
-    ensures { Reads (λ x. (x.0.bytes, x.1.now)) length_prefixed (λ code. (length code ≤ 8192) × IsAcceptedCode code) bytes.now result }
+/// A profile, by its number.
+fn read_profile_number(bytes: &[u8]) -> Result<(Profile, &[u8]), StateFault>
+    ensures { Reads (λ x. (x.0, x.1.now)) (encoded_profile Second) (IsTold Second) bytes.now result }
 {
-    let (code, rest) = read_length_prefixed(MAX_CODE, bytes)?;
-    match verify(alloc, code) {
+    let Some((number, rest)) = bytes.split_first() else {
+        return Err(StateFault::BadState);
+    };
+    match Profile::of(*number) {
+        Some(profile) => Ok((profile, rest)),
+        None => Err(StateFault::BadState),
+    }
+}
+
+/// A procedure's profile: the first one in version 1, where none stands.
+fn read_profile(version: Version, bytes: &[u8]) -> Result<(Profile, &[u8]), StateFault>
+    ensures { Reads (λ x. (x.0, x.1.now)) (encoded_profile version) (IsTold version) bytes.now result }
+{
+    match version {
+        Version::First => Ok((Profile::One, bytes)),
+        Version::Second => read_profile_number(bytes),
+    }
+}
+
+/// A procedure, which is verified anew under its profile.
+fn read_procedure(
+    alloc: Global,
+    version: Version,
+    bytes: &[u8],
+) -> Result<(Procedure, &[u8]), StateFault>
+    ensures { Reads (λ x. (procedure_of x.0, x.1.now)) (encoded_procedure version) (IsProcedureIn version) bytes.now result }
+{
+    let (profile, rest) = read_profile(version, bytes)?;
+    let (code, rest) = read_length_prefixed(MAX_CODE, rest)?;
+    match verify_under(alloc, profile, code) {
         Ok(procedure) => Ok((procedure, rest)),
         Err(refusal) => Err(fault_of_refusal(refusal.fault)),
     }
@@ -39,16 +71,17 @@ fn read_procedure(alloc: Global, bytes: &[u8]) -> Result<(Procedure, &[u8]), Sta
 /// So many procedures.
 fn read_procedures_of(
     alloc: Global,
+    version: Version,
     count: u32,
     bytes: &[u8],
 ) -> Result<(Vec<Procedure>, &[u8]), StateFault>
-    ensures { Reads (λ x. (map (λ p. p.bytes) x.0.items, x.1.now)) (flat_map length_prefixed)
-        (λ codes. (length codes ≡ count) × All (λ code. (length code ≤ 8192) × IsAcceptedCode code) codes) bytes.now result }
+    ensures { Reads (λ x. (map procedure_of x.0.items, x.1.now)) (flat_map (encoded_procedure version))
+        (λ procedures. (length procedures ≡ count) × All (IsProcedureIn version) procedures) bytes.now result }
 {
     let mut procedures = Vec::new(alloc);
     let mut rest = bytes;
     for _ in 0..count {
-        let (procedure, after) = read_procedure(alloc, rest)?;
+        let (procedure, after) = read_procedure(alloc, version, rest)?;
         procedures.push(procedure)?;
         rest = after;
     }
@@ -56,11 +89,15 @@ fn read_procedures_of(
 }
 
 /// A tenant's procedures.
-fn read_procedures(alloc: Global, bytes: &[u8]) -> Result<(Vec<Procedure>, &[u8]), StateFault>
-    ensures { Reads (λ x. (map (λ p. p.bytes) x.0.items, x.1.now)) encoded_procedures AreProcedures bytes.now result }
+fn read_procedures(
+    alloc: Global,
+    version: Version,
+    bytes: &[u8],
+) -> Result<(Vec<Procedure>, &[u8]), StateFault>
+    ensures { Reads (λ x. (map procedure_of x.0.items, x.1.now)) (encoded_procedures version) (AreProcedures version) bytes.now result }
 {
     let (count, rest) = read_count(MAX_PROCEDURES as u32, bytes)?;
-    read_procedures_of(alloc, count, rest)
+    read_procedures_of(alloc, version, count, rest)
 }
 
 /// A key and a value.
@@ -119,16 +156,17 @@ fn read_entries(alloc: Global, bytes: &[u8]) -> Result<(TenantMap, &[u8]), State
 /// What the bytes of the tenant with this id say of it besides the id.
 fn read_contents(
     alloc: Global,
+    version: Version,
     tenant: u32,
     bytes: &[u8],
 ) -> Result<(Vec<Procedure>, TenantMap, &[u8]), StateFault>
-    ensures { Reads (λ x. ((map (λ p. p.bytes) x.0.items, x.1.entries), x.2.now)) (encoded_contents tenant) AreContents bytes.now result }
+    ensures { Reads (λ x. ((map procedure_of x.0.items, x.1.entries), x.2.now)) (encoded_contents version tenant) (AreContents version) bytes.now result }
 {
     let (id, rest) = read_u32(bytes)?;
     if id != tenant {
         return Err(StateFault::BadState);
     }
-    let (procedures, rest) = read_procedures(alloc, rest)?;
+    let (procedures, rest) = read_procedures(alloc, version, rest)?;
     let (entries, rest) = read_entries(alloc, rest)?;
     Ok((procedures, entries, rest))
 }
@@ -165,17 +203,18 @@ fn replies_of_tenant(
 /// The part of this tenant, with the replies to its clients.
 fn read_part<'a>(
     alloc: Global,
+    version: Version,
     config: &Config,
     tenant: TenantId,
     replies: &[Reply],
     bytes: &'a [u8],
 ) -> Result<(TenantPart, &'a [u8]), StateFault>
     requires { All (λ reply. length reply.result ≤ 265) replies.now }
-    ensures read { Reads (λ x. ((x.0.procedures, x.0.entries), x.1.now)) (encoded_contents tenant.0) AreContents bytes.now result }
+    ensures read { Reads (λ x. ((x.0.procedures, x.0.entries), x.1.now)) (encoded_contents version tenant.0) (AreContents version) bytes.now result }
     ensures tenant { IfOk result (λ x. x.0.tenant ≡ tenant.0) }
     ensures replies { IfOk result (λ x. x.0.last_replies ≡ replies_of (replies_to_tenant config.now.clients tenant.0 replies.now)) }
 {
-    let (procedures, entries, rest) = read_contents(alloc, tenant.0, bytes)?;
+    let (procedures, entries, rest) = read_contents(alloc, version, tenant.0, bytes)?;
     let last_replies = replies_of_tenant(alloc, config, tenant, replies)?;
     let part = TenantPart::with(alloc, tenant, procedures, entries, last_replies);
     Ok((part, rest))
@@ -184,19 +223,20 @@ fn read_part<'a>(
 /// The parts of these tenants, each with the replies to its clients.
 fn read_parts<'a>(
     alloc: Global,
+    version: Version,
     config: &Config,
     tenants: &[TenantId],
     replies: &[Reply],
     bytes: &'a [u8],
 ) -> Result<(Vec<TenantPart>, &'a [u8]), StateFault>
     requires { All (λ reply. length reply.result ≤ 265) replies.now }
-    ensures read { Reads (λ x. (x.0.items, x.1.now)) (flat_map encoded_tenant) (ArePartsOf tenants.now) bytes.now result }
+    ensures read { Reads (λ x. (x.0.items, x.1.now)) (flat_map (encoded_tenant version)) (ArePartsOf version tenants.now) bytes.now result }
     ensures replies { IfOk result (λ x. HaveReplies config.now.clients replies.now x.0.items) }
 {
     let mut parts = Vec::new(alloc);
     let mut rest = bytes;
     for tenant in tenants {
-        let (part, after) = read_part(alloc, config, *tenant, replies, rest)?;
+        let (part, after) = read_part(alloc, version, config, *tenant, replies, rest)?;
         parts.push(part)?;
         rest = after;
     }
@@ -206,13 +246,14 @@ fn read_parts<'a>(
 /// The parts of the configuration's tenants after their count, each with the replies to its clients.
 pub(crate) fn read_tenants<'a>(
     alloc: Global,
+    version: Version,
     config: &Config,
     replies: &[Reply],
     bytes: &'a [u8],
 ) -> Result<(Vec<TenantPart>, &'a [u8]), StateFault>
     requires { All (λ reply. length reply.result ≤ 265) replies.now }
-    ensures read { Reads (λ x. (x.0.items, x.1.now)) (λ parts. u32_bytes (length parts) ++ flat_map encoded_tenant parts)
-        (ArePartsOf (tenants_of config.now.clients)) bytes.now result }
+    ensures read { Reads (λ x. (x.0.items, x.1.now)) (λ parts. u32_bytes (length parts) ++ flat_map (encoded_tenant version) parts)
+        (ArePartsOf version (tenants_of config.now.clients)) bytes.now result }
     ensures replies { IfOk result (λ x. HaveReplies config.now.clients replies.now x.0.items) }
 {
     let all = config.tenant_ids();
@@ -221,7 +262,7 @@ pub(crate) fn read_tenants<'a>(
     if count as usize != ids.len() {
         return Err(StateFault::BadState);
     }
-    read_parts(alloc, config, ids, replies, rest)
+    read_parts(alloc, version, config, ids, replies, rest)
 }
 
 /// What a refusal of the verifier is to a state: memory that ran out stays that.

@@ -25,14 +25,15 @@ use Rattle.map_helpers.proofs.Kept.{IsPutOf, entries_kept}
 use Rattle.bpf_model.specs.Machine.{Machine, Call, start}
 use Rattle.bpf_model.specs.HelperCalls.{bytes_read, context}
 use Rattle.bpf_model.specs.Run.{Run, Ending, EndsSo}
-use Rattle.bpf_model.specs.Verdict.{Accepts}
+use Rattle.bpf_model.specs.Verdict.{AcceptsUnder}
+use Rattle.bpf_model.specs.declared.profile.Profile.{Profile}
 use Rattle.bpf_model.proofs.Effects.{Keeps, step_keeps}
 use Rattle.bpf_model.proofs.HelperCalls.{ReadAt, read_at, bytes_length}
 use Rattle.bpf_model.proofs.Options.{no_fault, some_is}
 use Rattle.service_model.specs.declared.outcome.Outcome.{Outcome}
 use Rattle.service_model.specs.Words.{u32_bytes, u64_bytes}
 use Rattle.service_model.specs.Operations.{Operation, Install, Call as CallOf, Bad, operation_of, Installs, Runs, Does, installed, called, refused, no_procedure, too_many_procedures, arguments_too_long, bad_operation}
-use Rattle.service_model.specs.TenantStates.{Replies, TenantState, Service, tenant_at, with_tenant, empty_tenant, genesis_of, last_reply_of}
+use Rattle.service_model.specs.TenantStates.{Procedure, Replies, TenantState, Service, tenant_at, with_tenant, empty_tenant, genesis_of, last_reply_of}
 use Rattle.service_model.specs.Steps.{reply_to, Executes, IsTenantStep, IsStep}
 use Rattle.service_model.specs.Bounded.{IsSizedMap, IsBoundedReply, IsBoundedTenant, IsBounded}
 use Rattle.service_model.proofs.Soundness.{one_of_bool, one_of_option, found_one, all_with_tenant}
@@ -98,66 +99,70 @@ unfolding u64_bytes
 eight_short n = refl
 
 -- accepted code has at most 1,024 slots
-accepted_short : (code : List ℕ) (bound : ℕ) → Accepts code bound → length code ≤ 8192
-accepted_short code bound (insns, is, accepted) =
+accepted_short : (profile : Profile) (code : List ℕ) (bound : ℕ) → AcceptsUnder profile code bound → length code ≤ 8192
+accepted_short profile code bound (insns, is, accepted) =
     let tests = no_fault (eqb (length code) 0) (not (eqb (length code % 8) 0)) (nat_lt (8 * 1024) (length code)) _ _ _ is.length_is in
     ltb-false 8192 (length code) tests.2
 
+-- code of at most 1,024 slots
+abbrev IsShort : Procedure → Type 0
+IsShort procedure = length procedure.code ≤ 8192
+
 -- what an operation leaves
-record Within (procedures : List (List ℕ)) (entries : Entries) (result : List ℕ) : Type 0 where
+record Within (procedures : List Procedure) (entries : Entries) (result : List ℕ) : Type 0 where
   few : length procedures ≤ 64
-  codes : All (λ code. length code ≤ 8192) procedures
+  codes : All IsShort procedures
   has_sizes : IsSizedMap entries
   short : length result ≤ 265
 
-with_result : (procedures : List (List ℕ)) (entries : Entries) (result text : List ℕ) → length procedures ≤ 64 → All (λ code. length code ≤ 8192) procedures → IsSizedMap entries → result ≡ text → length text ≤ 265
+with_result : (procedures : List Procedure) (entries : Entries) (result text : List ℕ) → length procedures ≤ 64 → All IsShort procedures → IsSizedMap entries → result ≡ text → length text ≤ 265
     → Within procedures entries result
 with_result procedures entries result text few codes has_sizes e short = record { few = few; codes = codes; has_sizes = has_sizes; short = subst (λ (r : List ℕ). length r ≤ 265) (sym e) short }
 
-installs_within : (procedures : List (List ℕ)) (code : List ℕ) (after : List (List ℕ)) (entries : Entries) (result : List ℕ) → length procedures ≤ 64 → All (λ c. length c ≤ 8192) procedures → IsSizedMap entries
-    → Installs procedures code after result → Within after entries result
-installs_within procedures code after entries result few codes has_sizes h = cases (nat_le 64 (length procedures)) refl h where
+installs_within : (procedures : List Procedure) (new : Procedure) (after : List Procedure) (entries : Entries) (result : List ℕ) → length procedures ≤ 64 → All IsShort procedures → IsSizedMap entries
+    → Installs procedures new after result → Within after entries result
+installs_within procedures new after entries result few codes has_sizes h = cases (nat_le 64 (length procedures)) refl h where
   unchanged : (text : List ℕ) → length text ≤ 265 → after ≡ procedures → result ≡ text → Within after entries result
-  unchanged text short a r = subst (λ (ps : List (List ℕ)). Within ps entries result) (sym a) (with_result procedures entries result text few codes has_sizes r short)
+  unchanged text short a r = subst (λ (ps : List Procedure). Within ps entries result) (sym a) (with_result procedures entries result text few codes has_sizes r short)
 
   id : List ℕ
   id = installed (length procedures)
 
   decided : nat_le 64 (length procedures) ≡ false
-      → ((bound : ℕ) × Accepts code bound × (after ≡ procedures ++ code ∷ []) × (result ≡ installed (length procedures))) ⊎ (((bound : ℕ) → Accepts code bound → ⊥) × (after ≡ procedures) × (result ≡ refused)) → Within after entries result
-  decided room (inl x) = subst (λ (ps : List (List ℕ)). Within ps entries result) (sym x.2)
-      (with_result (procedures ++ code ∷ []) entries result id
-      (omega (arith, length-append procedures (code ∷ []), leb-false 64 (length procedures) room))
-      (All-push (λ c. length c ≤ 8192) procedures code codes (accepted_short code x.0 x.1)) has_sizes x.3 (omega (arith, four_short (length procedures))))
+      → ((bound : ℕ) × AcceptsUnder new.profile new.code bound × (after ≡ procedures ++ new ∷ []) × (result ≡ installed (length procedures))) ⊎ (((bound : ℕ) → AcceptsUnder new.profile new.code bound → ⊥) × (after ≡ procedures) × (result ≡ refused)) → Within after entries result
+  decided room (inl x) = subst (λ (ps : List Procedure). Within ps entries result) (sym x.2)
+      (with_result (procedures ++ new ∷ []) entries result id
+      (omega (arith, length-append procedures (new ∷ []), leb-false 64 (length procedures) room))
+      (All-push IsShort procedures new codes (accepted_short new.profile new.code x.0 x.1)) has_sizes x.3 (omega (arith, four_short (length procedures))))
   decided room (inr x) = unchanged refused (omega arith) x.1 x.2
 
   cases : (b : Bool) → nat_le 64 (length procedures) ≡ b → MatchBool b ((after ≡ procedures) × (result ≡ too_many_procedures))
-      (((bound : ℕ) × Accepts code bound × (after ≡ procedures ++ code ∷ []) × (result ≡ installed (length procedures))) ⊎ (((bound : ℕ) → Accepts code bound → ⊥) × (after ≡ procedures) × (result ≡ refused))) → Within after entries result
+      (((bound : ℕ) × AcceptsUnder new.profile new.code bound × (after ≡ procedures ++ new ∷ []) × (result ≡ installed (length procedures))) ⊎ (((bound : ℕ) → AcceptsUnder new.profile new.code bound → ⊥) × (after ≡ procedures) × (result ≡ refused))) → Within after entries result
   cases true is x = unchanged too_many_procedures (omega arith) x.0 x.1
   cases false is x = decided is x
 
-runs_within : (client : ℕ) (procedures : List (List ℕ)) (code arguments : List ℕ) (entries after : Entries) (result : List ℕ) → length procedures ≤ 64 → All (λ c. length c ≤ 8192) procedures → IsSizedMap entries
+runs_within : (client : ℕ) (procedures : List Procedure) (code arguments : List ℕ) (entries after : Entries) (result : List ℕ) → length procedures ≤ 64 → All IsShort procedures → IsSizedMap entries
     → Runs client code arguments entries after result → Within procedures after result
 runs_within client procedures code arguments entries after result few codes has_sizes r =
     let kept = ending_sized r.insns (record { arguments = arguments; client = client; entries = entries }) r.ending r.ends has_sizes in
     with_result procedures after result (called r.ending.value r.ending.output) few codes (subst IsSizedMap (sym r.entries_are) kept.0) r.result_is
     (omega (arith, kept.1, eight_short r.ending.value, length-append (u64_bytes r.ending.value) r.ending.output))
 
-does_within : (client : ℕ) (op : Operation) (procedures after : List (List ℕ)) (entries entries' : Entries) (result : List ℕ) → length procedures ≤ 64 → All (λ c. length c ≤ 8192) procedures → IsSizedMap entries
+does_within : (client : ℕ) (op : Operation) (procedures after : List Procedure) (entries entries' : Entries) (result : List ℕ) → length procedures ≤ 64 → All IsShort procedures → IsSizedMap entries
     → Does client op procedures entries after entries' result → Within after entries' result
-does_within client (Install code) procedures after entries entries' result few codes has_sizes h =
-    subst (λ (es : Entries). Within after es result) (sym h.1) (installs_within procedures code after entries result few codes has_sizes h.0)
+does_within client (Install profile code) procedures after entries entries' result few codes has_sizes h =
+    subst (λ (es : Entries). Within after es result) (sym h.1) (installs_within procedures (record { profile = profile; code = code }) after entries result few codes has_sizes h.0)
 does_within client (CallOf id arguments) procedures after entries entries' result few codes has_sizes h =
-    subst (λ (ps : List (List ℕ)). Within ps entries' result) (sym h.1)
+    subst (λ (ps : List Procedure). Within ps entries' result) (sym h.1)
     (one_of_option (Rattle.std.specs.Prelude.slice_get procedures id) _ _ _
     (λ (x : (entries' ≡ entries) × (result ≡ no_procedure)). unchanged no_procedure (omega arith) x.0 x.1)
-    (λ code. one_of_bool (nat_lt 256 (length arguments)) _ _ _
+    (λ procedure. one_of_bool (nat_lt 256 (length arguments)) _ _ _
     (λ (x : (entries' ≡ entries) × (result ≡ arguments_too_long)). unchanged arguments_too_long (omega arith) x.0 x.1)
-    (runs_within client procedures code arguments entries entries' result few codes has_sizes)) h.0) where
+    (runs_within client procedures procedure.code arguments entries entries' result few codes has_sizes)) h.0) where
       unchanged : (text : List ℕ) → length text ≤ 265 → entries' ≡ entries → result ≡ text → Within procedures entries' result
       unchanged text short e r = subst (λ (es : Entries). Within procedures es result) (sym e) (with_result procedures entries result text few codes has_sizes r short)
 does_within client Bad procedures after entries entries' result few codes has_sizes h =
-    subst (λ (ps : List (List ℕ)). Within ps entries' result) (sym h.0)
+    subst (λ (ps : List Procedure). Within ps entries' result) (sym h.0)
     (subst (λ (es : Entries). Within procedures es result) (sym h.1) (with_result procedures entries result bad_operation few codes has_sizes h.2 (omega arith)))
 
 -- ---- a step keeps the bounds
@@ -272,7 +277,7 @@ empty_bounded (tenant ∷ tenants) = All-cons (IsBoundedTenant 0) (empty_tenant 
   nothing : IsBoundedTenant 0 (empty_tenant tenant.0)
   nothing = record {
     procedures_in_range = omega arith;
-    codes_in_range = All-nil (λ (code : List ℕ). length code ≤ 8192);
+    codes_in_range = All-nil IsShort;
     entries_in_range = record {
       keys = subst (λ es. All (λ (key : List ℕ). length key ≡ 16) (map (λ e. e.0) es)) (sym none) (All-nil (λ (key : List ℕ). length key ≡ 16));
       values = subst (λ es. All (λ (value : List ℕ). length value ≡ 32) (map (λ e. e.1) es)) (sym none) (All-nil (λ (value : List ℕ). length value ≡ 32));
@@ -297,7 +302,7 @@ own_reply s b client reply e =
 
 -- ---- the reply of a step is then the last one
 
-step_tenant : (n : ℕ) (x : TenantState) (request : Request) (after : TenantState) (reply : Option Reply) (kept : Bool) → IsTenantStep n x request after reply kept → after.tenant ≡ x.tenant
+pub step_tenant : (n : ℕ) (x : TenantState) (request : Request) (after : TenantState) (reply : Option Reply) (kept : Bool) → IsTenantStep n x request after reply kept → after.tenant ≡ x.tenant
 step_tenant n x request after reply kept h =
     let done : Executes n x request after reply kept → after.tenant ≡ x.tenant = λ e. ap (λ (p : TenantState). p.tenant) e.part_is in
     one_of_option (finite.get x.last_replies request.client.0) _ _ _ done
@@ -328,7 +333,7 @@ step_reply n x request after reply kept y h is = cases (finite.get x.last_replie
       (one_of_bool (nat_eq request.time last.time) _ _ _
       (λ (z : (after ≡ x) × (reply ≡ Some last) × (kept ≡ true)). ap (λ (p : TenantState). finite.get p.last_replies request.client.0) z.0 ∙ e ∙ sym z.1 ∙ is) done) k
 
-found_changed : (xs : List TenantState) (part changed : TenantState) → tenant_at xs changed.tenant ≡ Some part → tenant_at (with_tenant changed xs) changed.tenant ≡ Some changed
+pub found_changed : (xs : List TenantState) (part changed : TenantState) → tenant_at xs changed.tenant ≡ Some part → tenant_at (with_tenant changed xs) changed.tenant ≡ Some changed
 found_changed [] part changed e = absurd (cc)
 found_changed (x ∷ xs) part changed e = cases (eqb x.tenant changed.tenant) refl (found_changed xs part changed) e where
   cases : (b : Bool) → eqb x.tenant changed.tenant ≡ b → (tenant_at xs changed.tenant ≡ Some part → tenant_at (with_tenant changed xs) changed.tenant ≡ Some changed)

@@ -13,12 +13,17 @@ use Rattle.host_types.specs.Configuration.{Configuration, IsConfiguration, clien
 use Rattle.host_types.proofs.AscendingLemmas.{tenants_ascending}
 use Rattle.host_types.proofs.ClientLemmas.{legal}
 use Rattle.tenant_maps.specs.Entries.{Entries}
+use Rattle.bpf_model.specs.declared.profile.Profile.{Profile}
+use Rattle.bpf_model.specs.declared.profile.Profile.TheVariants.{One, Two}
+use Rattle.service_model.specs.declared.version.Version.{Version}
+use Rattle.service_model.specs.declared.version.Version.TheVariants.{First, Second}
 use Rattle.service_model.specs.Words.{u32_bytes, u64_bytes}
-use Rattle.service_model.specs.TenantStates.{TenantState, Service, replies_of, tenant_at, last_reply_of}
-use Rattle.service_model.specs.Encoding.{encoded, encoded_reply, encoded_replies, encoded_tenant, last_replies_of}
-use Rattle.service_model.specs.Sound.{IsAcceptedCode, IsSoundTenant, IsSound}
+use Rattle.service_model.specs.Versions.{version_number, IsTold}
+use Rattle.service_model.specs.TenantStates.{Procedure, TenantState, Service, replies_of, tenant_at, last_reply_of}
+use Rattle.service_model.specs.Encoding.{encoded_in, encoded_reply, encoded_replies, encoded_tenant, last_replies_of}
+use Rattle.service_model.specs.Sound.{IsAcceptedProcedure, IsSoundTenant, IsSound}
 use Rattle.service_model.specs.Bounded.{IsSizedMap, IsBoundedReply, IsBoundedTenant, IsBounded}
-use Rattle.service_model.specs.Decoding.{Encodes}
+use Rattle.service_model.specs.Decoding.{IsToldIn, EncodesIn}
 use Rattle.service_model.proofs.Bounds.{four_short}
 use Rattle.service_model.proofs.Clients.{Each, has, listed, or_cases}
 use Rattle.service_model.proofs.CodeBytes.{code_is_bytes}
@@ -32,11 +37,11 @@ AreBytes bytes = All (λ byte. byte < 256) bytes
 
 -- ---- the state that a decoder finds
 
-pub decoded : Configuration → List ℕ → Service
-decoded config bytes =
+pub decoded : Version → Configuration → List ℕ → Service
+decoded version config bytes =
     let number = eight (drop 1 bytes) in
     let replies = counted reply number.1 in
-    let tenants = parts (map (λ tenant. tenant.0) (tenants_of config.clients)) (drop 4 replies.1) in
+    let tenants = parts version (map (λ tenant. tenant.0) (tenants_of config.clients)) (drop 4 replies.1) in
     record { config = config; number = number.0; tenants = map (with_replies config.clients replies.0) tenants.0 }
 
 with_nothing : (xs : List ℕ) → xs ++ [] ≡ xs
@@ -98,28 +103,28 @@ module _ (s : Service) (bounded : IsBounded s) (sound : IsSound s) where
       let rest = parts_are xs (All-tail (IsSoundTenant clients) x xs all) found.1 in
       λ i. one i ∷ rest i
 
-  pub decoded_is : decoded s.config (encoded s) ≡ s
+  pub decoded_is : (version : Version) → All (IsToldIn version) s.tenants → decoded version s.config (encoded_in version s) ≡ s
   unfolding decoded
-  decoded_is =
-      let tail : List ℕ = flat_map encoded_tenant s.tenants in
+  decoded_is version told =
+      let tail : List ℕ = flat_map (encoded_tenant version) s.tenants in
       let count : List ℕ = u32_bytes (length s.tenants) in
-      let spread = regrouped_state (1 ∷ []) (u64_bytes s.number) (encoded_replies replies) count tail in
-      let number : eight (drop 1 (encoded s)) ≡ (s.number, encoded_replies replies ++ (count ++ tail))
+      let spread = regrouped_state (version_number version ∷ []) (u64_bytes s.number) (encoded_replies replies) count tail in
+      let number : eight (drop 1 (encoded_in version s)) ≡ (s.number, encoded_replies replies ++ (count ++ tail))
       = ap (λ (bytes : List ℕ). eight (drop 1 bytes)) spread ∙ reads_eight s.number (encoded_replies replies ++ (count ++ tail)) (omega (arith, bounded.number_in_range)) in
       let found : counted reply (encoded_replies replies ++ (count ++ tail)) ≡ (replies, count ++ tail)
       = reads_counted encoded_reply FieldsInRange (λ x. x) reply reads_reply replies (count ++ tail) (few_replies s bounded) (replies_in_range s bounded (client_ids_of clients))
       ∙ ap (λ (rs : List Reply). (rs, count ++ tail)) (same_list replies) in
       let ids : List ℕ = map (λ tenant. tenant.0) (tenants_of clients) in
-      let tenants : parts ids (drop 4 (count ++ tail)) ≡ (map stripped s.tenants, [])
-      = ap (parts ids) (drop_front count tail 4 (four_short (length s.tenants)) ∙ sym (with_nothing tail))
-      ∙ ap (λ (ids : List ℕ). parts ids (tail ++ [])) (sym bounded.same_tenants) ∙ reads_parts s.number s.tenants [] bounded.tenants_in_range in
+      let tenants : parts version ids (drop 4 (count ++ tail)) ≡ (map stripped s.tenants, [])
+      = ap (parts version ids) (drop_front count tail 4 (four_short (length s.tenants)) ∙ sym (with_nothing tail))
+      ∙ ap (λ (ids : List ℕ). parts version ids (tail ++ [])) (sym bounded.same_tenants) ∙ reads_parts version s.number s.tenants [] bounded.tenants_in_range told in
       let all = parts_are s.tenants sound (found_each s.tenants (ascends_like (tenants_of clients) s.tenants (tenants_ascending clients) bounded.same_tenants)) in
       ap from_number number ∙ ap (from_replies s.number) found ∙ ap (from_tenants s.number replies) tenants ∙ (λ i. record { config = s.config; number = s.number; tenants = all i }) where
         from_tenants : ℕ → List Reply → List TenantState × List ℕ → Service
         from_tenants n rs ts = record { config = s.config; number = n; tenants = map (with_replies clients rs) ts.0 }
 
         from_replies : ℕ → List Reply × List ℕ → Service
-        from_replies n rs = from_tenants n rs.0 (parts (map (λ tenant. tenant.0) (tenants_of clients)) (drop 4 rs.1))
+        from_replies n rs = from_tenants n rs.0 (parts version (map (λ tenant. tenant.0) (tenants_of clients)) (drop 4 rs.1))
 
         from_number : ℕ × List ℕ → Service
         from_number n = from_replies n.0 (counted reply n.1)
@@ -229,7 +234,7 @@ bounded_tenant : (clients : List ClientEntry) (rs : List Reply) (taken : ℕ) (x
 bounded_tenant clients rs taken x =
     alike (λ h. record { procedures_in_range = h.0; codes_in_range = h.1.0; entries_in_range = h.1.1.0; replies_in_range = h.1.1.1 })
     (λ h. (h.procedures_in_range, (h.codes_in_range, (h.entries_in_range, h.replies_in_range))))
-    (both (at_most (length x.procedures) 64) (both (each (λ (code : List ℕ). length code ≤ 8192) (λ code. at_most (length code) 8192) x.procedures)
+    (both (at_most (length x.procedures) 64) (both (each (λ (procedure : Procedure). length procedure.code ≤ 8192) (λ procedure. at_most (length procedure.code) 8192) x.procedures)
     (both (sized_map x.entries) (each_reply (IsBoundedReply taken) (bounded_reply taken) (own_replies clients x.tenant rs)))))
 
 of_tenant : (clients : List ClientEntry) (tenant q : ℕ) → Decided (IsSomeAnd (entry_of clients q) (λ entry. entry.tenant.0 ≡ tenant))
@@ -249,17 +254,25 @@ from_some P (Some r) h some = h
 byte_list : (xs : List ℕ) → Decided (AreBytes xs)
 byte_list xs = each (λ byte. byte < 256) (λ byte. below byte 256) xs
 
-accepted : (code : List ℕ) → Decided (IsAcceptedCode code)
-accepted code = elim (byte_list code) [
-  | inl all ↦ elim (verdict_decided code all) [ inl good ↦ inl good | inr never ↦ inr (λ h. never h.0 h.1) ]
-  | inr never ↦ inr (λ h. never (code_is_bytes code h.1.0 h.1.1))
+accepted : (procedure : Procedure) → Decided (IsAcceptedProcedure procedure)
+accepted procedure = elim (byte_list procedure.code) [
+  | inl all ↦ elim (verdict_decided procedure.profile procedure.code all) [ inl good ↦ inl good | inr never ↦ inr (λ h. never h.0 h.1) ]
+  | inr never ↦ inr (λ h. never (code_is_bytes procedure.code h.1.0 h.1.1))
 ]
+
+is_told : (version : Version) (profile : Profile) → Decided (IsTold version profile)
+is_told First One = inl refl
+is_told First Two = inr (λ (e : Two ≡ One). cc)
+is_told Second profile = inl tt
+
+told_in : (version : Version) (x : TenantState) → Decided (IsToldIn version x)
+told_in version x = each (λ (procedure : Procedure). IsTold version procedure.profile) (λ procedure. is_told version procedure.profile) x.procedures
 
 sound_tenant : (clients : List ClientEntry) (rs : List Reply) (x : TenantState) → Decided (IsSoundTenant clients (with_replies clients rs x))
 sound_tenant clients rs x =
     alike (λ h. record { accepted = h.0; own = λ q. from_some _ (finite.get (replies_of (own_replies clients x.tenant rs)) q) (h.1 q) })
     (λ h. (h.accepted, λ q. if_some _ (finite.get (replies_of (own_replies clients x.tenant rs)) q) (h.own q)))
-    (both (each IsAcceptedCode accepted x.procedures)
+    (both (each IsAcceptedProcedure accepted x.procedures)
     (each_reply (λ q r. IsSomeAnd (entry_of clients q) (λ entry. entry.tenant.0 ≡ x.tenant)) (λ q r. of_tenant clients x.tenant q) (own_replies clients x.tenant rs)))
 
 -- ---- of a configuration
@@ -312,7 +325,7 @@ legal_configuration c =
 
 -- ---- of a state
 
-module _ (config : Configuration) (bytes : List ℕ) where
+module _ (version : Version) (config : Configuration) (bytes : List ℕ) where
   abbrev number : ℕ × List ℕ
   number = eight (drop 1 bytes)
 
@@ -320,15 +333,15 @@ module _ (config : Configuration) (bytes : List ℕ) where
   found = counted reply number.1
 
   abbrev tenants : List TenantState
-  tenants = (parts (map (λ tenant. tenant.0) (tenants_of config.clients)) (drop 4 found.1)).0
+  tenants = (parts version (map (λ tenant. tenant.0) (tenants_of config.clients)) (drop 4 found.1)).0
 
   abbrev state : Service
   state = record { config = config; number = number.0; tenants = map (with_replies config.clients found.0) tenants }
 
   -- a state that they encode is the one that is decoded
-  is_decoded : (t : Service) → Encodes config bytes t → state ≡ t
+  is_decoded : (t : Service) → EncodesIn version config bytes t → state ≡ t
   unfolding decoded
-  is_decoded t e = (λ i. decoded (sym e.config_is i) (sym e.encodes i)) ∙ decoded_is t e.bounded e.sound
+  is_decoded t e = (λ i. decoded version (sym e.config_is i) (sym e.encodes i)) ∙ decoded_is t e.bounded e.sound version e.told
 
   is_bounded : Decided (IsBounded state)
   is_bounded =
@@ -340,12 +353,15 @@ module _ (config : Configuration) (bytes : List ℕ) where
   is_sound : Decided (IsSound state)
   is_sound = each_made (with_replies config.clients found.0) (IsSoundTenant config.clients) (sound_tenant config.clients found.0) tenants
 
-  pub decided : ((t : Service) × Encodes config bytes t) ⊎ ((t : Service) → Encodes config bytes t → ⊥)
-  decided = same (same_bytes (encoded state) bytes) where
-    whole : encoded state ≡ bytes → Decided (IsBounded state × IsSound state) → ((t : Service) × Encodes config bytes t) ⊎ ((t : Service) → Encodes config bytes t → ⊥)
-    whole e (inl h) = inl (state, record { config_is = refl; encodes = e; bounded = h.0; sound = h.1 })
-    whole e (inr never) = inr (λ t is. never (subst (λ (u : Service). IsBounded u × IsSound u) (sym (is_decoded t is)) (is.bounded, is.sound)))
+  all_told : Decided (All (IsToldIn version) state.tenants)
+  all_told = each_made (with_replies config.clients found.0) (IsToldIn version) (λ x. told_in version x) tenants
 
-    same : Decided (encoded state ≡ bytes) → ((t : Service) × Encodes config bytes t) ⊎ ((t : Service) → Encodes config bytes t → ⊥)
-    same (inl e) = whole e (both is_bounded is_sound)
-    same (inr never) = inr (λ t is. never (ap encoded (is_decoded t is) ∙ is.encodes))
+  pub decided : ((t : Service) × EncodesIn version config bytes t) ⊎ ((t : Service) → EncodesIn version config bytes t → ⊥)
+  decided = same (same_bytes (encoded_in version state) bytes) where
+    whole : encoded_in version state ≡ bytes → Decided (IsBounded state × (IsSound state × All (IsToldIn version) state.tenants)) → ((t : Service) × EncodesIn version config bytes t) ⊎ ((t : Service) → EncodesIn version config bytes t → ⊥)
+    whole e (inl h) = inl (state, record { config_is = refl; encodes = e; bounded = h.0; sound = h.1.0; told = h.1.1 })
+    whole e (inr never) = inr (λ t is. never (subst (λ (u : Service). IsBounded u × (IsSound u × All (IsToldIn version) u.tenants)) (sym (is_decoded t is)) (is.bounded, (is.sound, is.told))))
+
+    same : Decided (encoded_in version state ≡ bytes) → ((t : Service) × EncodesIn version config bytes t) ⊎ ((t : Service) → EncodesIn version config bytes t → ⊥)
+    same (inl e) = whole e (both is_bounded (both is_sound all_told))
+    same (inr never) = inr (λ t is. never (ap (encoded_in version) (is_decoded t is) ∙ is.encodes))

@@ -15,14 +15,20 @@ use Rattle.host_types.specs.declared.config.ClientEntry.{ClientEntry}
 use Rattle.host_types.specs.declared.request.Reply.{Reply}
 use Rattle.host_types.specs.Configuration.{entry_of}
 use Rattle.tenant_maps.specs.Entries.{Entries}
+use Rattle.bpf_model.specs.declared.profile.Profile.{Profile}
+use Rattle.bpf_model.specs.declared.profile.Profile.TheVariants.{One, Two}
+use Rattle.service_model.specs.declared.version.Version.{Version}
+use Rattle.service_model.specs.declared.version.Version.TheVariants.{First, Second}
 use Rattle.service_model.specs.Words.{u32_bytes, u64_bytes}
-use Rattle.service_model.specs.TenantStates.{TenantState, replies_of}
-use Rattle.service_model.specs.Encoding.{encoded_reply, encoded_tenant, encoded_procedures, encoded_entries, length_prefixed}
+use Rattle.service_model.specs.Versions.{encoded_profile, IsTold}
+use Rattle.service_model.specs.TenantStates.{Procedure, TenantState, replies_of}
+use Rattle.service_model.specs.Encoding.{encoded_reply, encoded_tenant, encoded_procedure, encoded_procedures, encoded_entries, length_prefixed}
 use Rattle.service_model.specs.Bounded.{IsSizedMap, IsBoundedTenant}
+use Rattle.service_model.specs.Decoding.{IsToldIn}
 use Rattle.service_model.proofs.Bounds.{four_short}
 use Rattle.service_model.proofs.Clients.{OwnReplies, has}
-use Rattle.service_model.proofs.Injective.{entry_lengths, codes_short}
-use Rattle.service_model.proofs.PrefixFree.{FieldsInRange}
+use Rattle.service_model.proofs.Injective.{entry_lengths, procedures_fit}
+use Rattle.service_model.proofs.PrefixFree.{FieldsInRange, FitsIn}
 
 -- ---- readers of values from the front of bytes
 
@@ -143,6 +149,35 @@ reads_reply x r fits =
 
 -- ---- a tenant's procedures and entries
 
+profile : Version → Reader Profile
+profile First bytes = (One, bytes)
+profile Second [] = (One, [])
+profile Second (number ∷ bytes) = (cond (eqb number 1) One Two, bytes)
+
+reads_profile : (version : Version) → Reads (encoded_profile version) (IsTold version) (λ p. p) (profile version)
+unfolding profile
+reads_profile First p r told = λ i. (sym told i, r)
+reads_profile Second One r told = refl
+reads_profile Second Two r told = refl
+
+procedure : Version → Reader Procedure
+procedure version bytes =
+    let p = profile version bytes in
+    let code = prefixed p.1 in
+    (record { profile = p.0; code = code.0 }, code.1)
+
+reads_procedure : (version : Version) → Reads (encoded_procedure version) (FitsIn version) (λ p. p) (procedure version)
+unfolding procedure
+reads_procedure version x r fits =
+    let first = ap (profile version) (append_assoc (encoded_profile version x.profile) (length_prefixed x.code) r) ∙ reads_profile version x.profile (length_prefixed x.code ++ r) fits.1 in
+    let code = reads_prefixed x.code r fits.0 in
+    ap with_profile first ∙ ap (with_code x.profile) code where
+      with_code : Profile → List ℕ × List ℕ → Procedure × List ℕ
+      with_code p code = (record { profile = p; code = code.0 }, code.1)
+
+      with_profile : Profile × List ℕ → Procedure × List ℕ
+      with_profile p = with_code p.0 (prefixed p.1)
+
 abbrev Entry : Type 0
 Entry = List ℕ × List ℕ
 
@@ -185,43 +220,45 @@ abbrev pub stripped : TenantState → TenantState
 stripped x = record { tenant = x.tenant; procedures = x.procedures; entries = x.entries; last_replies = finite.empty }
 
 -- The part of this tenant: its id is passed over.
-part : ℕ → Reader TenantState
-part tenant bytes =
-    let procedures = counted prefixed (drop 4 bytes) in
+part : Version → ℕ → Reader TenantState
+part version tenant bytes =
+    let procedures = counted (procedure version) (drop 4 bytes) in
     let map = entries procedures.1 in
     (record { tenant = tenant; procedures = procedures.0; entries = map.0; last_replies = finite.empty }, map.1)
 
 regrouped_part : (a b c r : List ℕ) → ((a ++ b) ++ c) ++ r ≡ a ++ (b ++ (c ++ r))
 regrouped_part a b c r = simp append_assoc
 
-reads_part : (number : ℕ) (x : TenantState) (r : List ℕ) → IsBoundedTenant number x → part x.tenant (encoded_tenant x ++ r) ≡ (stripped x, r)
+reads_part : (version : Version) (number : ℕ) (x : TenantState) (r : List ℕ) → IsBoundedTenant number x → IsToldIn version x → part version x.tenant (encoded_tenant version x ++ r) ≡ (stripped x, r)
 unfolding part
-reads_part number x r fits =
-    let id = ap (drop 4) (regrouped_part (u32_bytes x.tenant) (encoded_procedures x.procedures) (encoded_entries x.entries) r) ∙ drop_front (u32_bytes x.tenant) _ 4 (four_short x.tenant) in
+reads_part version number x r fits told =
+    let id = ap (drop 4) (regrouped_part (u32_bytes x.tenant) (encoded_procedures version x.procedures) (encoded_entries x.entries) r) ∙ drop_front (u32_bytes x.tenant) _ 4 (four_short x.tenant) in
     let few : length x.procedures < 2 ^ 32 = omega (arith, fits.procedures_in_range) in
-    let codes = reads_counted length_prefixed (λ code. length code < 2 ^ 32) (λ code. code) prefixed reads_prefixed x.procedures (encoded_entries x.entries ++ r) few (codes_short x.procedures fits.codes_in_range) in
+    let procedures = reads_counted (encoded_procedure version) (FitsIn version) (λ p. p) (procedure version) (reads_procedure version) x.procedures (encoded_entries x.entries ++ r) few (procedures_fit version x.procedures fits.codes_in_range told) in
     let map_is = reads_entries x.entries r fits.entries_in_range in
-    ap (λ (bytes : List ℕ). with_codes (counted prefixed bytes)) id ∙ ap with_codes codes
-    ∙ ap (λ (codes : List (List ℕ)). with_map codes (entries (encoded_entries x.entries ++ r))) (same_list x.procedures)
+    ap (λ (bytes : List ℕ). with_procedures (counted (procedure version) bytes)) id ∙ ap with_procedures procedures
+    ∙ ap (λ (ps : List Procedure). with_map ps (entries (encoded_entries x.entries ++ r))) (same_list x.procedures)
     ∙ ap (with_map x.procedures) map_is where
-      with_map : List (List ℕ) → Entries × List ℕ → TenantState × List ℕ
-      with_map codes m = (record { tenant = x.tenant; procedures = codes; entries = m.0; last_replies = finite.empty }, m.1)
+      with_map : List Procedure → Entries × List ℕ → TenantState × List ℕ
+      with_map ps m = (record { tenant = x.tenant; procedures = ps; entries = m.0; last_replies = finite.empty }, m.1)
 
-      with_codes : List (List ℕ) × List ℕ → TenantState × List ℕ
-      with_codes codes = with_map codes.0 (entries codes.1)
+      with_procedures : List Procedure × List ℕ → TenantState × List ℕ
+      with_procedures ps = with_map ps.0 (entries ps.1)
 
 -- the parts of these tenants
-pub parts : List ℕ → Reader (List TenantState)
-parts [] bytes = ([], bytes)
-parts (tenant ∷ tenants) bytes = let x = part tenant bytes in let xs = parts tenants x.1 in (x.0 ∷ xs.0, xs.1)
+pub parts : Version → List ℕ → Reader (List TenantState)
+parts version [] bytes = ([], bytes)
+parts version (tenant ∷ tenants) bytes = let x = part version tenant bytes in let xs = parts version tenants x.1 in (x.0 ∷ xs.0, xs.1)
 
-pub reads_parts : (number : ℕ) (xs : List TenantState) (r : List ℕ) → All (IsBoundedTenant number) xs → parts (map (λ x. x.tenant) xs) (flat_map encoded_tenant xs ++ r) ≡ (map stripped xs, r)
+pub reads_parts : (version : Version) (number : ℕ) (xs : List TenantState) (r : List ℕ) → All (IsBoundedTenant number) xs → All (IsToldIn version) xs
+    → parts version (map (λ x. x.tenant) xs) (flat_map (encoded_tenant version) xs ++ r) ≡ (map stripped xs, r)
 unfolding parts
-reads_parts number [] r all = refl
-reads_parts number (x ∷ xs) r all =
-    let first = ap (part x.tenant) (append_assoc (encoded_tenant x) (flat_map encoded_tenant xs) r) ∙ reads_part number x (flat_map encoded_tenant xs ++ r) (All-head (IsBoundedTenant number) x xs all) in
-    let rest = reads_parts number xs r (All-tail (IsBoundedTenant number) x xs all) in
-    ap (λ (y : TenantState × List ℕ). (y.0 ∷ (parts (map (λ x. x.tenant) xs) y.1).0, (parts (map (λ x. x.tenant) xs) y.1).1)) first
+reads_parts version number [] r all told = refl
+reads_parts version number (x ∷ xs) r all told =
+    let first = ap (part version x.tenant) (append_assoc (encoded_tenant version x) (flat_map (encoded_tenant version) xs) r)
+    ∙ reads_part version number x (flat_map (encoded_tenant version) xs ++ r) (All-head (IsBoundedTenant number) x xs all) (All-head (IsToldIn version) x xs told) in
+    let rest = reads_parts version number xs r (All-tail (IsBoundedTenant number) x xs all) (All-tail (IsToldIn version) x xs told) in
+    ap (λ (y : TenantState × List ℕ). (y.0 ∷ (parts version (map (λ x. x.tenant) xs) y.1).0, (parts version (map (λ x. x.tenant) xs) y.1).1)) first
     ∙ ap (λ (ys : List TenantState × List ℕ). (stripped x ∷ ys.0, ys.1)) rest
 
 -- ---- last replies go to the parts of their clients' tenants

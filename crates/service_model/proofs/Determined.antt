@@ -7,7 +7,7 @@ use Rattle.bpf_decode.proofs.Encodings.{same_code}
 use Rattle.bpf_model.specs.Machine.{Machine, Call, start}
 use Rattle.bpf_model.specs.Step.{Ends, step}
 use Rattle.bpf_model.specs.Run.{Run, Ending, EndsSo}
-use Rattle.bpf_model.specs.Verdict.{Accepts}
+use Rattle.bpf_model.specs.Verdict.{AcceptsUnder}
 use Rattle.bpf_model.proofs.Options.{some_is}
 use Rattle.bpf_model.proofs.Runs.{run_within, same_run}
 use Rattle.tenant_maps.specs.Entries.{Entries}
@@ -15,7 +15,7 @@ use Rattle.host_types.specs.declared.request.Request.{Request}
 use Rattle.host_types.specs.declared.request.Reply.{Reply}
 use Rattle.service_model.specs.declared.outcome.Outcome.{Outcome}
 use Rattle.service_model.specs.Operations.{Operation, Install, Call as CallOf, Bad, operation_of, Installs, Calls, Runs, Does, installed, called, refused, no_procedure, too_many_procedures, arguments_too_long}
-use Rattle.service_model.specs.TenantStates.{TenantState, Service, with_tenant}
+use Rattle.service_model.specs.TenantStates.{Procedure, TenantState, Service, with_tenant}
 use Rattle.service_model.specs.Steps.{reply_to, Executes, IsTenantStep, IsStep, Follows}
 
 ends_is : (x y : ℕ) → Some (Ends x) ≡ Some (Ends y) → x ≡ y
@@ -50,33 +50,33 @@ zip_option : {X : Type 0} (o : Option X) (P P' C : Type 0) (Q Q' : X → Type 0)
 zip_option None P P' C Q Q' one two h h' = one h h'
 zip_option (Some x) P P' C Q Q' one two h h' = two x h h'
 
-same_calls : (client : ℕ) (procedures : List (List ℕ)) (id : ℕ) (arguments : List ℕ) (entries after after' : Entries) (result result' : List ℕ)
+same_calls : (client : ℕ) (procedures : List Procedure) (id : ℕ) (arguments : List ℕ) (entries after after' : Entries) (result result' : List ℕ)
     → Calls client procedures id arguments entries after result → Calls client procedures id arguments entries after' result' → (after ≡ after') × (result ≡ result')
 same_calls client procedures id arguments entries after after' result result' a b =
     zip_option (slice_get procedures id) _ _ _ _ _
     (λ (x : (after ≡ entries) × (result ≡ no_procedure)) (y : (after' ≡ entries) × (result' ≡ no_procedure)). (x.0 ∙ sym y.0, x.1 ∙ sym y.1))
-    (λ code. zip_bool (nat_lt 256 (length arguments)) _ _ _ _ _
+    (λ procedure. zip_bool (nat_lt 256 (length arguments)) _ _ _ _ _
     (λ (x : (after ≡ entries) × (result ≡ arguments_too_long)) (y : (after' ≡ entries) × (result' ≡ arguments_too_long)). (x.0 ∙ sym y.0, x.1 ∙ sym y.1))
-    (same_runs client code arguments entries after after' result result')) a b
+    (same_runs client procedure.code arguments entries after after' result result')) a b
 
-same_installs : (procedures : List (List ℕ)) (code : List ℕ) (after after' : List (List ℕ)) (result result' : List ℕ)
-    → Installs procedures code after result → Installs procedures code after' result' → (after ≡ after') × (result ≡ result')
-same_installs procedures code after after' result result' a b =
+same_installs : (procedures : List Procedure) (new : Procedure) (after after' : List Procedure) (result result' : List ℕ)
+    → Installs procedures new after result → Installs procedures new after' result' → (after ≡ after') × (result ≡ result')
+same_installs procedures new after after' result result' a b =
     zip_bool (nat_le 64 (length procedures)) _ _ _ _ _
     (λ (x : (after ≡ procedures) × (result ≡ too_many_procedures)) (y : (after' ≡ procedures) × (result' ≡ too_many_procedures)). (x.0 ∙ sym y.0, x.1 ∙ sym y.1))
     cases a b where
-      cases : ((bound : ℕ) × Accepts code bound × (after ≡ procedures ++ code ∷ []) × (result ≡ installed (length procedures))) ⊎ (((bound : ℕ) → Accepts code bound → ⊥) × (after ≡ procedures) × (result ≡ refused))
-          → ((bound : ℕ) × Accepts code bound × (after' ≡ procedures ++ code ∷ []) × (result' ≡ installed (length procedures))) ⊎ (((bound : ℕ) → Accepts code bound → ⊥) × (after' ≡ procedures) × (result' ≡ refused))
+      cases : ((bound : ℕ) × AcceptsUnder new.profile new.code bound × (after ≡ procedures ++ new ∷ []) × (result ≡ installed (length procedures))) ⊎ (((bound : ℕ) → AcceptsUnder new.profile new.code bound → ⊥) × (after ≡ procedures) × (result ≡ refused))
+          → ((bound : ℕ) × AcceptsUnder new.profile new.code bound × (after' ≡ procedures ++ new ∷ []) × (result' ≡ installed (length procedures))) ⊎ (((bound : ℕ) → AcceptsUnder new.profile new.code bound → ⊥) × (after' ≡ procedures) × (result' ≡ refused))
           → (after ≡ after') × (result ≡ result')
       cases (inl p) (inl q) = (p.2 ∙ sym q.2, p.3 ∙ sym q.3)
       cases (inl p) (inr q) = absurd (q.0 p.0 p.1)
       cases (inr p) (inl q) = absurd (p.0 q.0 q.1)
       cases (inr p) (inr q) = (p.1 ∙ sym q.1, p.2 ∙ sym q.2)
 
-same_does : (client : ℕ) (op : Operation) (procedures : List (List ℕ)) (entries : Entries) (p p' : List (List ℕ)) (e e' : Entries) (result result' : List ℕ)
+same_does : (client : ℕ) (op : Operation) (procedures : List Procedure) (entries : Entries) (p p' : List Procedure) (e e' : Entries) (result result' : List ℕ)
     → Does client op procedures entries p e result → Does client op procedures entries p' e' result' → (p ≡ p') × (e ≡ e') × (result ≡ result')
-same_does client (Install code) procedures entries p p' e e' result result' a b =
-    let same = same_installs procedures code p p' result result' a.0 b.0 in
+same_does client (Install profile code) procedures entries p p' e e' result result' a b =
+    let same = same_installs procedures (record { profile = profile; code = code }) p p' result result' a.0 b.0 in
     (same.0, a.1 ∙ sym b.1, same.1)
 same_does client (CallOf id arguments) procedures entries p p' e e' result result' a b =
     let same = same_calls client procedures id arguments entries e e' result result' a.0 b.0 in
@@ -87,13 +87,13 @@ same_executes : (number : ℕ) (part : TenantState) (request : Request) (after a
     → Executes number part request after reply kept → Executes number part request after' reply' kept' → (after ≡ after') × (reply ≡ reply') × (kept ≡ kept')
 same_executes number part request after after' reply reply' kept kept' a b =
     let same = same_does request.client.0 (operation_of request.op) part.procedures part.entries a.procedures b.procedures a.entries b.entries a.result b.result a.does b.does in
-    let made : (ps : List (List ℕ)) (es : Entries) (r : List ℕ) → TenantState = λ ps es r. record { tenant = part.tenant; procedures = ps; entries = es; last_replies = finite.insert part.last_replies request.client.0 (reply_to request number r) } in (
+    let made : (ps : List Procedure) (es : Entries) (r : List ℕ) → TenantState = λ ps es r. record { tenant = part.tenant; procedures = ps; entries = es; last_replies = finite.insert part.last_replies request.client.0 (reply_to request number r) } in (
       a.part_is ∙ (λ i. made (same.0 i) (same.1 i) (same.2 i)) ∙ sym b.part_is,
       a.reply_is ∙ ap (λ (r : List ℕ). Some (reply_to request number r)) same.2 ∙ sym b.reply_is,
       a.is_new ∙ sym b.is_new,
     )
 
-same_tenant_step : (number : ℕ) (part : TenantState) (request : Request) (after after' : TenantState) (reply reply' : Option Reply) (kept kept' : Bool)
+pub same_tenant_step : (number : ℕ) (part : TenantState) (request : Request) (after after' : TenantState) (reply reply' : Option Reply) (kept kept' : Bool)
     → IsTenantStep number part request after reply kept → IsTenantStep number part request after' reply' kept' → (after ≡ after') × (reply ≡ reply') × (kept ≡ kept')
 same_tenant_step number part request after after' reply reply' kept kept' a b =
     let same = same_executes number part request after after' reply reply' kept kept' in

@@ -15,16 +15,17 @@ use Rattle.bpf_decode.proofs.Deciding.{bytes_decided}
 use Rattle.bpf_decode.proofs.Encodings.{same_code, refused_is_no_code}
 use Rattle.bpf_decode.specs.declared.insn.Insn.{Insn}
 use Rattle.bpf_model.specs.Machine.{Call}
-use Rattle.bpf_model.specs.Verdict.{Accepts, IsAccepted}
+use Rattle.bpf_model.specs.Verdict.{AcceptsUnder, IsAccepted}
 use Rattle.bpf_model.proofs.Totality.{decided, not_both}
-use Rattle.bpf_model.specs.declared.profile.Profile.TheVariants.{One}
+use Rattle.bpf_model.specs.declared.profile.Profile.{Profile}
+use Rattle.bpf_model.specs.declared.profile.Profile.TheVariants.{One, Two}
 use Rattle.bpf_model.proofs.Runs.{IsTenantMap-empty}
 use Rattle.tenant_maps.specs.Entries.{Entries, IsTenantMap}
 use Rattle.service_model.specs.declared.outcome.Outcome.{Outcome}
 use Rattle.service_model.specs.Operations.{Operation, Install, Call as CallOf, Bad, operation_of, Installs, Calls, Runs, Does, installed, called, refused, no_procedure, too_many_procedures, arguments_too_long, bad_operation}
-use Rattle.service_model.specs.TenantStates.{TenantState, Service, empty_tenant, genesis_of, with_tenant}
+use Rattle.service_model.specs.TenantStates.{Procedure, TenantState, Service, empty_tenant, genesis_of, with_tenant}
 use Rattle.service_model.specs.Steps.{reply_to, Executes, IsTenantStep, TakesRequest, IsStep, Follows}
-use Rattle.service_model.specs.Sound.{IsAcceptedCode, IsSoundTenant, IsSound}
+use Rattle.service_model.specs.Sound.{IsAcceptedProcedure, IsSoundTenant, IsSound}
 use Rattle.service_model.specs.Asked.{CanAsk, HasTenantMaps}
 use Rattle.service_model.proofs.Matches.{match_true, match_false, match_none, match_some}
 use Rattle.service_model.proofs.Found.{tenant_at_index}
@@ -39,7 +40,7 @@ abbrev AreBytes : List ℕ → Type 0
 AreBytes bytes = All (λ byte. byte < 256) bytes
 
 abbrev IsOfBytes : Operation → Type 0
-IsOfBytes (Install code) = AreBytes code
+IsOfBytes (Install profile code) = AreBytes code
 IsOfBytes (CallOf id arguments) = AreBytes arguments
 IsOfBytes Bad = Unit {0}
 
@@ -53,68 +54,75 @@ of_bytes (kind ∷ rest) all = install (eqb kind 1) where
   call true = All-drop (λ byte. byte < 256) 4 rest others
   call false = tt
 
-  install : (b : Bool) → IsOfBytes (cond b (Install rest) (cond (eqb kind 2 && nat_le 4 (length rest)) (CallOf (from_be_bytes w32 (take 4 rest)) (drop 4 rest)) Bad))
+  install2 : (b : Bool) → IsOfBytes (cond b (Install Two rest) (cond (eqb kind 2 && nat_le 4 (length rest)) (CallOf (from_be_bytes w32 (take 4 rest)) (drop 4 rest)) Bad))
+  install2 true = others
+  install2 false = call (eqb kind 2 && nat_le 4 (length rest))
+
+  install : (b : Bool) → IsOfBytes (cond b (Install One rest) (cond (eqb kind 4) (Install Two rest) (cond (eqb kind 2 && nat_le 4 (length rest)) (CallOf (from_be_bytes w32 (take 4 rest)) (drop 4 rest)) Bad)))
   install true = others
-  install false = call (eqb kind 2 && nat_le 4 (length rest))
+  install false = install2 (eqb kind 4)
 
 -- ---- an operation can be done
 
--- the verdict on code
-pub verdict_decided : (code : List ℕ) → AreBytes code → ((bound : ℕ) × Accepts code bound) ⊎ ((bound : ℕ) → Accepts code bound → ⊥)
-verdict_decided code all = elim (bytes_decided code (small_of code all)) [
-  | inl (insns, is) ↦ elim (decided One code insns is) [
+-- the verdict of a profile on code
+pub verdict_decided : (profile : Profile) (code : List ℕ) → AreBytes code → ((bound : ℕ) × AcceptsUnder profile code bound) ⊎ ((bound : ℕ) → AcceptsUnder profile code bound → ⊥)
+verdict_decided profile code all = elim (bytes_decided code (small_of code all)) [
+  | inl (insns, is) ↦ elim (decided profile code insns is) [
     | inl (bound, accepted) ↦ inl (bound, (insns, is, accepted))
-    | inr (fault, slot, rejected) ↦ inr (λ bound accepts. not_both One insns bound fault slot (subst (λ (x : List Insn). IsAccepted One x bound) (same_code code accepts.0 insns accepts.1 is) accepts.2) rejected)
+    | inr (fault, slot, rejected) ↦ inr (λ bound accepts. not_both profile insns bound fault slot (subst (λ (x : List Insn). IsAccepted profile x bound) (same_code code accepts.0 insns accepts.1 is) accepts.2) rejected)
   ]
   | inr (fault, slot, faulty) ↦ inr (λ bound accepts. refused_is_no_code code accepts.0 fault slot faulty accepts.1)
 ]
 
 -- what doing an operation leaves and gives
-record Done (client : ℕ) (op : Operation) (procedures : List (List ℕ)) (entries : Entries) : Type 0 where
-  procedures' : List (List ℕ)
+record Done (client : ℕ) (op : Operation) (procedures : List Procedure) (entries : Entries) : Type 0 where
+  procedures' : List Procedure
   entries' : Entries
   result : List ℕ
   does : Does client op procedures entries procedures' entries' result
 
-install_done : (client : ℕ) (code : List ℕ) (procedures : List (List ℕ)) (entries : Entries) → AreBytes code → Done client (Install code) procedures entries
-install_done client code procedures entries all = cases (nat_le 64 (length procedures)) refl (verdict_decided code all) where
-  done : (after : List (List ℕ)) (result : List ℕ) → Installs procedures code after result → Done client (Install code) procedures entries
+install_done : (client : ℕ) (profile : Profile) (code : List ℕ) (procedures : List Procedure) (entries : Entries) → AreBytes code → Done client (Install profile code) procedures entries
+install_done client profile code procedures entries all = cases (nat_le 64 (length procedures)) refl (verdict_decided profile code all) where
+  new : Procedure
+  new = record { profile = profile; code = code }
+
+  done : (after : List Procedure) (result : List ℕ) → Installs procedures new after result → Done client (Install profile code) procedures entries
   done after result installs = record { procedures' = after; entries' = entries; result = result; does = (installs, refl) }
 
-  cases : (b : Bool) → nat_le 64 (length procedures) ≡ b → ((bound : ℕ) × Accepts code bound) ⊎ ((bound : ℕ) → Accepts code bound → ⊥) → Done client (Install code) procedures entries
+  cases : (b : Bool) → nat_le 64 (length procedures) ≡ b → ((bound : ℕ) × AcceptsUnder profile code bound) ⊎ ((bound : ℕ) → AcceptsUnder profile code bound → ⊥) → Done client (Install profile code) procedures entries
   cases true e verdict = done procedures too_many_procedures (match_true _ _ _ e (refl, refl))
   cases false e (inl (bound, accepts)) =
-      done (procedures ++ code ∷ []) (installed (length procedures)) (match_false _ _ _ e (inl (bound, accepts, refl, refl)))
+      done (procedures ++ new ∷ []) (installed (length procedures)) (match_false _ _ _ e (inl (bound, accepts, refl, refl)))
   cases false e (inr none) = done procedures refused (match_false _ _ _ e (inr (none, refl, refl)))
 
--- code that was accepted has a run
-run_done : (client : ℕ) (code arguments : List ℕ) (entries : Entries) → client < 2 ^ 32 → IsAcceptedCode code → length arguments ≤ 256 → AreBytes arguments → IsTenantMap entries
-    → (after : Entries) × (result : List ℕ) × Runs client code arguments entries after result
-run_done client code arguments entries id accepted short all is =
-    let right = accepted_safe code accepted in
+-- a procedure that was accepted has a run
+run_done : (client : ℕ) (procedure : Procedure) (arguments : List ℕ) (entries : Entries) → client < 2 ^ 32 → IsAcceptedProcedure procedure → length arguments ≤ 256 → AreBytes arguments → IsTenantMap entries
+    → (after : Entries) × (result : List ℕ) × Runs client procedure.code arguments entries after result
+run_done client procedure arguments entries id accepted short all is =
+    let right = accepted_safe procedure accepted in
     let call : Call = record { arguments = arguments; client = client; entries = entries } in
     let end = right.safe.ends call (record { short = short; bytes = small_of arguments all; client = id; entries = is }) in
     (end.0.entries, called end.0.value end.0.output, record { insns = right.insns; is_code = right.is_code; ending = end.0; ends = end.1; entries_are = refl; result_is = refl })
 
-call_done : (client id : ℕ) (arguments : List ℕ) (procedures : List (List ℕ)) (entries : Entries) → client < 2 ^ 32 → All IsAcceptedCode procedures → AreBytes arguments → IsTenantMap entries
+call_done : (client id : ℕ) (arguments : List ℕ) (procedures : List Procedure) (entries : Entries) → client < 2 ^ 32 → All IsAcceptedProcedure procedures → AreBytes arguments → IsTenantMap entries
     → Done client (CallOf id arguments) procedures entries
 call_done client id arguments procedures entries below accepted all is = found (slice_get procedures id) refl where
   done : (after : Entries) (result : List ℕ) → Calls client procedures id arguments entries after result → Done client (CallOf id arguments) procedures entries
   done after result calls = record { procedures' = procedures; entries' = after; result = result; does = (calls, refl) }
 
-  ran : (code : List ℕ) → slice_get procedures id ≡ Some code → (b : Bool) → nat_lt 256 (length arguments) ≡ b → Done client (CallOf id arguments) procedures entries
-  ran code e true long = done entries arguments_too_long (match_some _ code _ _ e (match_true _ _ _ long (refl, refl)))
-  ran code e false short =
-      let mine : IsAcceptedCode code = subst IsAcceptedCode (get_or_from_slice_get procedures id code code e) (All-get_or IsAcceptedCode procedures id code (slice_get_within procedures id code e) accepted) in
-      let r = run_done client code arguments entries below mine (ltb-false 256 (length arguments) short) all is in
-      done r.0 r.1 (match_some _ code _ _ e (match_false _ _ _ short r.2))
+  ran : (procedure : Procedure) → slice_get procedures id ≡ Some procedure → (b : Bool) → nat_lt 256 (length arguments) ≡ b → Done client (CallOf id arguments) procedures entries
+  ran procedure e true long = done entries arguments_too_long (match_some _ procedure _ _ e (match_true _ _ _ long (refl, refl)))
+  ran procedure e false short =
+      let mine : IsAcceptedProcedure procedure = subst IsAcceptedProcedure (get_or_from_slice_get procedures id procedure procedure e) (All-get_or IsAcceptedProcedure procedures id procedure (slice_get_within procedures id procedure e) accepted) in
+      let r = run_done client procedure arguments entries below mine (ltb-false 256 (length arguments) short) all is in
+      done r.0 r.1 (match_some _ procedure _ _ e (match_false _ _ _ short r.2))
 
-  found : (o : Option (List ℕ)) → slice_get procedures id ≡ o → Done client (CallOf id arguments) procedures entries
+  found : (o : Option Procedure) → slice_get procedures id ≡ o → Done client (CallOf id arguments) procedures entries
   found None e = done entries no_procedure (match_none _ _ _ e (refl, refl))
-  found (Some code) e = ran code e (nat_lt 256 (length arguments)) refl
+  found (Some procedure) e = ran procedure e (nat_lt 256 (length arguments)) refl
 
-does_exist : (client : ℕ) (op : Operation) (procedures : List (List ℕ)) (entries : Entries) → client < 2 ^ 32 → All IsAcceptedCode procedures → IsOfBytes op → IsTenantMap entries → Done client op procedures entries
-does_exist client (Install code) procedures entries id accepted all is = install_done client code procedures entries all
+does_exist : (client : ℕ) (op : Operation) (procedures : List Procedure) (entries : Entries) → client < 2 ^ 32 → All IsAcceptedProcedure procedures → IsOfBytes op → IsTenantMap entries → Done client op procedures entries
+does_exist client (Install profile code) procedures entries id accepted all is = install_done client profile code procedures entries all
 does_exist client (CallOf p arguments) procedures entries id accepted all is = call_done client p arguments procedures entries id accepted all is
 does_exist client Bad procedures entries id accepted all is = record { procedures' = procedures; entries' = entries; result = bad_operation; does = (refl, refl, refl) }
 
@@ -197,21 +205,21 @@ steps_tenants s (Some request) t o same h = subst HasAllTenants (sym h.state_is)
 
 -- ---- maps stay maps
 
-calls_map : (client : ℕ) (procedures : List (List ℕ)) (id : ℕ) (arguments : List ℕ) (entries after : Entries) (result : List ℕ) → AreBytes arguments → IsTenantMap entries
+calls_map : (client : ℕ) (procedures : List Procedure) (id : ℕ) (arguments : List ℕ) (entries after : Entries) (result : List ℕ) → AreBytes arguments → IsTenantMap entries
     → Calls client procedures id arguments entries after result → IsTenantMap after
 calls_map client procedures id arguments entries after result all is h =
     one_of_option (slice_get procedures id) _ _ _
     (λ (x : (after ≡ entries) × (result ≡ no_procedure)). subst IsTenantMap (sym x.0) is)
-    (λ code. cases code (nat_lt 256 (length arguments)) refl) h where
+    (λ procedure. cases procedure.code (nat_lt 256 (length arguments)) refl) h where
       cases : (code : List ℕ) (b : Bool) → nat_lt 256 (length arguments) ≡ b
           → MatchBool b ((after ≡ entries) × (result ≡ arguments_too_long)) (Runs client code arguments entries after result) → IsTenantMap after
       cases code true e x = subst IsTenantMap (sym x.0) is
       cases code false e r =
           subst IsTenantMap (sym r.entries_are) (ending_map r.insns (record { arguments = arguments; client = client; entries = entries }) r.ending (ltb-false 256 (length arguments) e) all is r.ends)
 
-does_map : (client : ℕ) (op : Operation) (procedures : List (List ℕ)) (entries : Entries) (procedures' : List (List ℕ)) (entries' : Entries) (result : List ℕ) → IsOfBytes op → IsTenantMap entries
+does_map : (client : ℕ) (op : Operation) (procedures : List Procedure) (entries : Entries) (procedures' : List Procedure) (entries' : Entries) (result : List ℕ) → IsOfBytes op → IsTenantMap entries
     → Does client op procedures entries procedures' entries' result → IsTenantMap entries'
-does_map client (Install code) procedures entries procedures' entries' result all is h = subst IsTenantMap (sym h.1) is
+does_map client (Install profile code) procedures entries procedures' entries' result all is h = subst IsTenantMap (sym h.1) is
 does_map client (CallOf id arguments) procedures entries procedures' entries' result all is h = calls_map client procedures id arguments entries entries' result all is h.0
 does_map client Bad procedures entries procedures' entries' result all is h = subst IsTenantMap (sym h.1) is
 

@@ -17,12 +17,16 @@ use Rattle.host_types.specs.Configuration.{Configuration, insert_sorted, client_
 use Rattle.host_types.proofs.AscendingLemmas.{tenants_ascending}
 use Rattle.tenant_maps.specs.Entries.{Entries}
 use Rattle.tenant_maps.proofs.EntriesLemmas.{order, order_tells}
+use Rattle.service_model.specs.declared.version.Version.{Version}
+use Rattle.service_model.specs.declared.version.Version.TheVariants.{First, Second}
 use Rattle.service_model.specs.Words.{u32_bytes, u64_bytes}
-use Rattle.service_model.specs.TenantStates.{Replies, TenantState, Service, tenant_at, last_reply_of}
-use Rattle.service_model.specs.Encoding.{encoded, encoded_reply, encoded_replies, encoded_tenant, encoded_procedures, encoded_entries, length_prefixed, last_replies_of}
+use Rattle.service_model.specs.Versions.{version_number, IsTold}
+use Rattle.service_model.specs.TenantStates.{Procedure, Replies, TenantState, Service, tenant_at, last_reply_of}
+use Rattle.service_model.specs.Encoding.{encoded, encoded_in, encoded_reply, encoded_replies, encoded_tenant, encoded_procedure, encoded_procedures, encoded_entries, last_replies_of}
 use Rattle.service_model.specs.Sound.{IsSoundTenant, IsSound}
 use Rattle.service_model.specs.Bounded.{IsSizedMap, IsBoundedReply, IsBoundedTenant, IsBounded}
-use Rattle.service_model.proofs.PrefixFree.{FieldsInRange, same_length, free_bytes, free_eight, free_length_prefixed, free_list, free_reply}
+use Rattle.service_model.specs.Decoding.{IsToldIn, EncodesIn, Decodes}
+use Rattle.service_model.proofs.PrefixFree.{FieldsInRange, FitsIn, same_length, free_bytes, free_eight, free_procedure, free_list, free_reply}
 use Rattle.service_model.proofs.Clients.{Each, Ascends, OwnReplies, listed, client_ids_ascend, same_found}
 
 -- ---- a tenant's procedures and entries
@@ -49,13 +53,20 @@ same_entries a b e =
 small : (n m : ℕ) → n ≤ m → m < 2 ^ 32 → n < 2 ^ 32
 small n m le lt = omega (arith, le, lt)
 
-pub codes_short : (codes : List (List ℕ)) → All (λ code. length code ≤ 8192) codes → All (λ code. length code < 2 ^ 32) codes
-codes_short codes all = λ k d h. small _ 8192 (all k d h) (omega arith)
+-- procedures of at most 1,024 slots, whose profiles the version tells
+abbrev pub AreShort : List Procedure → Type 0
+AreShort procedures = All (λ procedure. length procedure.code ≤ 8192) procedures
 
-pub procedures_free : (xs ys : List (List ℕ)) (r t : List ℕ) → length xs ≤ 64 → length ys ≤ 64 → All (λ code. length code ≤ 8192) xs → All (λ code. length code ≤ 8192) ys
-    → encoded_procedures xs ++ r ≡ encoded_procedures ys ++ t → (xs ≡ ys) × (r ≡ t)
-procedures_free xs ys r t fx fy cx cy h =
-    free_list length_prefixed (λ code. length code < 2 ^ 32) free_length_prefixed xs ys r t (small _ 64 fx (omega arith), codes_short xs cx) (small _ 64 fy (omega arith), codes_short ys cy) h
+abbrev pub AreTold : Version → List Procedure → Type 0
+AreTold version procedures = All (λ procedure. IsTold version procedure.profile) procedures
+
+pub procedures_fit : (version : Version) (procedures : List Procedure) → AreShort procedures → AreTold version procedures → All (FitsIn version) procedures
+procedures_fit version procedures all told = λ k d h. (small _ 8192 (all k d h) (omega arith), told k d h)
+
+pub procedures_free : (version : Version) (xs ys : List Procedure) (r t : List ℕ) → length xs ≤ 64 → length ys ≤ 64 → AreShort xs → AreShort ys → AreTold version xs → AreTold version ys
+    → encoded_procedures version xs ++ r ≡ encoded_procedures version ys ++ t → (xs ≡ ys) × (r ≡ t)
+procedures_free version xs ys r t fx fy cx cy tx ty h =
+    free_list (encoded_procedure version) (FitsIn version) (free_procedure version) xs ys r t (small _ 64 fx (omega arith), procedures_fit version xs cx tx) (small _ 64 fy (omega arith), procedures_fit version ys cy ty) h
 
 pub entries_free : (a b : Entries) (r t : List ℕ) → IsSizedMap a → IsSizedMap b → encoded_entries a ++ r ≡ encoded_entries b ++ t → (a ≡ b) × (r ≡ t)
 entries_free a b r t fa fb h =
@@ -82,25 +93,26 @@ pub four_long : (n m : ℕ) → length (u32_bytes n) ≡ length (u32_bytes m)
 unfolding u32_bytes
 four_long n m = refl
 
-tenant_free : (n m : ℕ) (x y : TenantState) (r t : List ℕ) → x.tenant ≡ y.tenant → IsBoundedTenant n x → IsBoundedTenant m y → encoded_tenant x ++ r ≡ encoded_tenant y ++ t
+tenant_free : (version : Version) (n m : ℕ) (x y : TenantState) (r t : List ℕ) → x.tenant ≡ y.tenant → IsBoundedTenant n x → IsBoundedTenant m y → IsToldIn version x → IsToldIn version y → encoded_tenant version x ++ r ≡ encoded_tenant version y ++ t
     → (x.procedures ≡ y.procedures) × (x.entries ≡ y.entries) × (r ≡ t)
-tenant_free n m x y r t same fx fy h =
-    let id = same_length (u32_bytes x.tenant) (u32_bytes y.tenant) (encoded_procedures x.procedures ++ (encoded_entries x.entries ++ r)) (encoded_procedures y.procedures ++ (encoded_entries y.entries ++ t)) (four_long x.tenant y.tenant)
-    (sym (regrouped (u32_bytes x.tenant) (encoded_procedures x.procedures) (encoded_entries x.entries) r) ∙ h ∙ regrouped (u32_bytes y.tenant) (encoded_procedures y.procedures) (encoded_entries y.entries) t) in
-    let procedures = procedures_free x.procedures y.procedures (encoded_entries x.entries ++ r) (encoded_entries y.entries ++ t) fx.procedures_in_range fy.procedures_in_range fx.codes_in_range fy.codes_in_range id.1 in
+tenant_free version n m x y r t same fx fy tx ty h =
+    let id = same_length (u32_bytes x.tenant) (u32_bytes y.tenant) (encoded_procedures version x.procedures ++ (encoded_entries x.entries ++ r)) (encoded_procedures version y.procedures ++ (encoded_entries y.entries ++ t)) (four_long x.tenant y.tenant)
+    (sym (regrouped (u32_bytes x.tenant) (encoded_procedures version x.procedures) (encoded_entries x.entries) r) ∙ h ∙ regrouped (u32_bytes y.tenant) (encoded_procedures version y.procedures) (encoded_entries y.entries) t) in
+    let procedures = procedures_free version x.procedures y.procedures (encoded_entries x.entries ++ r) (encoded_entries y.entries ++ t) fx.procedures_in_range fy.procedures_in_range fx.codes_in_range fy.codes_in_range tx ty id.1 in
     let entries = entries_free x.entries y.entries r t fx.entries_in_range fy.entries_in_range procedures.1 in
     (procedures.0, entries.0, entries.1)
 
-tenants_free : (n m : ℕ) (xs ys : List TenantState) → map (λ x. x.tenant) xs ≡ map (λ y. y.tenant) ys → All (IsBoundedTenant n) xs → All (IsBoundedTenant m) ys
-    → flat_map encoded_tenant xs ≡ flat_map encoded_tenant ys → SameTenants xs ys
-tenants_free n m [] [] same fx fy h = tt
-tenants_free n m [] (y ∷ ys) same fx fy h = absurd (cc)
-tenants_free n m (x ∷ xs) [] same fx fy h = absurd (cc)
-tenants_free n m (x ∷ xs) (y ∷ ys) same fx fy h =
+tenants_free : (version : Version) (n m : ℕ) (xs ys : List TenantState) → map (λ x. x.tenant) xs ≡ map (λ y. y.tenant) ys → All (IsBoundedTenant n) xs → All (IsBoundedTenant m) ys
+    → All (IsToldIn version) xs → All (IsToldIn version) ys → flat_map (encoded_tenant version) xs ≡ flat_map (encoded_tenant version) ys → SameTenants xs ys
+tenants_free version n m [] [] same fx fy tx ty h = tt
+tenants_free version n m [] (y ∷ ys) same fx fy tx ty h = absurd (cc)
+tenants_free version n m (x ∷ xs) [] same fx fy tx ty h = absurd (cc)
+tenants_free version n m (x ∷ xs) (y ∷ ys) same fx fy tx ty h =
     let one : x.tenant ≡ y.tenant = cc in
     let others : map (λ z. z.tenant) xs ≡ map (λ z. z.tenant) ys = cc in
-    let first = tenant_free n m x y (flat_map encoded_tenant xs) (flat_map encoded_tenant ys) one (All-head (IsBoundedTenant n) x xs fx) (All-head (IsBoundedTenant m) y ys fy) h in
-    (one, first.0, first.1, tenants_free n m xs ys others (All-tail (IsBoundedTenant n) x xs fx) (All-tail (IsBoundedTenant m) y ys fy) first.2)
+    let first = tenant_free version n m x y (flat_map (encoded_tenant version) xs) (flat_map (encoded_tenant version) ys) one (All-head (IsBoundedTenant n) x xs fx) (All-head (IsBoundedTenant m) y ys fy)
+    (All-head (IsToldIn version) x xs tx) (All-head (IsToldIn version) y ys ty) h in
+    (one, first.0, first.1, tenants_free version n m xs ys others (All-tail (IsBoundedTenant n) x xs fx) (All-tail (IsBoundedTenant m) y ys fy) (All-tail (IsToldIn version) x xs tx) (All-tail (IsToldIn version) y ys ty) first.2)
 
 -- ---- each tenant is found by its id
 
@@ -288,23 +300,24 @@ replies_are_short s bounded = short_found s bounded (client_ids_of s.config.clie
 regrouped_state : (a b c d e : List ℕ) → (((a ++ b) ++ c) ++ d) ++ e ≡ a ++ (b ++ (c ++ (d ++ e)))
 regrouped_state a b c d e = simp append_assoc
 
-pub same_state : (s t : Service) → IsBounded s → IsBounded t → IsSound s → IsSound t → s.config ≡ t.config → encoded s ≡ encoded t → s ≡ t
-same_state s t bounded bounded' sound sound' config e = λ i. record { config = config i; number = number.0 i; tenants = tenants i } where
+same_state_in : (version : Version) (s t : Service) → IsBounded s → IsBounded t → IsSound s → IsSound t → All (IsToldIn version) s.tenants → All (IsToldIn version) t.tenants
+    → s.config ≡ t.config → encoded_in version s ≡ encoded_in version t → s ≡ t
+same_state_in version s t bounded bounded' sound sound' told told' config e = λ i. record { config = config i; number = number.0 i; tenants = tenants i } where
   clients : List ClientEntry
   clients = t.config.clients
 
   rest_of : Service → List ℕ
-  rest_of u = u32_bytes (length u.tenants) ++ flat_map encoded_tenant u.tenants
+  rest_of u = u32_bytes (length u.tenants) ++ flat_map (encoded_tenant version) u.tenants
 
-  spread : (u : Service) → encoded u ≡ 1 ∷ (u64_bytes u.number ++ (encoded_replies (last_replies_of u) ++ rest_of u))
-  spread u = regrouped_state (1 ∷ []) (u64_bytes u.number) (encoded_replies (last_replies_of u)) (u32_bytes (length u.tenants)) (flat_map encoded_tenant u.tenants)
+  spread : (u : Service) → encoded_in version u ≡ version_number version ∷ (u64_bytes u.number ++ (encoded_replies (last_replies_of u) ++ rest_of u))
+  spread u = regrouped_state (version_number version ∷ []) (u64_bytes u.number) (encoded_replies (last_replies_of u)) (u32_bytes (length u.tenants)) (flat_map (encoded_tenant version) u.tenants)
 
   below : (n : ℕ) → n < 2 ^ 48 → n < 2 ^ 64
   below n lt = omega (arith, lt)
 
   number : (s.number ≡ t.number) × (encoded_replies (last_replies_of s) ++ rest_of s ≡ encoded_replies (last_replies_of t) ++ rest_of t)
   number =
-      let version = same_length (1 ∷ []) (1 ∷ []) _ _ refl (sym (spread s) ∙ e ∙ spread t) in
+      let version = same_length (version_number version ∷ []) (version_number version ∷ []) _ _ refl (sym (spread s) ∙ e ∙ spread t) in
       free_eight s.number t.number _ _ (below s.number bounded.number_in_range) (below t.number bounded'.number_in_range) version.1
 
   replies : (last_replies_of s ≡ last_replies_of t) × (rest_of s ≡ rest_of t)
@@ -317,11 +330,11 @@ same_state s t bounded bounded' sound sound' config e = λ i. record { config = 
   same_count : length s.tenants ≡ length t.tenants
   same_count = sym (length-map s.tenants (λ x. x.tenant)) ∙ ap length same_ids ∙ length-map t.tenants (λ y. y.tenant)
 
-  parts : flat_map encoded_tenant s.tenants ≡ flat_map encoded_tenant t.tenants
+  parts : flat_map (encoded_tenant version) s.tenants ≡ flat_map (encoded_tenant version) t.tenants
   parts = (same_length (u32_bytes (length s.tenants)) (u32_bytes (length t.tenants)) _ _ (ap (λ (k : ℕ). length (u32_bytes k)) same_count) replies.1).1
 
   same : SameTenants s.tenants t.tenants
-  same = tenants_free s.number t.number s.tenants t.tenants same_ids bounded.tenants_in_range bounded'.tenants_in_range parts
+  same = tenants_free version s.number t.number s.tenants t.tenants same_ids bounded.tenants_in_range bounded'.tenants_in_range told told' parts
 
   agree : (q : ℕ) → IsSome (entry_of clients q) → last_reply_of s q ≡ last_reply_of t q
   agree q some = same_found (last_reply_of s) (last_reply_of t) (own_of s bounded) (own_of t bounded') (client_ids_of clients) (client_ids_ascend clients)
@@ -336,3 +349,30 @@ same_state s t bounded bounded' sound sound' config e = λ i. record { config = 
       (found_each t.tenants (ascends_like (tenants_of clients) t.tenants (tenants_ascending clients) bounded'.same_tenants))
       (subst (λ (c : Configuration). All (IsSoundTenant c.clients) s.tenants) config sound) sound'
       (λ q some. same_config q ∙ agree q some)
+
+-- version 2 tells each profile
+pub all_told : (parts : List TenantState) → All (IsToldIn Second) parts
+all_told parts = λ k part lt. λ i procedure below. tt
+
+pub same_state : (s t : Service) → IsBounded s → IsBounded t → IsSound s → IsSound t → s.config ≡ t.config → encoded s ≡ encoded t → s ≡ t
+same_state s t bounded bounded' sound sound' config e = same_state_in Second s t bounded bounded' sound sound' (all_told s.tenants) (all_told t.tenants) config e
+
+-- ---- bytes are an encoding of one state at most
+
+-- they tell their version
+pub one_version : (v w : Version) (r t : List ℕ) → version_number v ∷ r ≡ version_number w ∷ t → v ≡ w
+one_version First First r t e = refl
+one_version First Second r t e = let number : version_number First ≡ version_number Second = cc in absurd (omega (arith, number))
+one_version Second First r t e = let number : version_number Second ≡ version_number First = cc in absurd (omega (arith, number))
+one_version Second Second r t e = refl
+
+pub begins_with : (version : Version) (u : Service) → (rest : List ℕ) × (encoded_in version u ≡ version_number version ∷ rest)
+begins_with version u = (_, regrouped_state (version_number version ∷ []) (u64_bytes u.number) (encoded_replies (last_replies_of u)) (u32_bytes (length u.tenants)) (flat_map (encoded_tenant version) u.tenants))
+
+pub same_decoded : (config : Configuration) (bytes : List ℕ) (s t : Service) → Decodes config bytes s → Decodes config bytes t → s ≡ t
+same_decoded config bytes s t (v, is) (w, is') =
+    let first = begins_with v s in
+    let other = begins_with w t in
+    let same : w ≡ v = one_version w v other.0 first.0 (sym other.1 ∙ is'.encodes ∙ sym is.encodes ∙ first.1) in
+    let here : EncodesIn v config bytes t = subst (λ (x : Version). EncodesIn x config bytes t) same is' in
+    same_state_in v s t is.bounded here.bounded is.sound here.sound is.told here.told (is.config_is ∙ sym here.config_is) (is.encodes ∙ sym here.encodes)

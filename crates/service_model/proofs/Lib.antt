@@ -14,3 +14,4 @@ pub mod Reading
 pub mod CodeBytes
 pub mod Decoder
 pub mod Decided
+pub mod TenantsApart

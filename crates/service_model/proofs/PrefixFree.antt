@@ -5,8 +5,15 @@ use Rattle.std.specs.Int.{w32, w64, from_be_bytes}
 use Rattle.std.proofs.lemmas.List.Elements.{All-head, All-tail}
 use Rattle.std.proofs.lemmas.Nat.{from_be_bytes-to_be_bytes_4, from_be_bytes-to_be_bytes_8}
 use Rattle.host_types.specs.declared.request.Reply.{Reply}
+use Rattle.bpf_model.specs.declared.profile.Profile.{Profile}
+use Rattle.bpf_model.specs.declared.profile.Profile.TheVariants.{One, Two}
+use Rattle.bpf_model.specs.Profiles.{number_of}
+use Rattle.service_model.specs.declared.version.Version.{Version}
+use Rattle.service_model.specs.declared.version.Version.TheVariants.{First, Second}
 use Rattle.service_model.specs.Words.{u32_bytes, u64_bytes}
-use Rattle.service_model.specs.Encoding.{length_prefixed, encoded_reply}
+use Rattle.service_model.specs.Versions.{encoded_profile, IsTold}
+use Rattle.service_model.specs.TenantStates.{Procedure}
+use Rattle.service_model.specs.Encoding.{length_prefixed, encoded_procedure, encoded_reply}
 
 abbrev pub IsPrefixFree : {A : Type 0} → (A → List ℕ) → (A → Type 0) → Type 0
 IsPrefixFree {A} s F = (x y : A) (r t : List ℕ) → F x → F y → s x ++ r ≡ s y ++ t → (x ≡ y) × (r ≡ t)
@@ -47,6 +54,27 @@ pub free_length_prefixed : IsPrefixFree length_prefixed (λ bytes. length bytes 
 free_length_prefixed x y r t p q h =
     let one = free_four (length x) (length y) (x ++ r) (y ++ t) p q (sym (append_assoc (u32_bytes (length x)) x r) ∙ h ∙ append_assoc (u32_bytes (length y)) y t) in
     same_length x y r t one.0 one.1
+
+-- a profile that the version tells
+pub free_profile : (version : Version) → IsPrefixFree (encoded_profile version) (IsTold version)
+free_profile First x y r t p q h = (p ∙ sym q, h)
+free_profile Second x y r t p q h = let number : number_of x ≡ number_of y = cc in let rest : r ≡ t = cc in (same x y number, rest) where
+  same : (x y : Profile) → number_of x ≡ number_of y → x ≡ y
+  same One One e = refl
+  same One Two e = absurd (omega (arith, e))
+  same Two One e = absurd (omega (arith, e))
+  same Two Two e = refl
+
+-- a procedure that the version tells
+abbrev pub FitsIn : Version → Procedure → Type 0
+FitsIn version procedure = (length procedure.code < 2 ^ 32) × IsTold version procedure.profile
+
+pub free_procedure : (version : Version) → IsPrefixFree (encoded_procedure version) (FitsIn version)
+free_procedure version x y r t p q h =
+    let profile = free_profile version x.profile y.profile (length_prefixed x.code ++ r) (length_prefixed y.code ++ t) p.1 q.1
+    (sym (append_assoc (encoded_profile version x.profile) (length_prefixed x.code) r) ∙ h ∙ append_assoc (encoded_profile version y.profile) (length_prefixed y.code) t) in
+    let code = free_length_prefixed x.code y.code r t p.0 q.0 profile.1 in
+    (λ i. record { profile = profile.0 i; code = code.0 i }, code.1)
 
 pub free_items : {A : Type 0} (s : A → List ℕ) (F : A → Type 0) → IsPrefixFree s F → (xs ys : List A) (r t : List ℕ) → length xs ≡ length ys → All F xs → All F ys
     → flat_map s xs ++ r ≡ flat_map s ys ++ t → (xs ≡ ys) × (r ≡ t)

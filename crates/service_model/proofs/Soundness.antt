@@ -11,16 +11,15 @@ use Rattle.host_types.specs.declared.config.ClientEntry.{ClientEntry}
 use Rattle.host_types.specs.declared.request.Request.{Request}
 use Rattle.host_types.specs.declared.request.Reply.{Reply}
 use Rattle.host_types.specs.Configuration.{Configuration, tenants_of, entry_of}
-use Rattle.bpf_model.specs.Verdict.{Accepts}
+use Rattle.bpf_model.specs.Verdict.{AcceptsUnder}
 use Rattle.bpf_model.proofs.Options.{some_is}
 use Rattle.bpf_model.proofs.Safety.{safe}
-use Rattle.bpf_model.specs.declared.profile.Profile.TheVariants.{One}
 use Rattle.tenant_maps.specs.Entries.{Entries}
 use Rattle.service_model.specs.declared.outcome.Outcome.{Outcome}
 use Rattle.service_model.specs.Operations.{Operation, Install, Call, Bad, operation_of, Installs, Does, installed, refused, too_many_procedures}
-use Rattle.service_model.specs.TenantStates.{Replies, TenantState, Service, empty_tenant, genesis_of, tenant_at, with_tenant}
+use Rattle.service_model.specs.TenantStates.{Procedure, Replies, TenantState, Service, empty_tenant, genesis_of, tenant_at, with_tenant}
 use Rattle.service_model.specs.Steps.{reply_to, Executes, IsTenantStep, IsStep, Follows}
-use Rattle.service_model.specs.Sound.{IsAcceptedCode, IsSoundTenant, IsSound, CannotGoWrong, NoneGoesWrong}
+use Rattle.service_model.specs.Sound.{IsAcceptedProcedure, IsSoundTenant, IsSound, CannotGoWrong, NoneGoesWrong}
 
 pub one_of_bool : (b : Bool) (P Q C : Type 0) → (P → C) → (Q → C) → MatchBool b P Q → C
 one_of_bool true P Q C one two h = one h
@@ -46,20 +45,20 @@ all_with_tenant P changed (part ∷ parts) new all = cases (eqb part.tenant chan
   cases false rest = All-cons P part (with_tenant changed parts) (All-head P part parts all) rest
 
 -- the procedures after an installation
-installs_accepted : (procedures : List (List ℕ)) (code : List ℕ) (after : List (List ℕ)) (result : List ℕ) → All IsAcceptedCode procedures → Installs procedures code after result → All IsAcceptedCode after
-installs_accepted procedures code after result all h =
+installs_accepted : (procedures : List Procedure) (new : Procedure) (after : List Procedure) (result : List ℕ) → All IsAcceptedProcedure procedures → Installs procedures new after result → All IsAcceptedProcedure after
+installs_accepted procedures new after result all h =
     one_of_bool (nat_le 64 (length procedures)) _ _ _
-    (λ (x : (after ≡ procedures) × (result ≡ too_many_procedures)). subst (All IsAcceptedCode) (sym x.0) all)
+    (λ (x : (after ≡ procedures) × (result ≡ too_many_procedures)). subst (All IsAcceptedProcedure) (sym x.0) all)
     cases h where
-      cases : ((bound : ℕ) × Accepts code bound × (after ≡ procedures ++ code ∷ []) × (result ≡ installed (length procedures))) ⊎ (((bound : ℕ) → Accepts code bound → ⊥) × (after ≡ procedures) × (result ≡ refused)) → All IsAcceptedCode after
-      cases (inl x) = subst (All IsAcceptedCode) (sym x.2) (All-push IsAcceptedCode procedures code all (x.0, x.1))
-      cases (inr x) = subst (All IsAcceptedCode) (sym x.1) all
+      cases : ((bound : ℕ) × AcceptsUnder new.profile new.code bound × (after ≡ procedures ++ new ∷ []) × (result ≡ installed (length procedures))) ⊎ (((bound : ℕ) → AcceptsUnder new.profile new.code bound → ⊥) × (after ≡ procedures) × (result ≡ refused)) → All IsAcceptedProcedure after
+      cases (inl x) = subst (All IsAcceptedProcedure) (sym x.2) (All-push IsAcceptedProcedure procedures new all (x.0, x.1))
+      cases (inr x) = subst (All IsAcceptedProcedure) (sym x.1) all
 
-does_accepted : (client : ℕ) (op : Operation) (procedures : List (List ℕ)) (entries : Entries) (procedures' : List (List ℕ)) (entries' : Entries) (result : List ℕ) → All IsAcceptedCode procedures
-    → Does client op procedures entries procedures' entries' result → All IsAcceptedCode procedures'
-does_accepted client (Install code) procedures entries procedures' entries' result all h = installs_accepted procedures code procedures' result all h.0
-does_accepted client (Call id arguments) procedures entries procedures' entries' result all h = subst (All IsAcceptedCode) (sym h.1) all
-does_accepted client Bad procedures entries procedures' entries' result all h = subst (All IsAcceptedCode) (sym h.0) all
+does_accepted : (client : ℕ) (op : Operation) (procedures : List Procedure) (entries : Entries) (procedures' : List Procedure) (entries' : Entries) (result : List ℕ) → All IsAcceptedProcedure procedures
+    → Does client op procedures entries procedures' entries' result → All IsAcceptedProcedure procedures'
+does_accepted client (Install profile code) procedures entries procedures' entries' result all h = installs_accepted procedures (record { profile = profile; code = code }) procedures' result all h.0
+does_accepted client (Call id arguments) procedures entries procedures' entries' result all h = subst (All IsAcceptedProcedure) (sym h.1) all
+does_accepted client Bad procedures entries procedures' entries' result all h = subst (All IsAcceptedProcedure) (sym h.0) all
 
 executes_sound : (clients : List ClientEntry) (number : ℕ) (part : TenantState) (request : Request) (after : TenantState) (reply : Option Reply) (kept : Bool)
     → IsSomeAnd (entry_of clients request.client.0) (λ entry. entry.tenant.0 ≡ part.tenant) → IsSoundTenant clients part → Executes number part request after reply kept → IsSoundTenant clients after
@@ -107,7 +106,7 @@ empty_sound : (clients : List ClientEntry) (tenants : List TenantId) → All (Is
 empty_sound clients [] = All-nil (IsSoundTenant clients)
 empty_sound clients (tenant ∷ tenants) =
     All-cons (IsSoundTenant clients) (empty_tenant tenant.0) (map (λ t. empty_tenant t.0) tenants)
-    (record { accepted = All-nil IsAcceptedCode; own = λ q some. absurd (nothing q some) }) (empty_sound clients tenants) where
+    (record { accepted = All-nil IsAcceptedProcedure; own = λ q some. absurd (nothing q some) }) (empty_sound clients tenants) where
       nothing : (q : ℕ) → IsSome (finite.get (finite.empty {X = Reply} {R = nat_cmp}) q) → ⊥
       nothing q some = none (finite.get (finite.empty {X = Reply} {R = nat_cmp}) q) (finite.get-empty nat_cmp q) some where
         none : (o : Option Reply) → o ≡ None → IsSome o → ⊥
@@ -124,11 +123,11 @@ follows_sound state [] after outcomes sound h = subst IsSound (sym h.0) sound
 follows_sound state (request ∷ requests) after outcomes sound (mid, outcome, others, step, rest, e) =
     follows_sound mid requests after others (step_sound state request mid outcome sound step) rest
 
-pub accepted_safe : (code : List ℕ) → IsAcceptedCode code → CannotGoWrong code
-accepted_safe code (bound, (insns, is, accepted)) =
-    record { insns = insns; bound = bound; is_code = is; accepted = accepted; safe = safe One code insns bound is accepted }
+pub accepted_safe : (procedure : Procedure) → IsAcceptedProcedure procedure → CannotGoWrong procedure
+accepted_safe procedure (bound, (insns, is, accepted)) =
+    record { insns = insns; bound = bound; is_code = is; accepted = accepted; safe = safe procedure.profile procedure.code insns bound is accepted }
 
 pub none_goes_wrong : (config : Configuration) (requests : List (Option Request)) (after : Service) (outcomes : List Outcome) → Follows (genesis_of config) requests after outcomes → NoneGoesWrong after
 none_goes_wrong config requests after outcomes h =
     let sound = follows_sound (genesis_of config) requests after outcomes (genesis_sound config) h in
-    λ k part within. let mine = sound k part within in λ j code there. accepted_safe _ (mine.accepted j code there)
+    λ k part within. let mine = sound k part within in λ j procedure there. accepted_safe _ (mine.accepted j procedure there)

@@ -24,7 +24,7 @@ pub record IsBoundedReply (taken client : ℕ) (reply : Reply) : Type 0 where
 -- A tenant's part: at most 64 procedures of at most 1,024 slots, a tenant's map, and last replies within their bounds.
 pub record IsBoundedTenant (taken : ℕ) (tenant : TenantState) : Type 0 where
   pub procedures_in_range : length tenant.procedures ≤ 64
-  pub codes_in_range : All (λ code. length code ≤ 8192) tenant.procedures
+  pub codes_in_range : All (λ procedure. length procedure.code ≤ 8192) tenant.procedures
   pub entries_in_range : IsSizedMap tenant.entries
   pub replies_in_range : (client : ℕ) → IfSome (finite.get tenant.last_replies client) (IsBoundedReply taken client)
 

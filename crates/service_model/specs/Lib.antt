@@ -1,4 +1,5 @@
 pub mod Words
+pub mod Versions
 pub mod Operations
 pub mod TenantStates
 pub mod Equality

@@ -7,7 +7,7 @@ use Rattle.host_types.specs.Configuration.{Configuration}
 use Rattle.tenant_maps.specs.Entries.{Entries}
 use Rattle.service_model.specs.declared.outcome.Outcome.{Outcome}
 use Rattle.service_model.specs.Operations.{operation_of, Does}
-use Rattle.service_model.specs.TenantStates.{TenantState, Service, genesis_of, tenant_of, with_tenant}
+use Rattle.service_model.specs.TenantStates.{Procedure, TenantState, Service, genesis_of, tenant_of, with_tenant}
 
 -- the reply to a request that was done as this number
 abbrev pub reply_to : Request → ℕ → List ℕ → Reply
@@ -16,7 +16,7 @@ reply_to request number result =
 
 -- The operation of the request is done, and its reply is the last one to its client from then on.
 pub record Executes (number : ℕ) (part : TenantState) (request : Request) (after : TenantState) (reply : Option Reply) (kept : Bool) : Type 0 where
-  pub procedures : List (List ℕ)
+  pub procedures : List Procedure
   pub entries : Entries
   pub result : List ℕ
   pub does : Does request.client.0 (operation_of request.op) part.procedures part.entries procedures entries result

@@ -4,6 +4,7 @@ use Rattle.std.specs.Ordering.{nat_cmp}
 use Rattle.std.specs.FinMap as finite
 use Rattle.host_types.specs.declared.request.Reply.{Reply}
 use Rattle.host_types.specs.Configuration.{Configuration, tenants_of, entry_of}
+use Rattle.bpf_model.specs.declared.profile.Profile.{Profile}
 use Rattle.tenant_maps.specs.Entries.{Entries}
 
 -- the last reply to each client that has one, by the client's id
@@ -14,10 +15,15 @@ abbrev pub replies_of : List Reply → Replies
 replies_of [] = finite.empty
 replies_of (reply ∷ replies) = finite.insert (replies_of replies) reply.client.0 reply
 
--- A tenant's part: the code of its procedures by id, its map, and its clients' last replies.
+-- A procedure: the profile under which the verifier accepted it, and its code.
+pub record Procedure : Type 0 where
+  pub profile : Profile
+  pub code : List ℕ
+
+-- A tenant's part: its procedures by id, its map, and its clients' last replies.
 pub record TenantState : Type 0 where
   pub tenant : ℕ
-  pub procedures : List (List ℕ)
+  pub procedures : List Procedure
   pub entries : Entries
   pub last_replies : Replies
 

@@ -5,12 +5,13 @@ ghost use Rattle.host_types.specs.declared.request.Request.{Request};
 ghost use Rattle.host_types.specs.declared.request.Reply.{Reply};
 ghost use Rattle.service_model.specs.declared.outcome.Outcome.{Outcome};
 ghost use Rattle.host_types.specs.Configuration.{Configuration, IsConfiguration};
-ghost use Rattle.service_model.specs.TenantStates.{Service, genesis_of, last_reply_of};
+ghost use Rattle.service_model.specs.TenantStates.{TenantState, Service, genesis_of, tenant_at, tenant_of, last_reply_of};
 ghost use Rattle.service_model.specs.Steps.{IsStep, Serves};
 ghost use Rattle.service_model.specs.Sound.{IsSound, NoneGoesWrong};
 ghost use Rattle.service_model.specs.Bounded.{IsBounded};
 ghost use Rattle.service_model.specs.Asked.{CanAsk, HasTenantMaps};
-ghost use Rattle.service_model.specs.Decoding.{Encodes};
+ghost use Rattle.service_model.specs.declared.version.Version.{Version};
+ghost use Rattle.service_model.specs.Decoding.{EncodesIn, Decodes};
 ghost use Rattle.service_model.specs.Encoding.{encoded};
 
 /// A step of the service has one outcome: the state and the request determine the state after it and
@@ -20,7 +21,20 @@ pub fn a_step_has_one_outcome()
         IsStep state request after outcome → IsStep state request after' outcome' → (after ≡ after') × (outcome ≡ outcome') }
 {}
 
-/// Every procedure of a state that the service reaches is code that the verifier accepts, and every
+/// A request is its tenant's: what comes of it follows from the number and from the part of its client's tenant
+/// alone. Where two states agree on both, the request leaves that tenant the same part and has the same outcome.
+/// Every other tenant's part stays as it was.
+pub fn a_request_is_its_tenants()
+    ensures same { (state other : Service) (request : Request) (after after' : Service) (outcome outcome' : Outcome) →
+        state.number ≡ other.number → tenant_of state request.client.0 ≡ tenant_of other request.client.0 →
+        IsStep state (Some request) after outcome → IsStep other (Some request) after' outcome' →
+        (tenant_of after request.client.0 ≡ tenant_of after' request.client.0) × (outcome ≡ outcome') }
+    ensures others { (state : Service) (request : Request) (after : Service) (outcome : Outcome) (part : TenantState) (tenant : ℕ) →
+        IsStep state (Some request) after outcome → tenant_of state request.client.0 ≡ Some part →
+        (tenant ≡ part.tenant → ⊥) → tenant_at after.tenants tenant ≡ tenant_at state.tenants tenant }
+{}
+
+/// Every procedure of a state that the service reaches is code that the verifier accepts under its profile, and every
 /// last reply is one to a client of its tenant.
 pub fn states_are_sound()
     ensures first { (config : Configuration) → IsSound (genesis_of config) }
@@ -45,15 +59,17 @@ pub fn installed_procedures_cannot_go_wrong()
 {}
 
 /// A state's bytes determine the state: two states that the service reaches under one configuration are
-/// equal where their bytes are.
+/// equal where their bytes are. So bytes are an encoding of one state at most, of whichever version.
 pub fn equal_bytes_are_equal_states()
-    ensures { (state other : Service) → IsBounded state → IsBounded other → IsSound state → IsSound other →
+    ensures canonical { (state other : Service) → IsBounded state → IsBounded other → IsSound state → IsSound other →
         state.config ≡ other.config → encoded state ≡ encoded other → state ≡ other }
+    ensures decoded { (config : Configuration) (bytes : List ℕ) (state other : Service) →
+        Decodes config bytes state → Decodes config bytes other → state ≡ other }
 {}
 
 /// Every state that the service reaches keeps its bounds. A request's client and time have their
 /// ranges, and the number stays below 2^48. A last reply is one to its client, and after a step with a
-/// reply it is that one. Its bytes are at most 5,787,825, which a message has room for.
+/// reply it is that one. Its bytes are at most 5,788,337, which a message has room for.
 pub fn states_are_bounded()
     ensures first { (config : Configuration) → IsConfiguration config → IsBounded (genesis_of config) }
     ensures next { (state : Service) (request : Option Request) (after : Service) (outcome : Outcome) →
@@ -61,7 +77,7 @@ pub fn states_are_bounded()
         IsStep state request after outcome → IsBounded after }
     ensures own { (state : Service) → IsBounded state → (client : ℕ) (reply : Reply) →
         last_reply_of state client ≡ Some reply → reply.client.0 ≡ client }
-    ensures length { (state : Service) → IsBounded state → length (encoded state) ≤ 5_787_825 }
+    ensures length { (state : Service) → IsBounded state → length (encoded state) ≤ 5_788_337 }
     ensures last { (state : Service) (request : Request) (after : Service) (outcome : Outcome) (reply : Reply) →
         IsStep state (Some request) after outcome → outcome.reply ≡ Some reply → last_reply_of after request.client.0 ≡ Some reply }
 {}
@@ -88,9 +104,9 @@ pub fn a_step_exists()
         (after : Service) × (outcomes : List Outcome) × Serves config requests after outcomes }
 {}
 
-/// Whether bytes encode a state under a configuration is decided, for every list of bytes: a decoder finds the
-/// state that they encode, or they encode none.
+/// Whether bytes encode a state under a configuration is decided, for each version and every list of bytes: a decoder
+/// finds the state that they encode, or they encode none.
 pub fn an_encoding_is_decided()
-    ensures { (config : Configuration) (bytes : List ℕ) →
-        ((state : Service) × Encodes config bytes state) ⊎ ((state : Service) → Encodes config bytes state → ⊥) }
+    ensures { (version : Version) (config : Configuration) (bytes : List ℕ) →
+        ((state : Service) × EncodesIn version config bytes state) ⊎ ((state : Service) → EncodesIn version config bytes state → ⊥) }
 {}

@@ -1,6 +1,6 @@
 //! Bytes that encode a state under a configuration, and bytes near them that encode none.
 
-use crate::answers::FULL_STATE;
+use crate::answers::{FIRST_FULL_STATE, FULL_STATE};
 use crate::service::{bytes_of, config, halves};
 use host_types::Config;
 use service_core::{State, StateFault};
@@ -11,11 +11,11 @@ use std::test::Fail;
 /// The clients of `FULL_STATE`.
 const CLIENTS: &str = "300:2 100:1 200:1 150:2";
 
-/// Whether bytes are read as a state, which then has these bytes.
+/// Whether bytes are read as a state, which then has these bytes, unless they are of version 1.
 pub(crate) fn is_state(alloc: Global, config: &Arc<Config>, bytes: &[u8]) -> Result<bool, Fail> {
     match State::from_bytes(alloc, config.clone()?, bytes) {
         Ok(state) => {
-            if state.to_bytes()?.as_slice() != bytes {
+            if bytes.first() != Some(&1) && state.to_bytes()?.as_slice() != bytes {
                 return Err(Fail::new("other bytes"));
             }
             Ok(true)
@@ -60,11 +60,14 @@ pub(crate) fn wants(
 }
 
 /// Changes of `FULL_STATE`, which has the number in bytes 1 to 8; the replies to 100, 200 and 300 from 13, 46 and
-/// 79; their tenants 1 and 2 from 112 and 388, of 2 procedures and 3 keys and of 1 procedure and none.
+/// 79; their tenants 1 and 2 from 112 and 390, of 2 procedures and 3 keys and of 1 procedure and none. The last
+/// procedure has its profile in byte 398, its length behind it, and its code from 403 on.
 const CHANGES: &str = "\
-yes | 0 1 01 | nothing\n\
-no | 420 420 00 | a byte more\n\
-no | 0 1 02 | version 2\n\
+yes | 0 1 02 | nothing\n\
+no | 423 423 00 | a byte more\n\
+no | 0 1 00 | version 0\n\
+no | 0 1 01 | version 1, in which no profile stands\n\
+no | 0 1 03 | version 3\n\
 no | 2 3 01 | the number 2^48 + 6\n\
 no | 1 9 0001000000000000 | the number 2^48\n\
 yes | 3 9 ff*6 | the number 2^48 - 1\n\
@@ -77,14 +80,21 @@ no | 81 83 00c8 | a client twice\n\
 yes | 101 103 0109*131 | a result of 265 bytes\n\
 no | 101 104 010a*132 | a result of 266 bytes\n\
 yes | 33 46 00000000 | a result of no bytes\n\
-no | 388 420 -, 111 112 01 | a tenant missing\n\
-no | 391 392 01 | a tenant twice\n\
-no | 391 392 01, 115 116 02 | tenants out of order\n\
-yes | 396 396 00000010b7000000070000009500000000000000*63, 395 396 40 | 64 procedures\n\
-no | 396 396 00000010b7000000070000009500000000000000*64, 395 396 41 | 65 procedures\n\
-no | 408 409 b7 | a procedure that falls off its end\n\
-no | 292 295 00*3 | a key twice\n\
-no | 292 293 03 | a key out of order\n\
+no | 390 423 -, 111 112 01 | a tenant missing\n\
+no | 393 394 01 | a tenant twice\n\
+no | 393 394 01, 115 116 02 | tenants out of order\n\
+yes | 398 398 0100000010b7000000070000009500000000000000*63, 397 398 40 | 64 procedures\n\
+no | 398 398 0100000010b7000000070000009500000000000000*64, 397 398 41 | 65 procedures\n\
+no | 411 412 b7 | a procedure that falls off its end\n\
+yes | 398 399 02 | profile 2\n\
+no | 398 399 00 | profile 0\n\
+no | 398 399 03 | profile 3\n\
+no | 398 403 0000001001 | a profile behind the length\n\
+no | 398 399 - | no profile\n\
+yes | 398 419 020000003071120000000000007b2af8ff0000000079a3f8ff000000000f3100000000000071100000000000009500000000000000 | code that profile 2 accepts\n\
+no | 398 419 010000003071120000000000007b2af8ff0000000079a3f8ff000000000f3100000000000071100000000000009500000000000000 | code that profile 1 refuses\n\
+no | 294 297 00*3 | a key twice\n\
+no | 294 295 03 | a key out of order\n\
 ";
 
 #[test]
@@ -92,6 +102,36 @@ fn a_changed_encoding_is_of_no_state(rt: HostRuntime) -> Result<(), Fail> {
     let clients = config(rt.alloc(), CLIENTS)?;
     let bytes = bytes_of(rt.alloc(), FULL_STATE)?;
     wants(rt.alloc(), &clients, &bytes, CHANGES)
+}
+
+/// Changes of `FIRST_FULL_STATE`: the last procedure has its length from byte 396 on, and its code from 400 on.
+const FIRST_CHANGES: &str = "\
+yes | 0 1 01 | nothing\n\
+no | 420 420 00 | a byte more\n\
+no | 0 1 02 | version 2, in which profiles stand\n\
+no | 396 396 01 | a profile told\n\
+yes | 400 408 b700000008000000 | other code\n\
+no | 396 416 0000003071120000000000007b2af8ff0000000079a3f8ff000000000f3100000000000071100000000000009500000000000000 | code that profile 1 refuses\n\
+no | 396 416 020000003071120000000000007b2af8ff0000000079a3f8ff000000000f3100000000000071100000000000009500000000000000 | a procedure of profile 2\n\
+";
+
+#[test]
+fn bytes_of_version_1_are_of_procedures_of_profile_1(rt: HostRuntime) -> Result<(), Fail> {
+    let clients = config(rt.alloc(), CLIENTS)?;
+    let bytes = bytes_of(rt.alloc(), FIRST_FULL_STATE)?;
+    wants(rt.alloc(), &clients, &bytes, FIRST_CHANGES)
+}
+
+#[test]
+fn the_canonical_encoding_is_of_version_2(rt: HostRuntime) -> Result<(), Fail> {
+    let clients = config(rt.alloc(), CLIENTS)?;
+    let first = bytes_of(rt.alloc(), FIRST_FULL_STATE)?;
+    let second = bytes_of(rt.alloc(), FULL_STATE)?;
+    let canonical = State::from_canonical(rt.alloc(), clients.clone()?, &second)?;
+    assert!(rt; canonical.to_bytes()?.as_slice() == second.as_slice());
+    let fault = State::from_canonical(rt.alloc(), clients.clone()?, &first).err();
+    assert!(rt; fault == Some(StateFault::BadState));
+    Ok(())
 }
 
 /// Whether `FULL_STATE` encodes a state under other clients: none without a reply, one that is not listed, a
@@ -144,7 +184,7 @@ fn agree(first: Option<StateFault>, second: Option<StateFault>) -> bool {
 fn want_of_memory_is_no_other_answer(rt: HostRuntime) -> Result<(), Fail> {
     let clients = config(rt.alloc(), CLIENTS)?;
     let bytes = bytes_of(rt.alloc(), FULL_STATE)?;
-    for length in [419, 420] {
+    for length in [422, 423] {
         let part = bytes.get(..length).ok_or("too short")?;
         let first = fault(rt.alloc(), &clients, part)?;
         let second = fault(rt.alloc(), &clients, part)?;

@@ -14,14 +14,15 @@ const CLIENTS: [u32; 6] = [300, 100, 200, 150, 400, 16];
 
 const PAIRS: &str = "300:2 100:1 200:1 150:2 400:7 16:3";
 
-/// What is installed: code that puts an entry, returns 7, copies an entry, removes one, emits the arguments; and
-/// code that is refused, since it falls off its end.
-const CODES: [&str; 6] = [
+/// What is installed: code that puts an entry, returns 7, copies an entry, removes one, emits the arguments; code
+/// that profile 2 alone accepts; and code that is refused, since it falls off its end.
+const CODES: [&str; 7] = [
     "bf12000000000000070200001000000085000000020000009500000000000000",
     "b7000000070000009500000000000000",
     "bf16000000000000bf1200000000000007020000100000008500000001000000bf610000000000000701000030000000bf62000000000000070200001000000085000000020000009500000000000000",
     "85000000030000009500000000000000",
     "b70200000001000085000000060000009500000000000000",
+    "71120000000000007b2af8ff0000000079a3f8ff000000000f3100000000000071100000000000009500000000000000",
     "b700000000000000",
 ];
 
@@ -54,8 +55,9 @@ impl Numbers {
         match self.below(8) {
             0 => String::from_str(alloc, "raw 09"),
             1 | 2 => {
-                let code = CODES[self.below(6) as usize];
-                format!(in alloc; "install {code}")
+                let code = CODES[self.below(7) as usize];
+                let verb = ["install", "install2"][self.below(2) as usize];
+                format!(in alloc; "{verb} {code}")
             }
             _ => {
                 let (procedure, key, value) = (self.below(6), self.below(20), self.below(256));
@@ -129,7 +131,7 @@ fn a_state_with_a_byte_changed_is_read_exactly(rt: HostRuntime) -> Result<(), Fa
     let bytes = bytes_of(rt.alloc(), FULL_STATE)?;
     let mut numbers = Numbers { last: 20_270_101 };
     let mut states = 0u32;
-    for step in 0..3360 {
+    for step in 0..3384 {
         let byte = (numbers.next() >> 24) as u8;
         let changed = with_byte(rt.alloc(), &bytes, step / 8, byte)?;
         states = states.saturating_add(u32::from(is_state(rt.alloc(), &clients, &changed)?));

@@ -9,12 +9,13 @@ fn put_number(bytes: &mut Vec<u8>, number: u32) -> Result<(), AllocError> {
     bytes.extend_from_slice(&number.to_be_bytes())
 }
 
-/// A tenant with 64 procedures of 1,024 slots, which put 7 into r0 and exit, and 4,096 entries, whose keys
-/// have their number in the first four bytes: 721,164 bytes.
+/// A tenant with 64 procedures of 1,024 slots, of profile 1 and 2 in turn, which put 7 into r0 and exit, and
+/// 4,096 entries, whose keys have their number in the first four bytes: 721,228 bytes.
 fn put_tenant(bytes: &mut Vec<u8>, tenant: u32) -> Result<(), AllocError> {
     put_number(bytes, tenant)?;
     put_number(bytes, 64)?;
-    for _ in 0..64 {
+    for index in 0..64u8 {
+        bytes.push(1 + index % 2)?;
         put_number(bytes, 8192)?;
         for _ in 0..1023 {
             bytes.extend_from_slice(&[0xb7, 0, 0, 0, 7, 0, 0, 0])?;
@@ -42,7 +43,7 @@ fn put_replies(bytes: &mut Vec<u8>) -> Result<(), AllocError> {
 
 /// A state of 64 clients and 8 tenants, the number 1,000.
 fn largest(alloc: Global) -> Result<Vec<u8>, AllocError> {
-    let mut bytes = [1, 0, 0, 0, 0, 0, 0, 3, 0xe8, 0, 0, 0, 64].to_vec(alloc)?;
+    let mut bytes = [2, 0, 0, 0, 0, 0, 0, 3, 0xe8, 0, 0, 0, 64].to_vec(alloc)?;
     put_replies(&mut bytes)?;
     put_number(&mut bytes, 8)?;
     for tenant in 1..9 {
@@ -51,16 +52,16 @@ fn largest(alloc: Global) -> Result<Vec<u8>, AllocError> {
     Ok(bytes)
 }
 
-/// The last tenant stands from byte 5,066,661 on: its procedures from 5,066,669 on, the last slot of them at
-/// 5,591,205, and its entries from 5,591,217 on.
+/// The last tenant stands from byte 5,067,109 on: its procedures from 5,067,117 on, the last slot of them at
+/// 5,591,717, and its entries from 5,591,729 on.
 const NEAR: &str = "\
-yes | 0 1 01 | nothing\n\
-no | 5787824 5787825 - | the last byte cut off\n\
-no | 2893912 5787825 - | half of it cut off\n\
-no | 5787825 5787825 00 | a byte more\n\
-no | 5591217 5591218 01 | a key out of order\n\
-no | 5591205 5591206 b7 | a procedure that falls off its end\n\
-no | 5066669 5066669 00000010b7000000070000009500000000000000, 5066668 5066669 41 | 65 procedures\n\
+yes | 0 1 02 | nothing\n\
+no | 5788336 5788337 - | the last byte cut off\n\
+no | 2894168 5788337 - | half of it cut off\n\
+no | 5788337 5788337 00 | a byte more\n\
+no | 5591729 5591730 01 | a key out of order\n\
+no | 5591717 5591718 b7 | a procedure that falls off its end\n\
+no | 5067117 5067117 0100000010b7000000070000009500000000000000, 5067116 5067117 41 | 65 procedures\n\
 ";
 
 /// Clients 100 to 163, of the tenants 1 to 8.
@@ -77,6 +78,6 @@ fn pairs(alloc: Global) -> Result<String, AllocError> {
 fn a_largest_state_is_read(rt: HostRuntime) -> Result<(), Fail> {
     let clients = config(rt.alloc(), &pairs(rt.alloc())?)?;
     let bytes = largest(rt.alloc())?;
-    assert!(rt; bytes.len() == 5_787_825);
+    assert!(rt; bytes.len() == 5_788_337);
     wants(rt.alloc(), &clients, &bytes, NEAR)
 }

@@ -1,8 +1,8 @@
 //! A service that is asked line by line: what clients get, and states as bytes.
 
-use crate::answers::FULL_STATE;
+use crate::answers::{FIRST_FULL_STATE, FULL_STATE};
 use hex::{decode, encode};
-use host_types::{Bytes, ClientEntry, ClientId, Config, Request, TenantId};
+use host_types::{Bytes, ClientEntry, ClientId, Config, PublicKey, Request, TenantId};
 use service_core::{Outcome, State};
 use sha2::{Digest, Sha256};
 use std::alloc::Global;
@@ -14,16 +14,18 @@ pub(crate) fn halves(line: &str) -> (&str, &str) {
     line.split_once(" ").unwrap_or((line, ""))
 }
 
-/// What a word stands for: `-` for no digits, and `full` for those of `FULL_STATE`.
+/// What a word stands for: `-` for no digits, `full` for those of `FULL_STATE`, and `first` for those of it in
+/// version 1.
 fn digits_of(text: &str) -> &str {
     match text.as_bytes() {
         b"full" => FULL_STATE,
+        b"first" => FIRST_FULL_STATE,
         b"-" => "",
         _ => text,
     }
 }
 
-/// Bytes in hex; `HEX*N` has them N times, `-` stands for none, and `full` for those of `FULL_STATE`.
+/// Bytes in hex; `HEX*N` has them N times, `-` stands for none, and `full` and `first` for those of `FULL_STATE`.
 pub(crate) fn bytes_of(alloc: Global, text: &str) -> Result<Vec<u8>, Fail> {
     let text = digits_of(text);
     match text.split_once("*") {
@@ -39,7 +41,7 @@ pub(crate) fn bytes_of(alloc: Global, text: &str) -> Result<Vec<u8>, Fail> {
 pub(crate) fn config(alloc: Global, pairs: &str) -> Result<Arc<Config>, Fail> {
     let mut keys = Vec::new(alloc);
     for index in 0..4u8 {
-        keys.push([index; 56])?;
+        keys.push(PublicKey::Lms([index; 56]))?;
     }
     let clients = clients(alloc, pairs)?;
     Ok(Arc::new(alloc, Config::new(1, 8, keys, clients)?)?)
@@ -53,17 +55,18 @@ fn clients(alloc: Global, pairs: &str) -> Result<Vec<ClientEntry>, Fail> {
         clients.push(ClientEntry {
             id: ClientId(id.parse()?),
             tenant: TenantId(tenant.parse()?),
-            key: [7; 56],
+            key: PublicKey::Lms([7; 56]),
         })?;
     }
     Ok(clients)
 }
 
-/// The operation of `install CODE`, `call PROCEDURE ARGUMENTS` or `raw BYTES`.
+/// The operation of `install CODE`, `install2 CODE`, `call PROCEDURE ARGUMENTS` or `raw BYTES`.
 fn operation(alloc: Global, text: &str) -> Result<Bytes, Fail> {
     let (verb, rest) = halves(text);
     match verb.as_bytes() {
         b"install" => joined(alloc, &[1], rest),
+        b"install2" => joined(alloc, &[4], rest),
         b"call" => {
             let (procedure, arguments) = halves(rest);
             let [a, b, c, d] = procedure.parse::<u32>()?.to_be_bytes();

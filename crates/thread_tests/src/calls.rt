@@ -3,9 +3,10 @@
 use crate::gates::{Held, TURNS, Watch};
 use crate::place::{Place, call_it, four_replicas, install, session, spend};
 use host_client::{SessionFault, call};
-use host_types::{Bytes, Config, Reply};
+use host_types::{Bytes, Config, ReplicaId, Reply};
 use lms_tree::Signer;
-use replica_threads::Host;
+use replica_core::Row;
+use replica_threads::{Host, HostFault};
 use std::alloc::Global;
 use std::sync::atomic::{AtomicBool, Ordering};
 use std::sync::{Arc, Wait};
@@ -36,14 +37,42 @@ fn calls<R: Wait>(
 }
 
 // Closes a host once the calls are done, or so many turns are over.
-fn watch<R: Wait + Clock>(rt: &R, host: &Host, done: &AtomicBool, turns: u64) {
+fn watch<R: Wait + Clock>(
+    rt: &R,
+    host: &Host,
+    done: &AtomicBool,
+    turns: u64,
+) -> Result<Vec<(ReplicaId, Vec<Row>)>, HostFault> {
     for _ in 0..turns {
         if done.load(Ordering::SeqCst) {
             break;
         }
         thread::sleep(rt, Duration::from_millis(1));
     }
-    let _ = host.close(rt);
+    host.close(rt)
+}
+
+/// What calls answer beside a watcher, and the journals.
+pub fn called<R: Threads + Wait + Clock + Copy + Send + Sync + Drop + 'static>(
+    rt: &R,
+    alloc: Global,
+    signers: Vec<Signer>,
+    place: (Arc<Config>, Signer),
+    ops: Vec<Bytes>,
+    turns: u64,
+) -> Result<(Vec<Result<Reply, SessionFault>>, Vec<(ReplicaId, Vec<Row>)>), Fail> {
+    let (config, client) = place;
+    let gate = Arc::new(alloc, Watch::new(*rt, Held::No))?;
+    let host = Host::start(rt, alloc, &config, signers, LIMIT, 2, gate)?;
+    let done = AtomicBool::new(false);
+    let (host, done) = (&host, &done);
+    let caller = move || {
+        let replies = calls(rt, alloc, host, client, ops);
+        done.store(true, Ordering::SeqCst);
+        replies
+    };
+    let (replies, journals) = thread::join(rt, caller, move || watch(rt, host, done, turns));
+    Ok((replies?, journals?))
 }
 
 // What calls answer beside a watcher.
@@ -55,17 +84,7 @@ fn answers<R: Threads + Wait + Clock + Copy + Send + Sync + Drop + 'static>(
     ops: Vec<Bytes>,
     turns: u64,
 ) -> Result<Vec<Result<Reply, SessionFault>>, Fail> {
-    let (config, client) = place;
-    let gate = Arc::new(alloc, Watch::new(*rt, Held::No))?;
-    let host = Host::start(rt, alloc, &config, signers, LIMIT, 2, gate)?;
-    let done = AtomicBool::new(false);
-    let (host, done) = (&host, &done);
-    let caller = move || {
-        let replies = calls(rt, alloc, host, client, ops);
-        done.store(true, Ordering::SeqCst);
-        replies
-    };
-    thread::join(rt, caller, move || watch(rt, host, done, turns)).0
+    Ok(called(rt, alloc, signers, place, ops, turns)?.0)
 }
 
 #[test]

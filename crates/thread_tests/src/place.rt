@@ -27,14 +27,33 @@ fn signer(alloc: Global, number: u8) -> Result<Signer, AllocError> {
     Signer::from_seed(alloc, Height::H5, [number; 16], [7; 32])
 }
 
-/// Four replicas and a client, with fresh signers.
+/// Four replicas and a client, with fresh signers, whose keys are of one tree.
 pub fn four_replicas(alloc: Global) -> Result<Place, Fail> {
     let mut signers = Vec::new(alloc);
-    let mut keys = Vec::new(alloc);
     for number in 0..4u8 {
-        let signer = signer(alloc, number)?;
+        signers.push(signer(alloc, number)?)?;
+    }
+    place_of(alloc, signers)
+}
+
+fn signer_of_levels(alloc: Global, number: u8) -> Result<Signer, AllocError> {
+    Signer::from_seed2(alloc, Height::H5, Height::H5, [number; 16], [7; 32])
+}
+
+/// Four replicas whose keys are of two levels, and a client whose key is of one tree, with fresh signers.
+pub fn four_of_two_levels(alloc: Global) -> Result<Place, Fail> {
+    let mut signers = Vec::new(alloc);
+    for number in 0..4u8 {
+        signers.push(signer_of_levels(alloc, number)?)?;
+    }
+    place_of(alloc, signers)
+}
+
+/// The replicas with these signers, and a client.
+fn place_of(alloc: Global, signers: Vec<Signer>) -> Result<Place, Fail> {
+    let mut keys = Vec::new(alloc);
+    for signer in &signers {
         keys.push(signer.public_key())?;
-        signers.push(signer)?;
     }
     let client = signer(alloc, 9)?;
     let mut clients = Vec::new(alloc);

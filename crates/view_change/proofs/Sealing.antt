@@ -1,20 +1,15 @@
 -- How long the encodings of bodies are whose nested messages are authentic, and what checked messages make.
-use Rattle.std.proofs.Common.{◌≡◌, ℕ, ◌+◌, ◌*◌, ◌<◌, ◌≤◌, ◌==◌, cond, List, [], ◌∷◌, ◌++◌, get_or, length, map, take, Option, Some, None, refl, sym, ap, subst, ◌∙◌, arith, length-append, inl, inr}
+use Rattle.std.proofs.Common.{◌≡◌, ℕ, ◌+◌, ◌*◌, ◌<◌, ◌≤◌, List, [], ◌∷◌, ◌++◌, get_or, length, map, take, Option, Some, None, refl, sym, ap, subst, ◌∙◌, arith, length-append}
 use Rattle.std.specs.Int.{w64, to_be_bytes}
 use Rattle.std.specs.List.{AllByRecursion, flat_map}
-use Rattle.std.proofs.lemmas.Bool.{cases_Bool, eqb-true}
 use Rattle.std.proofs.lemmas.List.{take_all, take_more}
 use Rattle.host_types.specs.Configuration.{Configuration}
 use Rattle.host_types.specs.declared.Digest.{Digest}
 use Rattle.host_types.specs.declared.SeqNo.{SeqNo}
 use Rattle.host_types.specs.declared.View.{View}
-use Rattle.lms_tree.specs.declared.fault.SigFault.{SigFault}
-use Rattle.lms_tree.specs.declared.fault.SigFault.TheVariants.{Length}
-use Rattle.lms_tree.specs.declared.height.Height.{Height}
-use Rattle.lms_tree.specs.declared.height.Height.TheVariants.{H5, H10}
-use Rattle.lms_tree.specs.Keys.{IsValid}
-use Rattle.lms_tree.specs.Signature.{fault_under, key_height, levels_of}
 use Rattle.lms_tree.specs.SigningState.{SigningState}
+use Rattle.lms_tree.proofs.KeyLemmas.{short-signature}
+use Rattle.lms_tree.proofs.ShortLemmas.{valid-short}
 use Rattle.pbft_codec.specs.declared.body.Body.TheVariants as bodies
 use Rattle.pbft_codec.specs.declared.body.fetch.Fetch.TheVariants as fetches
 use Rattle.pbft_codec.specs.Bodies.{BodyFieldsInRange, BodyWellFormed, encoded_length_of}
@@ -36,32 +31,11 @@ use Rattle.view_change.specs.Sealable.{AreUnder, HasFewMessages, HasShortList, H
 
 -- ---- signatures
 
-long_enough : (n m : ℕ) (o : Option SigFault) → cond (n == m) o (Some Length) ≡ None → n ≡ m
-long_enough n m o e = elim (cases_Bool (n == m)) [
-  | inl t ↦ eqb-true n m t
-  | inr f ↦ absurd (no (sym (ap (λ b. cond b o (Some Length)) f) ∙ e))
-] where
-  no : Some Length ≡ None → ⊥
-  no e = absurd cc
+pub authentic_is_short : (c : Configuration) (m : Signed Body) → IsAuthentic c m → length m.sig ≤ 5076
+authentic_is_short c m h = valid-short h.key _ m.sig h.signature
 
-short_under : (o : Option Height) (key message sig : List ℕ) → fault_under o key message sig ≡ None → length sig ≤ 2508
-short_under None key message sig e = absurd cc
-short_under (Some H5) key message sig e = let is = long_enough (length sig) (2188 + 32 * 5) _ e in omega (arith, is)
-short_under (Some H10) key message sig e = let is = long_enough (length sig) (2188 + 32 * 10) _ e in omega (arith, is)
-
--- a valid signature is no longer than one of a tree of height 10
-pub valid_is_short : (key message sig : List ℕ) → IsValid key message sig → length sig ≤ 2508
-valid_is_short key message sig h = short_under (key_height key) key message sig h
-
-pub authentic_is_short : (c : Configuration) (m : Signed Body) → IsAuthentic c m → length m.sig ≤ 2508
-authentic_is_short c m h = valid_is_short h.key _ m.sig h.signature
-
-own_is_short : (h : Height) → 2188 + 32 * levels_of h ≤ 2508
-own_is_short H5 = omega arith
-own_is_short H10 = omega arith
-
-pub around_is_short : (s : SigningState) → around_body s ≤ 2521
-around_is_short s = let le = own_is_short s.height in omega (arith, le)
+pub around_is_short : (s : SigningState) → around_body s ≤ 5089
+around_is_short s = let le = short-signature s.height s.bottom in omega (arith, le)
 
 -- ---- sums
 
@@ -70,10 +44,10 @@ total_le f most [] h = omega arith
 total_le f most (x ∷ xs) h = let rest = total_le f most xs h.1 in omega (arith, h.0, rest)
 
 shorts : {B : Type 0} (c : Configuration) (kind : B → Body) (f : B → ℕ) (many : ℕ) (ms : List (Signed B)) → AllByRecursion (λ m. f m.body ≤ many) ms → AllByRecursion (IsAuthentic c) (map (as_message kind) ms)
-    → AllByRecursion (λ m. signed_length f m ≤ 2521 + many) ms
+    → AllByRecursion (λ m. signed_length f m ≤ 5089 + many) ms
 shorts c kind f many [] le h = tt
 shorts c kind f many (m ∷ ms) le h =
-    let sig : length m.sig ≤ 2508 = authentic_is_short c (as_message kind m) h.0 in (omega (arith, sig, le.0), shorts c kind f many ms le.1 h.1)
+    let sig : length m.sig ≤ 5076 = authentic_is_short c (as_message kind m) h.0 in (omega (arith, sig, le.0), shorts c kind f many ms le.1 h.1)
 
 flats : {B : Type 0} (many : ℕ) (ms : List (Signed B)) → AllByRecursion (λ m. many ≤ many) ms
 flats many [] = tt
@@ -81,48 +55,49 @@ flats many (m ∷ ms) = (omega arith, flats many ms)
 
 -- ---- certificates, ViewChanges and NewViews
 
-certificate_is_short : (c : Configuration) (x : Certificate) → CertificateWellFormed x → AllByRecursion (IsAuthentic c) (in_certificate x) → certificate_length x ≤ 28230
+certificate_is_short : (c : Configuration) (x : Certificate) → CertificateWellFormed x → AllByRecursion (IsAuthentic c) (in_certificate x) → certificate_length x ≤ 56478
 certificate_is_short c x h authentic =
-    let own : length x.pre_prepare.sig ≤ 2508 = authentic_is_short c (as_message bodies.PrePrepare x.pre_prepare) authentic.0 in
-    let all : total (signed_length (λ _. 45)) x.prepares ≤ length x.prepares * 2566
-    = total_le (signed_length (λ _. 45)) 2566 x.prepares (shorts c bodies.Prepare (λ _. 45) 45 x.prepares (flats 45 x.prepares) authentic.1) in
+    let own : length x.pre_prepare.sig ≤ 5076 = authentic_is_short c (as_message bodies.PrePrepare x.pre_prepare) authentic.0 in
+    let all : total (signed_length (λ _. 45)) x.prepares ≤ length x.prepares * 5134
+    = total_le (signed_length (λ _. 45)) 5134 x.prepares (shorts c bodies.Prepare (λ _. 45) 45 x.prepares (flats 45 x.prepares) authentic.1) in
     omega (arith, own, all, h.few)
 
-certificates_are_short : (c : Configuration) (xs : List Certificate) → AllByRecursion CertificateWellFormed xs → AllByRecursion (IsAuthentic c) (flat_map in_certificate xs) → AllByRecursion (λ x. certificate_length x ≤ 28230) xs
+certificates_are_short : (c : Configuration) (xs : List Certificate) → AllByRecursion CertificateWellFormed xs → AllByRecursion (IsAuthentic c) (flat_map in_certificate xs) → AllByRecursion (λ x. certificate_length x ≤ 56478) xs
 certificates_are_short c [] h authentic = tt
 certificates_are_short c (x ∷ xs) h authentic =
     let parts = all_split (IsAuthentic c) (in_certificate x) (flat_map in_certificate xs) authentic in
     (certificate_is_short c x h.0 parts.0, certificates_are_short c xs h.1 parts.1)
 
-pub change_is_short : (c : Configuration) (v : ViewChange) → ViewChangeWellFormed v → AllByRecursion (IsAuthentic c) (in_view_change v) → view_change_length v ≤ 477321
+pub change_is_short : (c : Configuration) (v : ViewChange) → ViewChangeWellFormed v → AllByRecursion (IsAuthentic c) (in_view_change v) → view_change_length v ≤ 954969
 change_is_short c v h authentic =
     let parts = all_split (IsAuthentic c) (map (as_message bodies.Checkpoint) v.checkpoints) (flat_map in_certificate v.certificates) authentic in
-    let checkpoints : total (signed_length (λ _. 41)) v.checkpoints ≤ length v.checkpoints * 2562
-    = total_le (signed_length (λ _. 41)) 2562 v.checkpoints (shorts c bodies.Checkpoint (λ _. 41) 41 v.checkpoints (flats 41 v.checkpoints) parts.0) in
-    let certificates : total certificate_length v.certificates ≤ length v.certificates * 28230
-    = total_le certificate_length 28230 v.certificates (certificates_are_short c v.certificates h.certificates parts.1) in
+    let checkpoints : total (signed_length (λ _. 41)) v.checkpoints ≤ length v.checkpoints * 5130
+    = total_le (signed_length (λ _. 41)) 5130 v.checkpoints (shorts c bodies.Checkpoint (λ _. 41) 41 v.checkpoints (flats 41 v.checkpoints) parts.0) in
+    let certificates : total certificate_length v.certificates ≤ length v.certificates * 56478
+    = total_le certificate_length 56478 v.certificates (certificates_are_short c v.certificates h.certificates parts.1) in
     omega (arith, checkpoints, certificates, h.few_checkpoints, h.few_certificates)
 
-changes_are_short : (c : Configuration) (ms : List (Signed ViewChange)) → EachBody ViewChangeWellFormed ms → AllByRecursion (IsAuthentic c) (flat_map with_nested ms) → AllByRecursion (λ m. signed_length view_change_length m ≤ 479842) ms
+changes_are_short : (c : Configuration) (ms : List (Signed ViewChange)) → EachBody ViewChangeWellFormed ms → AllByRecursion (IsAuthentic c) (flat_map with_nested ms) → AllByRecursion (λ m. signed_length view_change_length m ≤ 960058) ms
 changes_are_short c [] h authentic = tt
 changes_are_short c (m ∷ ms) h authentic =
     let parts = all_split (IsAuthentic c) (with_nested m) (flat_map with_nested ms) authentic in
-    let own : length m.sig ≤ 2508 = authentic_is_short c (as_message bodies.ViewChange m) parts.0.0 in
+    let own : length m.sig ≤ 5076 = authentic_is_short c (as_message bodies.ViewChange m) parts.0.0 in
     let inside = change_is_short c m.body h.0 parts.0.1 in
     (omega (arith, own, inside), changes_are_short c ms h.1 parts.1)
 
-pub new_view_is_short : (c : Configuration) (n : NewView) → NewViewWellFormed n → AllByRecursion (IsAuthentic c) (nested_in (bodies.NewView n)) → new_view_length n ≤ 4839489
-new_view_is_short c n h authentic =
+-- there are at most 2f + 1 changes, with f at most 3: ten of the longest would not fit
+pub new_view_is_short : (c : Configuration) (n : NewView) → NewViewWellFormed n → length n.changes ≤ 7 → AllByRecursion (IsAuthentic c) (nested_in (bodies.NewView n)) → new_view_length n ≤ 6802563
+new_view_is_short c n h few authentic =
     let parts = all_split (IsAuthentic c) (flat_map with_nested n.changes) (map (as_message bodies.PrePrepare) n.pre_prepares) authentic in
-    let changes : total (signed_length view_change_length) n.changes ≤ length n.changes * 479842
-    = total_le (signed_length view_change_length) 479842 n.changes (changes_are_short c n.changes h.changes parts.0) in
-    let proposals : total (signed_length (λ _. 45)) n.pre_prepares ≤ length n.pre_prepares * 2566
-    = total_le (signed_length (λ _. 45)) 2566 n.pre_prepares (shorts c bodies.PrePrepare (λ _. 45) 45 n.pre_prepares (flats 45 n.pre_prepares) parts.1) in
-    omega (arith, changes, proposals, h.few_changes, h.few_pre_prepares)
+    let changes : total (signed_length view_change_length) n.changes ≤ length n.changes * 960058
+    = total_le (signed_length view_change_length) 960058 n.changes (changes_are_short c n.changes h.changes parts.0) in
+    let proposals : total (signed_length (λ _. 45)) n.pre_prepares ≤ length n.pre_prepares * 5134
+    = total_le (signed_length (λ _. 45)) 5134 n.pre_prepares (shorts c bodies.PrePrepare (λ _. 45) 45 n.pre_prepares (flats 45 n.pre_prepares) parts.1) in
+    omega (arith, changes, proposals, few, h.few_pre_prepares)
 
 -- ---- sealable bodies
 
-fits : (c : Configuration) (b : Body) (many : ℕ) → BodyWellFormed b → AllByRecursion (IsAuthentic c) (nested_in b) → length (encoded_body b) ≡ many → many ≤ 8386087 → IsSealable c b
+fits : (c : Configuration) (b : Body) (many : ℕ) → BodyWellFormed b → AllByRecursion (IsAuthentic c) (nested_in b) → length (encoded_body b) ≡ many → many ≤ 8383519 → IsSealable c b
 fits c b many h authentic is le = record {
   well_formed = h;
   nested = authentic;
@@ -162,15 +137,15 @@ change_is_sealable c v h checkpoints certificates authentic =
     let range : ViewChangeFieldsInRange (record v { view = first_view }) = record { view_in_range = omega arith; checkpoints_in_range = checkpoints; certificates_in_range = certificates } in
     fits c (bodies.ViewChange v) (view_change_length v) h authentic (view_alone v first_view ∙ length_body (bodies.ViewChange (record v { view = first_view })) range) (omega (arith, le))
 
-pub new_view_is_sealable : (c : Configuration) (n : NewView) → NewViewWellFormed n → AllByRecursion (SignedFieldsInRange ViewChangeFieldsInRange) n.changes → AllByRecursion (SignedFieldsInRange PrePrepareFieldsInRange) n.pre_prepares
+pub new_view_is_sealable : (c : Configuration) (n : NewView) → NewViewWellFormed n → length n.changes ≤ 7 → AllByRecursion (SignedFieldsInRange ViewChangeFieldsInRange) n.changes → AllByRecursion (SignedFieldsInRange PrePrepareFieldsInRange) n.pre_prepares
     → AllByRecursion (IsAuthentic c) (nested_in (bodies.NewView n)) → IsSealable c (bodies.NewView n)
-new_view_is_sealable c n h changes pre_prepares authentic =
-    let le = new_view_is_short c n h authentic in
+new_view_is_sealable c n h few changes pre_prepares authentic =
+    let le = new_view_is_short c n h few authentic in
     let range : NewViewFieldsInRange (record n { view = first_view }) = record { view_in_range = omega arith; changes_in_range = changes; pre_prepares_in_range = pre_prepares } in
     fits c (bodies.NewView n) (new_view_length n) h authentic (new_view_alone n first_view ∙ length_body (bodies.NewView (record n { view = first_view })) range) (omega (arith, le))
 
 -- a body that holds no message is sealable where it fits
-pub flat_is_sealable : (c : Configuration) (b : Body) → BodyWellFormed b → BodyFieldsInRange b → nested_in b ≡ [] → encoded_length_of b ≤ 8386087 → IsSealable c b
+pub flat_is_sealable : (c : Configuration) (b : Body) → BodyWellFormed b → BodyFieldsInRange b → nested_in b ≡ [] → encoded_length_of b ≤ 8383519 → IsSealable c b
 flat_is_sealable c b h range none le = fits c b (encoded_length_of b) h (subst (AllByRecursion (IsAuthentic c)) (sym none) tt) (length_body b range) le
 
 -- ---- what holds of checked messages of one kind
@@ -275,12 +250,13 @@ new_view_made_is_sealable view changes pre_prepares n checked also same is few =
     let proposals = each_of c bodies.PrePrepare pre_prepares n.pre_prepares also same is.proposals in
     new_view_is_sealable c n
     (record {
-      few_changes = few.few_changes;
+      few_changes = omega (arith, few.few_changes);
       ascend = few.ascend;
       changes = numbers_of c bodies.ViewChange ViewChangeWellFormed n.changes (λ b h. h) each;
       few_pre_prepares = few.few_pre_prepares;
       numbers = numbers_of c bodies.PrePrepare (λ p. IsSequenceNumber p.number) n.pre_prepares (λ b h. h) proposals;
     })
+    few.few_changes
     (ranges_of c bodies.ViewChange ViewChangeFieldsInRange n.changes (λ b h. h) each) (ranges_of c bodies.PrePrepare PrePrepareFieldsInRange n.pre_prepares (λ b h. h) proposals)
     (all_join (IsAuthentic c) (flat_map with_nested n.changes) (map (as_message bodies.PrePrepare) n.pre_prepares) (all_authentic c n.changes each) (authentic_of c bodies.PrePrepare n.pre_prepares proposals))
 
@@ -333,5 +309,5 @@ fetch_is_sealable c f h range =
     let le = fetch_is_short f in fits c (bodies.Fetch f) (fetch_length f) h tt (length_body (bodies.Fetch f) range) (omega (arith, le))
 
 -- the bytes of a state are at most so many
-pub snapshot_is_sealable : (c : Configuration) (s : Snapshot) → IsSequenceNumber s.number → length s.state ≤ 5787825 → IsSealable c (bodies.Snapshot s)
+pub snapshot_is_sealable : (c : Configuration) (s : Snapshot) → IsSequenceNumber s.number → length s.state ≤ 5788337 → IsSealable c (bodies.Snapshot s)
 snapshot_is_sealable c s h few = fits c (bodies.Snapshot s) (13 + length s.state) h tt (length_body (bodies.Snapshot s) tt) (omega (arith, few))

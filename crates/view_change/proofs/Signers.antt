@@ -4,6 +4,7 @@ use Rattle.std.specs.Prelude.{IsTrue, map}
 use Rattle.std.specs.List.{AllByRecursion}
 use Rattle.std.proofs.lemmas.Option.{slice_get_within}
 use Rattle.host_types.specs.Configuration.{Configuration, IsConfiguration, replicas_for}
+use Rattle.host_types.specs.declared.key.PublicKey.{PublicKey}
 use Rattle.pbft_codec.specs.declared.sender.Sender.{Sender}
 use Rattle.pbft_codec.specs.declared.body.Body.TheVariants as bodies
 use Rattle.pbft_codec.specs.Bodies.{sender_of}
@@ -18,7 +19,7 @@ pub record IsSender (c : Configuration) (role : Role) (id : ℕ) (sender : Sende
   pub listed : id < replicas_for c.f
   pub sends : IsTrue (replica_may_send c id sender)
 
-is_sender : (c : Configuration) → IsConfiguration c → (role : Role) (id : ℕ) (body : Body) (key : List ℕ) → key_of c role id ≡ Some key → IsTrue (may_sign c role id body)
+is_sender : (c : Configuration) → IsConfiguration c → (role : Role) (id : ℕ) (body : Body) (key : PublicKey) → key_of c role id ≡ Some key → IsTrue (may_sign c role id body)
     → client_may_send (sender_of body) ≡ false → IsSender c role id (sender_of body)
 is_sender c k Replica id body key e may other =
     record { role_is = refl; listed = omega (arith, slice_get_within c.keys id key e, k.a_key_each); sends = may }

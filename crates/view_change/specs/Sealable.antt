@@ -39,7 +39,8 @@ pub record HasShortLists (v : ViewChange) : Type 0 where
   pub few_certificates : length v.certificates ≤ 16
   pub certificates : AllByRecursion HasShortList v.certificates
 
+-- At most the 2f + 1 ViewChanges of the greatest f: ten of the longest would not fit in a message.
 pub record HasFewMessages (n : NewView) : Type 0 where
-  pub few_changes : length n.changes ≤ 10
+  pub few_changes : length n.changes ≤ 7
   pub ascend : AscendFrom 0 n.changes
   pub few_pre_prepares : length n.pre_prepares ≤ 16

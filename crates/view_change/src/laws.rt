@@ -16,14 +16,14 @@ ghost use Rattle.seal.specs.Signers.{IsAuthentic};
 ghost use Rattle.view_change.specs.Made.{IsCertificateAt, IsStableBy};
 ghost use Rattle.view_change.specs.Sealable.{IsSealable};
 
-/// The signature of an authentic message has at most the 2,508 bytes of one of a tree of height 10
-/// (RFC 8554, section 5.4).
+/// The signature of an authentic message has at most the 5,076 bytes of one by two trees of height 10
+/// (RFC 8554, section 6.2).
 pub fn authentic_signatures_are_short()
-    ensures { (c : Configuration) (m : Signed Body) → IsAuthentic c m → length m.sig ≤ 2_508 }
+    ensures { (c : Configuration) (m : Signed Body) → IsAuthentic c m → length m.sig ≤ 5_076 }
 {}
 
 /// A body that holds no messages can be sealed where its number is a sequence number and its digest has 32
-/// bytes: a Reply with a result of at most 265 bytes, a Snapshot with a state of at most the 5,787,825 bytes
+/// bytes: a Reply with a result of at most 265 bytes, a Snapshot with a state of at most the 5,788,337 bytes
 /// that a state of the service has.
 pub fn bodies_can_be_sealed()
     ensures pre_prepare { (c : Configuration) (b : PrePrepare) → IsSequenceNumber b.number → IsDigest b.digest → IsSealable c (bodies.PrePrepare b) }
@@ -32,7 +32,7 @@ pub fn bodies_can_be_sealed()
     ensures reply { (c : Configuration) (b : ReplyBody) → IsSequenceNumber b.number → length b.result ≤ 265 → IsSealable c (bodies.Reply b) }
     ensures checkpoint { (c : Configuration) (b : Checkpoint) → IsSequenceNumber b.number → IsDigest b.digest → IsSealable c (bodies.Checkpoint b) }
     ensures fetch { (c : Configuration) (b : Fetch) → FetchWellFormed b → FetchFieldsInRange b → IsSealable c (bodies.Fetch b) }
-    ensures snapshot { (c : Configuration) (b : Snapshot) → IsSequenceNumber b.number → length b.state ≤ 5_787_825 → IsSealable c (bodies.Snapshot b) }
+    ensures snapshot { (c : Configuration) (b : Snapshot) → IsSequenceNumber b.number → length b.state ≤ 5_788_337 → IsSealable c (bodies.Snapshot b) }
 {}
 
 /// What a log's `certificate` gives at a number in a view is a certificate of that view and number: the

@@ -88,8 +88,8 @@ pub fn make(
 
 /// The `NewView` for a view of these `ViewChange`s and `PrePrepare`s (Castro and Liskov 1999, section 4.4), for
 /// the primary to seal. The caller owes messages of these kinds; those of other kinds are left out. With
-/// lists no longer than the grammar has them, and signers ascending, it can be sealed. It answers `Memory`
-/// alone, and then nothing is made.
+/// at most 7 `ViewChange`s, which is 2f + 1 for the greatest f, no more `PrePrepare`s than the grammar has, and
+/// signers ascending, it can be sealed. It answers `Memory` alone, and then nothing is made.
 pub fn make_new_view(
     alloc: Global,
     view: View,

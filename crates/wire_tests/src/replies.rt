@@ -2,7 +2,7 @@
 
 ghost use Rattle.std.specs.Prelude.{◌≡◌, IfOk};
 
-use host_types::{Bytes, ClientEntry, ClientId, Config, SeqNo, TenantId, View};
+use host_types::{Bytes, ClientEntry, ClientId, Config, PublicKey, SeqNo, TenantId, View};
 use lms_tree::{Height, Signer};
 use pbft_codec::{Body, ReplyBody, Role, Signed, encode, signed_bytes};
 use seal::{Checked, open};
@@ -25,7 +25,7 @@ pub fn signers(alloc: Global) -> Result<Vec<Signer>, AllocError> {
 }
 
 /// The configuration of these replicas and of client 16, which has this key.
-pub fn config(alloc: Global, replicas: &[Signer], key: [u8; 56]) -> Result<Arc<Config>, Fail> {
+pub fn config(alloc: Global, replicas: &[Signer], key: PublicKey) -> Result<Arc<Config>, Fail> {
     let mut keys = Vec::new(alloc);
     for signer in replicas {
         keys.push(signer.public_key())?;

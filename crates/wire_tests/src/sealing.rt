@@ -1,7 +1,7 @@
 //! Messages that are sealed, opened and refused.
 
 use crate::codec::layouts::kind;
-use host_types::{Bytes, ClientEntry, ClientId, Config, TenantId};
+use host_types::{Bytes, ClientEntry, ClientId, Config, PublicKey, TenantId};
 use lms_tree::{Height, SignFault, Signer};
 use pbft_codec::{Body, RequestBody, Role, Signed, signed_bytes};
 use seal::{Checked, nested, open, parts, request_digest, seal};
@@ -21,7 +21,7 @@ fn signer(alloc: Global, identifier: [u8; 16], seed: [u8; 32]) -> Result<Signer,
 }
 
 /// Four replicas, of which one may be faulty, and the client 100.
-fn config(alloc: Global, keys: &[[u8; 56]], client: [u8; 56]) -> Result<Arc<Config>, Fail> {
+fn config(alloc: Global, keys: &[PublicKey], client: PublicKey) -> Result<Arc<Config>, Fail> {
     let mut clients = Vec::new(alloc);
     clients.push(ClientEntry {
         id: ClientId(100),
@@ -103,13 +103,13 @@ struct Group {
 impl Group {
     fn new(alloc: Global) -> Result<Group, Fail> {
         let mut signers = Vec::new(alloc);
-        let mut keys = [[0; 56]; 4];
+        let mut keys = [PublicKey::Lms([0; 56]); 4];
         for index in 0..3u8 {
             let signer = signer(alloc, [index; 16], [5; 32])?;
             keys[usize::from(index)] = signer.public_key();
             signers.push(signer)?;
         }
-        let config = config(alloc, &keys, [0; 56])?;
+        let config = config(alloc, &keys, PublicKey::Lms([0; 56]))?;
         Ok(Group {
             alloc,
             signers,
@@ -323,7 +323,7 @@ fn a_signer_seals_until_it_is_exhausted(rt: HostRuntime) -> Result<(), Fail> {
     let alloc = rt.alloc();
     let bytes = message(alloc, &mut client(alloc)?, 2, 100, &REQUEST)?;
     let mut signer = client(alloc)?;
-    let config = config(alloc, &[[0; 56]; 4], signer.public_key())?;
+    let config = config(alloc, &[PublicKey::Lms([0; 56]); 4], signer.public_key())?;
     let first = sealed_request(&rt, alloc, &config, &mut signer)??;
     assert!(rt; is_sealed_as(&first, &bytes) && is_opened(alloc, &first)?);
     for _ in 1..32 {

@@ -1,6 +1,7 @@
 //! Keys and signatures of another implementation, and what is wrong with damaged ones.
 
 use hex::{FromHex, decode};
+use host_types::PublicKey;
 use lms_ots::digits;
 use lms_tree::{Height, SigFault, SignFault, Signer, Verifier, verify};
 use std::alloc::{AllocError, Global};
@@ -65,7 +66,7 @@ fn signer_of(alloc: Global, line: &str) -> Result<(Signer, [u8; 56]), Fail> {
 fn public_keys_of_another_implementation(rt: HostRuntime) -> Result<(), Fail> {
     for line in KEYS.lines() {
         let (signer, key) = signer_of(rt.alloc(), line)?;
-        assert!(rt; signer.public_key() == key, "{line}");
+        assert!(rt; signer.public_key() == PublicKey::Lms(key), "{line}");
     }
     Ok(())
 }
@@ -182,7 +183,7 @@ fn verdict(alloc: Global, line: &str) -> Result<String, Fail> {
     let (name, change) = halves(line);
     let mut case = valid_case(alloc, name)?;
     case.change(alloc, change)?;
-    match verify(&case.key, &case.message, &case.signature) {
+    match verify(&PublicKey::Lms(case.key), &case.message, &case.signature) {
         Ok(()) => Ok(String::from_str(alloc, "-")?),
         Err(fault) => Ok(fault.to_string(alloc)?),
     }
@@ -199,7 +200,8 @@ fn valid_and_damaged_signatures(rt: HostRuntime) -> Result<(), Fail> {
 
 /// The verdict on a message in pieces of 7 bytes, and these more bytes behind it.
 fn in_pieces(case: &Case, more: &[u8]) -> Result<(), SigFault> {
-    let mut verifier = Verifier::new(&case.key, &case.signature)?;
+    let key = PublicKey::Lms(case.key);
+    let mut verifier = Verifier::new(&key, &case.signature)?;
     for piece in case.message.chunks(7) {
         verifier.update(piece);
     }

@@ -1,15 +1,17 @@
 //! Configurations and their first fault, sets of replicas, lists of bytes.
 
-use host_types::{Bytes, ClientEntry, ClientId, Config, ReplicaId, ReplicaSet, TenantId, View};
+use host_types::{
+    Bytes, ClientEntry, ClientId, Config, PublicKey, ReplicaId, ReplicaSet, TenantId, View,
+};
 use std::alloc::{AllocError, Global};
 use std::sync::Arc;
 use std::test::Fail;
 
 /// So many keys, each of the bytes of its index.
-fn keys(alloc: Global, count: u8) -> Result<Vec<[u8; 56]>, AllocError> {
+fn keys(alloc: Global, count: u8) -> Result<Vec<PublicKey>, AllocError> {
     let mut keys = Vec::new(alloc);
     for index in 0..count {
-        keys.push([index; 56])?;
+        keys.push(PublicKey::Lms([index; 56]))?;
     }
     Ok(keys)
 }
@@ -26,7 +28,7 @@ fn clients(alloc: Global, pairs: &str) -> Result<Vec<ClientEntry>, Fail> {
             clients.push(ClientEntry {
                 id: ClientId(id),
                 tenant,
-                key: [7; 56],
+                key: PublicKey::Lms([7; 56]),
             })?;
         }
     }
@@ -89,7 +91,7 @@ fn has_its_numbers(config: &Config) -> bool {
 }
 
 fn has_its_keys(config: &Config) -> bool {
-    config.replica_key(ReplicaId(3)).copied() == Some([3; 56])
+    config.replica_key(ReplicaId(3)).copied() == Some(PublicKey::Lms([3; 56]))
         && config.replica_key(ReplicaId(4)).is_none()
         && config.clients().len() == 4
         && config.client(ClientId(102)).is_none()

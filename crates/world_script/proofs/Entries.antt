@@ -7,6 +7,7 @@ use Rattle.lms_tree.specs.SigningState.{SigningState}
 use Rattle.client_session.specs.Sessions.{SessionState}
 use Rattle.world_script.specs.Parts.{fresh_session, fresh_sessions}
 use Rattle.host_types.specs.declared.config.ClientEntry.{ClientEntry}
+use Rattle.host_types.specs.declared.key.PublicKey.{PublicKey}
 use Rattle.script_text.specs.Heads.{HeadFacts, keyless}
 use Rattle.script_text.specs.declared.script.Client.{Client}
 use Rattle.world_script.specs.Keys.{client_signer, entry_of, key_of, unkeyed}
@@ -17,7 +18,7 @@ without_keys h (c ∷ cs) = ap (λ (es : List ClientEntry). keyless c ∷ es) (w
 
 pub their_keys : (h : HeadFacts) (cs : List Client) → map (λ (e : ClientEntry). e.key) (map (entry_of h) cs) ≡ map key_of (map (client_signer h) cs)
 their_keys h [] = refl
-their_keys h (c ∷ cs) = ap (λ (ks : List (List ℕ)). key_of (client_signer h c) ∷ ks) (their_keys h cs)
+their_keys h (c ∷ cs) = ap (λ (ks : List PublicKey). key_of (client_signer h c) ∷ ks) (their_keys h cs)
 
 -- ---- sessions
 

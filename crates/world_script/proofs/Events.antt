@@ -11,6 +11,7 @@ use Rattle.client_session.specs.Sessions.{SessionState}
 use Rattle.host_types.specs.declared.ClientId.{ClientId}
 use Rattle.script_text.specs.Scripts.{script_of}
 use Rattle.script_text.specs.declared.script.Filter.{Filter}
+use Rattle.pbft_codec.specs.declared.body.Body.{Body}
 use Rattle.script_text.specs.declared.script.Forgery.{Forgery}
 use Rattle.script_text.specs.declared.script.Node.{Node}
 use Rattle.script_text.specs.declared.script.Node.TheVariants.{Replica, Client}
@@ -22,7 +23,7 @@ use Rattle.world_script.specs.declared.forging.Forger.{Forger}
 use Rattle.world_script.specs.Keys.{configuration_of}
 use Rattle.world_script.specs.Passing.{DoesPart, DoesPartOfFirst, IsOnRun, Passes, correct_signers}
 use Rattle.world_script.specs.Scripts.{Plays}
-use Rattle.world_script.specs.Stages.{AllTimeOut, Deliveries, Delivers, HandsTo, Occurs, Prints, Receives, StageFacts, TimesOut, Turn, at_client, digest_named, forged_by, forged_for, is_running, quiet, requested_by, signing_forger, signing_session}
+use Rattle.world_script.specs.Stages.{AllTimeOut, Deliveries, Delivers, HandsTo, Occurs, Prints, Receives, StageFacts, TimesOut, Turn, at_client, forged_body, forged_by, forged_for, is_running, quiet, requested_by, signing_forger, signing_session}
 use Rattle.world_script.specs.Letters.{without_first}
 use Rattle.world_script.specs.Starts.{is_faulty, start_of}
 use Rattle.world_script.proofs.Hearing.{passed_hears}
@@ -88,13 +89,13 @@ requested_world : (s : StageFacts) (o : Order) (session : Option SessionState) �
 requested_world s o None = refl
 requested_world s o (Some session) = refl
 
-forged_world : (s : StageFacts) (f : Forgery) (digest : List ℕ) (g : Option Forger) → (forged_by s f digest g).1.world ≡ s.world
-forged_world s f digest None = refl
-forged_world s f digest (Some g) = refl
+forged_world : (s : StageFacts) (f : Forgery) (body : Body) (g : Option Forger) → (forged_by s f body g).1.world ≡ s.world
+forged_world s f body None = refl
+forged_world s f body (Some g) = refl
 
-forged_for_world : (s : StageFacts) (f : Forgery) (digest : Option (List ℕ)) → (forged_for s f digest).1.world ≡ s.world
+forged_for_world : (s : StageFacts) (f : Forgery) (body : Option Body) → (forged_for s f body).1.world ≡ s.world
 forged_for_world s f None = refl
-forged_for_world s f (Some digest) = forged_world s f digest (signing_forger s.forgers f.from)
+forged_for_world s f (Some body) = forged_world s f body (signing_forger s.forgers f.from)
 
 prints_leads : (s : StageFacts) (step : Step) (text : List ℕ) (t : StageFacts) → Prints s step text t → Leads s.world t.world
 prints_leads s (steps.Request o) text t h = turned s t text (requested_by s o (signing_session s.sessions o.client)) (requested_world s o (signing_session s.sessions o.client)) h
@@ -102,11 +103,13 @@ prints_leads s (steps.Deliver f) text t h = deliveries_lead f h.0 s text t h.2
 prints_leads s (steps.Drop f) text t h = turned s t text _ refl h
 prints_leads s (steps.Repeat f) text t h = turned s t text _ refl h
 prints_leads s (steps.Timeout at) text t h = all_time_leads s at t h.1
-prints_leads s (steps.Forge f) text t h = turned s t text (forged_for s f (digest_named s f.request)) (forged_for_world s f (digest_named s f.request)) h
+prints_leads s (steps.Forge f) text t h = turned s t text (forged_for s f (forged_body s f.message)) (forged_for_world s f (forged_body s f.message)) h
+prints_leads s (steps.Mangle f damage) text t h = turned s t text _ refl h
 prints_leads s (steps.Raw to bytes) text t h = turned s t text _ refl h
 prints_leads s steps.Show text t h = stays s.world t.world (ap (λ (x : StageFacts). x.world) h.1)
 prints_leads s steps.Digest text t h = stays s.world t.world (ap (λ (x : StageFacts). x.world) h.1)
 prints_leads s (steps.State id) text t h = stays s.world t.world (ap (λ (x : StageFacts). x.world) h.1)
+prints_leads s (steps.Upgrade bytes) text t h = stays s.world t.world (ap (λ (x : StageFacts). x.world) h.1)
 
 plays_lead : (s : StageFacts) (xs : List Step) (text : List ℕ) (t : StageFacts) → Plays s xs text t → Leads s.world t.world
 plays_lead s [] text t h = stays s.world t.world (ap (λ (x : StageFacts). x.world) h.1)
@@ -115,14 +118,7 @@ plays_lead s (x ∷ xs) text t (line, more, u, first, rest, is) = on s.world u.w
 part_leads : (s : StageFacts) (step : Step) (t : StageFacts) → DoesPart s step t → Leads s.world t.world
 part_leads s (steps.Deliver f) t (n, text, h) = deliveries_lead f n s text t h
 part_leads s (steps.Timeout at) t (first, later, splits, h) = all_time_leads s first t h
-part_leads s (steps.Request o) t h = stays s.world t.world (ap (λ (x : StageFacts). x.world) h)
-part_leads s (steps.Drop f) t h = stays s.world t.world (ap (λ (x : StageFacts). x.world) h)
-part_leads s (steps.Repeat f) t h = stays s.world t.world (ap (λ (x : StageFacts). x.world) h)
-part_leads s (steps.Forge f) t h = stays s.world t.world (ap (λ (x : StageFacts). x.world) h)
-part_leads s (steps.Raw to bytes) t h = stays s.world t.world (ap (λ (x : StageFacts). x.world) h)
-part_leads s steps.Show t h = stays s.world t.world (ap (λ (x : StageFacts). x.world) h)
-part_leads s steps.Digest t h = stays s.world t.world (ap (λ (x : StageFacts). x.world) h)
-part_leads s (steps.State id) t h = stays s.world t.world (ap (λ (x : StageFacts). x.world) h)
+part_leads s other t h = stays s.world t.world (ap (λ (x : StageFacts). x.world) h)
 
 first_part_leads : (s : StageFacts) (xs : List Step) (t : StageFacts) → DoesPartOfFirst s xs t → Leads s.world t.world
 first_part_leads s [] t h = stays s.world t.world (ap (λ (x : StageFacts). x.world) h)

@@ -40,7 +40,7 @@ use Rattle.world_script.specs.Keys.{configuration_of}
 use Rattle.world_script.specs.Letters.{without_first}
 use Rattle.world_script.specs.Passing.{DoesPart, DoesPartOfFirst, HasHeard, Passes}
 use Rattle.world_script.specs.Scripts.{Plays}
-use Rattle.world_script.specs.Stages.{AllTimeOut, Deliveries, Delivers, HandsTo, Occurs, Prints, Receives, StageFacts, TimesOut, Turn, after_asking, at_client, at_first, digest_named, forged_by, forged_for, is_of, is_running, quiet, requested_by, signing_forger, signing_session}
+use Rattle.world_script.specs.Stages.{AllTimeOut, Deliveries, Delivers, HandsTo, Occurs, Prints, Receives, StageFacts, TimesOut, Turn, after_asking, at_client, at_first, forged_body, forged_by, forged_for, is_of, is_running, quiet, requested_by, signing_forger, signing_session}
 use Rattle.world_script.specs.Starts.{session_for, start_of}
 
 -- ---- an event keeps the configuration
@@ -205,13 +205,13 @@ requested_hears c s o (Some session) h = record {
   heard = at_first_heard c (is_of o.client) after_asking s.sessions (λ x heard. heard_fresh c (after_asking x) heard.config refl) h.heard;
 }
 
-forged_hears : (c : Configuration) (s : StageFacts) (f : Forgery) (digest : List ℕ) (g : Option Forger) → Hears c s → Hears c (forged_by s f digest g).1
-forged_hears c s f digest None h = h
-forged_hears c s f digest (Some g) h = record { config = h.config; heard = h.heard }
+forged_hears : (c : Configuration) (s : StageFacts) (f : Forgery) (body : Body) (g : Option Forger) → Hears c s → Hears c (forged_by s f body g).1
+forged_hears c s f body None h = h
+forged_hears c s f body (Some g) h = record { config = h.config; heard = h.heard }
 
-forged_for_hears : (c : Configuration) (s : StageFacts) (f : Forgery) (digest : Option (List ℕ)) → Hears c s → Hears c (forged_for s f digest).1
+forged_for_hears : (c : Configuration) (s : StageFacts) (f : Forgery) (body : Option Body) → Hears c s → Hears c (forged_for s f body).1
 forged_for_hears c s f None h = h
-forged_for_hears c s f (Some digest) h = forged_hears c s f digest (signing_forger s.forgers f.from) h
+forged_for_hears c s f (Some body) h = forged_hears c s f body (signing_forger s.forgers f.from) h
 
 prints_hears : (c : Configuration) (s : StageFacts) (step : Step) (text : List ℕ) (t : StageFacts) → Prints s step text t → Hears c s → Hears c t
 prints_hears c s (steps.Request o) text t p h = turn_hears c t text (requested_by s o (signing_session s.sessions o.client)) (requested_hears c s o (signing_session s.sessions o.client) h) p
@@ -219,11 +219,13 @@ prints_hears c s (steps.Deliver f) text t p h = deliveries_hear c f p.0 s text t
 prints_hears c s (steps.Drop f) text t p h = turn_hears c t text _ (record { config = h.config; heard = h.heard }) p
 prints_hears c s (steps.Repeat f) text t p h = turn_hears c t text _ (record { config = h.config; heard = h.heard }) p
 prints_hears c s (steps.Timeout at) text t p h = all_time_hears c s at t p.1 h
-prints_hears c s (steps.Forge f) text t p h = turn_hears c t text (forged_for s f (digest_named s f.request)) (forged_for_hears c s f (digest_named s f.request) h) p
+prints_hears c s (steps.Forge f) text t p h = turn_hears c t text (forged_for s f (forged_body s f.message)) (forged_for_hears c s f (forged_body s f.message) h) p
+prints_hears c s (steps.Mangle f damage) text t p h = turn_hears c t text _ (record { config = h.config; heard = h.heard }) p
 prints_hears c s (steps.Raw to bytes) text t p h = turn_hears c t text _ (record { config = h.config; heard = h.heard }) p
 prints_hears c s steps.Show text t p h = subst (Hears c) (sym p.1) h
 prints_hears c s steps.Digest text t p h = subst (Hears c) (sym p.1) h
 prints_hears c s (steps.State id) text t p h = subst (Hears c) (sym p.1) h
+prints_hears c s (steps.Upgrade bytes) text t p h = subst (Hears c) (sym p.1) h
 
 plays_hear : (c : Configuration) (s : StageFacts) (xs : List Step) (text : List ℕ) (t : StageFacts) → Plays s xs text t → Hears c s → Hears c t
 plays_hear c s [] text t p h = subst (Hears c) (sym p.1) h
@@ -232,14 +234,7 @@ plays_hear c s (x ∷ xs) text t (line, more, u, first, rest, is) h = plays_hear
 part_hears : (c : Configuration) (s : StageFacts) (step : Step) (t : StageFacts) → DoesPart s step t → Hears c s → Hears c t
 part_hears c s (steps.Deliver f) t (n, text, p) h = deliveries_hear c f n s text t p h
 part_hears c s (steps.Timeout at) t (first, later, splits, p) h = all_time_hears c s first t p h
-part_hears c s (steps.Request o) t same h = subst (Hears c) (sym same) h
-part_hears c s (steps.Drop f) t same h = subst (Hears c) (sym same) h
-part_hears c s (steps.Repeat f) t same h = subst (Hears c) (sym same) h
-part_hears c s (steps.Forge f) t same h = subst (Hears c) (sym same) h
-part_hears c s (steps.Raw to bytes) t same h = subst (Hears c) (sym same) h
-part_hears c s steps.Show t same h = subst (Hears c) (sym same) h
-part_hears c s steps.Digest t same h = subst (Hears c) (sym same) h
-part_hears c s (steps.State id) t same h = subst (Hears c) (sym same) h
+part_hears c s other t same h = subst (Hears c) (sym same) h
 
 first_part_hears : (c : Configuration) (s : StageFacts) (xs : List Step) (t : StageFacts) → DoesPartOfFirst s xs t → Hears c s → Hears c t
 first_part_hears c s [] t same h = subst (Hears c) (sym same) h

@@ -8,6 +8,7 @@ use Rattle.host_types.specs.declared.TenantId.{TenantId}
 use Rattle.host_types.specs.declared.config.ClientEntry.{ClientEntry}
 use Rattle.host_types.specs.declared.config.ConfigFault.{ConfigFault}
 use Rattle.host_types.specs.declared.config.ConfigFault.TheVariants.{BadF, WrongReplicaCount, BadInterval, TooMany, DuplicateClient}
+use Rattle.host_types.specs.declared.key.PublicKey.{PublicKey}
 use Rattle.lms_tree.specs.SigningState.{SigningState}
 use Rattle.script_text.specs.Heads.{HeadFacts, IsLegal, keyless, no_key}
 use Rattle.script_text.specs.declared.script.Client.{Client}
@@ -52,7 +53,7 @@ same_many es fs a =
     ∙ ap (λ (ts : List TenantId). nat_lt 64 (length fs) || (nat_lt 8 (length ts) || list_any (λ (client : ClientEntry). nat_lt client.id.0 16) es)) (a.tenants [])
     ∙ ap (λ (b : Bool). nat_lt 64 (length fs) || (nat_lt 8 (length (tenants_of fs)) || b)) a.small
 
-same_fault : (f k : ℕ) (keys : List (List ℕ)) (es : List ClientEntry) → length keys ≡ replicas_for f
+same_fault : (f k : ℕ) (keys : List PublicKey) (es : List ClientEntry) → length keys ≡ replicas_for f
     → fault_of (record { f = f; k = k; keys = keys; clients = es }) ≡ fault_of (record { f = f; k = k; keys = replicate (replicas_for f) no_key; clients = map unkeyed es })
 same_fault f k keys es long =
     let a = alike es in
@@ -60,7 +61,7 @@ same_fault f k keys es long =
     ∙ ap (λ (b : Bool). fault_by f k (length (replicate (replicas_for f) no_key)) b (some_client_twice es)) (same_many es (map unkeyed es) a)
     ∙ ap (λ (b : Bool). fault_by f k (length (replicate (replicas_for f) no_key)) (too_many (map unkeyed es)) b) a.twice
 
-pub no_fault : (f k : ℕ) (cs : List Client) (keys : List (List ℕ)) (es : List ClientEntry) → IsLegal f k cs → length keys ≡ replicas_for f → map unkeyed es ≡ map keyless cs
+pub no_fault : (f k : ℕ) (cs : List Client) (keys : List PublicKey) (es : List ClientEntry) → IsLegal f k cs → length keys ≡ replicas_for f → map unkeyed es ≡ map keyless cs
     → fault_of (record { f = f; k = k; keys = keys; clients = es }) ≡ None
 no_fault f k cs keys es legal long same =
     same_fault f k keys es long
@@ -68,7 +69,7 @@ no_fault f k cs keys es legal long same =
     ∙ legal
 
 -- The keys that are made for a head are those of a configuration.
-pub never : (h : HeadFacts) (f k : ℕ) (replicas made_signers : List SigningState) (keys : List (List ℕ)) (es : List ClientEntry) (fault : ConfigFault)
+pub never : (h : HeadFacts) (f k : ℕ) (replicas made_signers : List SigningState) (keys : List PublicKey) (es : List ClientEntry) (fault : ConfigFault)
     → IsLegal h.f h.k h.clients → f ≡ h.f → k ≡ h.k → length replicas ≡ replicas_for h.f → keys ≡ map key_of made_signers → made_signers ≡ replicas
     → map unkeyed es ≡ map keyless h.clients → fault_of (record { f = f; k = k; keys = keys; clients = es }) ≡ Some fault → ⊥
 never h f k replicas made_signers keys es fault legal f_is k_is long keys_are same entries wrong =

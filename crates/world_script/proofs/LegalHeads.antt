@@ -1,6 +1,6 @@
 -- A script's head gives a legal configuration, whose keys are its signers'.
 use Rattle.std.proofs.Common.{◌≡◌, ℕ, zero, suc, ◌+◌, ◌==◌, Bool, true, false, not, ◌&&◌, nat_le, nat_lt, List, [], ◌∷◌, length, map, Option, Some, None, Ok, Err, refl, sym, ap, subst, ◌∙◌, if◌then◌else◌}
-use Rattle.std.specs.Prelude.{Result, codes, is_none, is_some}
+use Rattle.std.specs.Prelude.{Result, is_none, is_some}
 use Rattle.std.specs.List.{range_with_len}
 use Rattle.std.proofs.lemmas.Bool.{and_parts, eqb-true, leb-true, true≢false}
 use Rattle.std.proofs.lemmas.List.{length-map}
@@ -12,7 +12,7 @@ use Rattle.host_types.specs.declared.config.ConfigFault.{ConfigFault}
 use Rattle.host_types.specs.declared.config.ConfigFault.TheVariants.{BadF, WrongReplicaCount, BadInterval, TooMany, DuplicateClient}
 use Rattle.byz_world.specs.Worlds.{AreListed, correct_ids}
 use Rattle.script_text.specs.Forms.{needed_head, only_keys, pair_of}
-use Rattle.script_text.specs.Heads.{HeadFacts, IsLegal, byte_of, head_from, head_in, head_of, head_read, keyless, keyless_configuration, listed_clients, optional_head}
+use Rattle.script_text.specs.Heads.{HeadFacts, IsLegal, byte_of, head_from, head_in, head_keys, head_of, head_read, keyless, keyless_configuration, listed_clients, optional_head}
 use Rattle.script_text.specs.Scripts.{document, script_from, script_in, script_of, script_with, steps_in, listed_steps}
 use Rattle.script_text.specs.declared.dialect.Dialect.TheVariants.{World}
 use Rattle.script_text.specs.declared.fault.ScriptFault.{ScriptFault}
@@ -81,7 +81,7 @@ head_legal : (members : Members) (h : HeadFacts) → head_in members ≡ Ok h �
 head_legal members h =
     by_result (λ r. head_read r ≡ Ok h → IsLegalHead h)
     (only_keys (pair_of (needed_head members) (pair_of (optional_head members) (listed_clients members)))
-    (codes "f" ∷ codes "k" ∷ codes "secret" ∷ codes "heights" ∷ codes "client_height" ∷ codes "faulty" ∷ codes "client" ∷ codes "step" ∷ []) members)
+    head_keys members)
     (λ r e.
     by_option (λ f. head_from f (byte_of r.0.k) r.0.secret r.1.0 r.1.1 ≡ Ok h → IsLegalHead h) (byte_of r.0.f)
     (λ f.

@@ -6,6 +6,7 @@ use Rattle.std.specs.List.{range_with_len}
 use Rattle.std.proofs.lemmas.Bool.{eq-eqb, ne_eqb}
 use Rattle.host_types.specs.Configuration.{Configuration, IsConfiguration, entry_of, replicas_for}
 use Rattle.host_types.specs.declared.config.ClientEntry.{ClientEntry}
+use Rattle.host_types.specs.declared.key.PublicKey.{PublicKey}
 use Rattle.lms_tree.specs.Keys.{IsKeyOf}
 use Rattle.lms_tree.specs.SigningState.{SigningState}
 use Rattle.byz_world.specs.Worlds.{AreListed, correct_ids}
@@ -21,8 +22,8 @@ ids_from faulty i n = filter (λ k. not (faulty k)) (range_with_len i n)
 abbrev Holds : Configuration → ℕ → List SigningState → Type 0
 Holds c i ss = (j : ℕ) → slice_get c.keys (i + j) ≡ slice_get (map key_of ss) j
 
-some_key : (o : Option (List ℕ)) (s : SigningState) → o ≡ Some (key_of s) → IsSomeAnd o (λ key. IsKeyOf key s)
-some_key o s e = subst (λ (o : Option (List ℕ)). IsSomeAnd o (λ key. IsKeyOf key s)) (sym e) refl
+some_key : (o : Option PublicKey) (s : SigningState) → o ≡ Some (key_of s) → IsSomeAnd o (λ key. IsKeyOf key s)
+some_key o s e = subst (λ (o : Option PublicKey). IsSomeAnd o (λ key. IsKeyOf key s)) (sym e) refl
 
 behind : (c : Configuration) (i : ℕ) (s : SigningState) (ss : List SigningState) → Holds c i (s ∷ ss) → Holds c (i + 1) ss
 behind c i s ss h j = ap (λ (k : ℕ). slice_get c.keys k) (moved i j) ∙ h (suc j) where
@@ -66,7 +67,7 @@ are_listed c faulty ss correct long keys is =
     (subst (λ (xs : List SigningState). AreListed c (ids_from faulty 0 (length ss)) xs) (sym is)
     (listed_from c faulty 0 ss (from_first c ss keys))) where
       from_first : (c : Configuration) (ss : List SigningState) → c.keys ≡ map key_of ss → Holds c 0 ss
-      from_first c ss keys j = ap (λ (k : ℕ). slice_get c.keys k) (same j) ∙ ap (λ (ks : List (List ℕ)). slice_get ks j) keys where
+      from_first c ss keys j = ap (λ (k : ℕ). slice_get c.keys k) (same j) ∙ ap (λ (ks : List PublicKey). slice_get ks j) keys where
         same : (j : ℕ) → 0 + j ≡ j
         same j = omega arith
 
@@ -106,7 +107,7 @@ listed_at c es i o legal is below =
 abbrev pub HaveKeysOf : List ClientEntry → List SigningState → Type 0
 HaveKeysOf es ss = map (λ (e : ClientEntry). e.key) es ≡ map key_of ss
 
-tail_keys : (k l : List ℕ) (ks ls : List (List ℕ)) → k ∷ ks ≡ l ∷ ls → ks ≡ ls
+tail_keys : (k l : PublicKey) (ks ls : List PublicKey) → k ∷ ks ≡ l ∷ ls → ks ≡ ls
 tail_keys k l ks ls h = cc h
 
 pub keys_behind : (es : List ClientEntry) (i : ℕ) (o : ClientEntry) (ss later : List SigningState) (s : SigningState) → i < length es → ss ≡ s ∷ later → HaveKeysOf (drop i es) ss → HaveKeysOf (drop (i + 1) es) later

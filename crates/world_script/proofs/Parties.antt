@@ -6,13 +6,14 @@ use Rattle.std.proofs.lemmas.List.{set-get_or}
 use Rattle.host_types.specs.declared.ClientId.{ClientId}
 use Rattle.lms_tree.specs.Keys.{after_signing, leaf_count}
 use Rattle.lms_tree.specs.SigningState.{SigningState}
+use Rattle.pbft_codec.specs.declared.body.Body.{Body}
 use Rattle.pbft_codec.specs.Encoding.{encoding}
 use Rattle.seal.specs.Opening.{CheckedMessage}
 use Rattle.client_session.specs.Sessions.{SessionState, accepted_by, asked, next_request, offered}
 use Rattle.script_text.specs.declared.script.Forgery.{Forgery}
 use Rattle.world_script.specs.declared.forging.Forger.{Forger}
 use Rattle.world_script.specs.Parts.{Forges, ForgesBy, Offers, Requests, RequestsBy}
-use Rattle.world_script.specs.Stages.{accepted_now, after_asking, after_forging, forged_vote, has_no_leaf, if_it_signs, is_forger, is_of, text_at}
+use Rattle.world_script.specs.Stages.{accepted_now, after_asking, after_forging, forged_message, has_no_leaf, if_it_signs, is_forger, is_of, text_at}
 use Rattle.world_script.proofs.Lists.{changes_first, found_at, found_none, stays}
 
 signs : (s : SigningState) → (s.next_leaf ≡ leaf_count s → ⊥) → has_no_leaf s ≡ false
@@ -68,26 +69,26 @@ offers old new client m text i x at read said is = (
 
 -- ---- forgers
 
-pub forges_none : (old : List Forger) (f : Forgery) (digest : List ℕ) → position (is_forger f.from) old ≡ None → Forges old f digest old None
-forges_none old f digest at =
-    subst (λ (o : Option Forger). ForgesBy (if_it_signs (λ (g : Forger). g.signer) o) old f digest old None)
+pub forges_none : (old : List Forger) (f : Forgery) (body : Body) → position (is_forger f.from) old ≡ None → Forges old f body old None
+forges_none old f body at =
+    subst (λ (o : Option Forger). ForgesBy (if_it_signs (λ (g : Forger). g.signer) o) old f body old None)
     (sym (found_none (is_forger f.from) old at)) (refl, refl)
 
-forger_by_leaf : (old new : List Forger) (f : Forgery) (digest : List ℕ) (g : Forger) (b : Bool) (vote : Option (List ℕ)) → has_no_leaf g.signer ≡ b
-    → ForgesBy (if b then None else Some g) old f digest new vote → ForgesBy (if has_no_leaf g.signer then None else Some g) old f digest new vote
-forger_by_leaf old new f digest g b vote is r =
-    subst (λ (c : Bool). ForgesBy (if c then None else Some g) old f digest new vote) (sym is) r
+forger_by_leaf : (old new : List Forger) (f : Forgery) (body : Body) (g : Forger) (b : Bool) (bytes : Option (List ℕ)) → has_no_leaf g.signer ≡ b
+    → ForgesBy (if b then None else Some g) old f body new bytes → ForgesBy (if has_no_leaf g.signer then None else Some g) old f body new bytes
+forger_by_leaf old new f body g b bytes is r =
+    subst (λ (c : Bool). ForgesBy (if c then None else Some g) old f body new bytes) (sym is) r
 
-pub forges : (old new : List Forger) (f : Forgery) (digest vote : List ℕ) (i : ℕ) (g : Forger) → position (is_forger f.from) old ≡ Some i → g ≡ get_or old i g
-    → has_no_leaf g.signer ≡ false → vote ≡ encoding (forged_vote g.signer f digest) → new ≡ set old i (after_forging g) → Forges old f digest new (Some vote)
-forges old new f digest vote i g at read can said is =
-    subst (λ (o : Option Forger). ForgesBy (if_it_signs (λ (g : Forger). g.signer) o) old f digest new (Some vote))
+pub forges : (old new : List Forger) (f : Forgery) (body : Body) (bytes : List ℕ) (i : ℕ) (g : Forger) → position (is_forger f.from) old ≡ Some i → g ≡ get_or old i g
+    → has_no_leaf g.signer ≡ false → bytes ≡ encoding (forged_message g.signer f body) → new ≡ set old i (after_forging g) → Forges old f body new (Some bytes)
+forges old new f body bytes i g at read can said is =
+    subst (λ (o : Option Forger). ForgesBy (if_it_signs (λ (g : Forger). g.signer) o) old f body new (Some bytes))
     (sym (found_at (is_forger f.from) old i g at read))
-    (forger_by_leaf old new f digest g false (Some vote) can (ap Some said, is ∙ changes_first (is_forger f.from) after_forging old i g at read))
+    (forger_by_leaf old new f body g false (Some bytes) can (ap Some said, is ∙ changes_first (is_forger f.from) after_forging old i g at read))
 
-pub forges_exhausted : (old new : List Forger) (f : Forgery) (digest : List ℕ) (i : ℕ) (g : Forger) → position (is_forger f.from) old ≡ Some i → g ≡ get_or old i g
-    → has_no_leaf g.signer ≡ true → new ≡ set old i g → Forges old f digest new None
-forges_exhausted old new f digest i g at read exhausted is =
-    subst (λ (o : Option Forger). ForgesBy (if_it_signs (λ (g : Forger). g.signer) o) old f digest new None)
+pub forges_exhausted : (old new : List Forger) (f : Forgery) (body : Body) (i : ℕ) (g : Forger) → position (is_forger f.from) old ≡ Some i → g ≡ get_or old i g
+    → has_no_leaf g.signer ≡ true → new ≡ set old i g → Forges old f body new None
+forges_exhausted old new f body i g at read exhausted is =
+    subst (λ (o : Option Forger). ForgesBy (if_it_signs (λ (g : Forger). g.signer) o) old f body new None)
     (sym (found_at (is_forger f.from) old i g at read))
-    (forger_by_leaf old new f digest g true None exhausted (refl, stays_so old new i g read is))
+    (forger_by_leaf old new f body g true None exhausted (refl, stays_so old new i g read is))

@@ -1,16 +1,20 @@
 -- The steps of a script, one after another.
 use Rattle.std.proofs.Common.{◌≡◌, ℕ, ◌+◌, ◌<◌, ◌≤◌, List, [], ◌∷◌, ◌++◌, length, get_or, take, drop, Option, Ok, Err, refl, sym, ap, subst, ◌∙◌, inr, arith}
-use Rattle.std.specs.Prelude.{min}
+use Rattle.std.specs.Prelude.{IfErr, OnErr, OnOk, Result, min}
 use Rattle.std.specs.Io.KnownBytes.{Appends}
 use Rattle.std.proofs.lemmas.List.{append-nil, append_assoc, drop_more, length-take-le, take-append-drop, take_more}
+use Rattle.script_text.specs.declared.script.Filter.{Filter}
 use Rattle.script_text.specs.declared.script.Script.{Script}
 use Rattle.script_text.specs.declared.script.Step.{Step}
+use Rattle.script_text.specs.declared.script.Step.TheVariants as steps
 use Rattle.world_script.specs.Endings.{Ends}
 use Rattle.world_script.specs.Faults.{kind_of}
 use Rattle.world_script.specs.Running.{Fails}
 use Rattle.world_script.specs.Scripts.{BreaksOff, Plays}
-use Rattle.world_script.specs.Stages.{Begins, Overruns, Prints, StageFacts}
+use Rattle.world_script.specs.Parts.{Performs}
+use Rattle.world_script.specs.Stages.{Begins, Overruns, Prints, StageFacts, Upgrades}
 use Rattle.world_script.specs.Starts.{start_of}
+use Rattle.world_script.specs.Writing.{AppendsFront}
 use Rattle.world_script.specs.declared.fault.RunFault.{RunFault}
 use Rattle.world_script.specs.declared.fault.RunFault.TheVariants.{TooManyDeliveries, Write, Memory}
 use Rattle.world_script.proofs.Written.{both, front_then}
@@ -61,3 +65,24 @@ one_more_done script i x s t old mid new below read is e = (
       (plays_more (take i script.steps) x (start_of script.head) s t is.0 e.0 is.1 e.1),
   both old mid new is.0 e.0 is.2 e.2,
 )
+
+-- the canonical encoding of a state is printed, or that there is none
+pub upgraded : (s t : StageFacts) (step : Step) (bytes given text : List ℕ) → step ≡ steps.Upgrade bytes → given ≡ bytes → t ≡ s → Upgrades s.world.config given text → Performs s step text t
+upgraded s t step bytes given text is same stays u =
+    subst (λ (x : Step). Performs s x text t) (sym is) (subst (λ (xs : List ℕ). Upgrades s.world.config xs text) same u, stays)
+
+-- ---- a step that delivers nothing
+
+module _ (s t : StageFacts) (text : List ℕ) where
+  prints_all : (step : Step) → ((f : Filter) → step ≡ steps.Deliver f → ⊥) → Performs s step text t → Prints s step text t
+  prints_all (steps.Deliver f) rest p = absurd (rest f refl)
+  prints_all other rest p = p
+
+  begins_all : (step : Step) → ((f : Filter) → step ≡ steps.Deliver f → ⊥) → Performs s step text t → Begins s step text
+  begins_all (steps.Deliver f) rest p = absurd (rest f refl)
+  begins_all other rest p = inr (t, p)
+
+  pub ends_all : (step : Step) (old new : Option (List ℕ)) (r : Result (Unit {0}) RunFault) → ((f : Filter) → step ≡ steps.Deliver f → ⊥) → Performs s step text t
+      → OnOk r (Appends old new text) → OnErr r (AppendsFront old new text) → IfErr r (λ fault. fault ≡ Write) → Ends s step old new r t
+  ends_all step old new (Ok u) rest p whole front fault = (text, prints_all step rest p, whole)
+  ends_all step old new (Err f) rest p whole front fault = subst (λ (g : RunFault). Ends s step old new (Err g) t) (sym fault) (text, begins_all step rest p, front)

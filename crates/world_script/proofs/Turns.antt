@@ -1,16 +1,13 @@
--- What requests and forged votes make of a stage.
-use Rattle.std.proofs.Common.{◌≡◌, ℕ, ◌+◌, ◌++◌, [], List, Option, Some, None, refl, sym, ap, subst, ◌∙◌}
+-- What requests and forged messages make of a stage.
+use Rattle.std.proofs.Common.{◌≡◌, ℕ, ◌+◌, ◌++◌, [], List, Option, Some, None, sym, ap, subst, ◌∙◌}
 use Rattle.pbft_codec.specs.declared.body.Body.{Body}
 use Rattle.pbft_codec.specs.declared.body.Body.TheVariants as bodies
 use Rattle.pbft_codec.specs.declared.body.request.RequestBody.{RequestBody}
 use Rattle.pbft_codec.specs.declared.signed.Signed.{Signed}
 use Rattle.pbft_codec.specs.Encoding.{encoding}
 use Rattle.seal.specs.Opening.{CheckedMessage}
-use Rattle.seal.specs.declared.vote.VoteKind.{VoteKind}
-use Rattle.seal.specs.declared.vote.VoteKind.TheVariants as votes
 use Rattle.client_session.specs.Sessions.{SessionState, next_request}
-use Rattle.script_text.specs.Kinds.{kind_of_body, kind_of_vote}
-use Rattle.script_text.specs.declared.kind.Kind.{Kind}
+use Rattle.script_text.specs.Kinds.{kind_of_body}
 use Rattle.script_text.specs.declared.script.Forgery.{Forgery}
 use Rattle.script_text.specs.declared.script.Order.{Order}
 use Rattle.script_text.specs.declared.script.Node.TheVariants.{Replica}
@@ -18,7 +15,7 @@ use Rattle.world_script.specs.declared.forging.Forger.{Forger}
 use Rattle.world_script.specs.Letters.{LetterFacts, copies}
 use Rattle.world_script.specs.Lines.{nothing_queued_line}
 use Rattle.world_script.specs.Parts.{Forges, ForgesBy, Requests, RequestsBy, with_message}
-use Rattle.world_script.specs.Stages.{StageFacts, Turn, digest_named, forged, forged_by, forged_for, forged_vote, requested, requested_by, signing_forger, signing_session, vote_of}
+use Rattle.world_script.specs.Stages.{StageFacts, Turn, forged_body, forged_by, forged_for, forged_message, forges, requested, requested_by, signing_forger, signing_session}
 
 some_none : {X : Type 0} {x : X} → Some x ≡ None → ⊥
 some_none h = cc h
@@ -56,41 +53,32 @@ request_refused s o ss r = by (signing_session s.sessions o.client) r where
   by None r = ap {B = Turn} (λ (xs : List SessionState). (nothing_queued_line, record s { sessions = xs })) r.1
   by (Some session) r = absurd (none_some r.0.is)
 
--- ---- forged votes
+-- ---- forged messages
 
-kind_of_forged : (kind : VoteKind) (f : Forgery) (digest : List ℕ) → kind_of_vote kind ≡ kind_of_body (vote_of kind f digest)
-kind_of_forged votes.PrePrepare f digest = refl
-kind_of_forged votes.Prepare f digest = refl
-kind_of_forged votes.Commit f digest = refl
+-- the letter of a forged message of these bytes
+abbrev pub forged_letter : Forgery → Body → List ℕ → LetterFacts
+forged_letter f body bytes = record { to = Replica f.from; from = Some (Replica f.from); kind = Some (kind_of_body body); bytes = bytes }
 
--- the letter of a vote of these bytes
-abbrev pub vote_letter : Forgery → List ℕ → LetterFacts
-vote_letter f bytes = record { to = Replica f.from; from = Some (Replica f.from); kind = Some (kind_of_vote f.kind); bytes = bytes }
+abbrev with_bytes : StageFacts → Forgery → Body → List Forger → List ℕ → StageFacts
+with_bytes s f body gs bytes = record s { forgers = gs; queue = s.queue ++ copies (forged_letter f body bytes) f.to }
 
-abbrev with_bytes : StageFacts → Forgery → List Forger → List ℕ → Kind → StageFacts
-with_bytes s f gs bytes kind = record s {
-  forgers = gs;
-  queue = s.queue ++ copies (record { to = Replica f.from; from = Some (Replica f.from); kind = Some kind; bytes = bytes }) f.to;
-}
-
-pub vote_queued : (s t : StageFacts) (f : Forgery) (digest bytes : List ℕ) (gs : List Forger) → digest_named s f.request ≡ Some digest → Forges s.forgers f digest gs (Some bytes)
-    → t ≡ record s { forgers = gs; queue = s.queue ++ copies (vote_letter f bytes) f.to } → ◌≡◌ {A = Turn} ([], t) (forged s f)
-vote_queued s t f digest bytes gs named r is =
-    subst (λ (d : Option (List ℕ)). ◌≡◌ {A = Turn} ([], t) (forged_for s f d)) (sym named) (by (signing_forger s.forgers f.from) r) where
-      by : (found : Option Forger) → ForgesBy found s.forgers f digest gs (Some bytes) → ◌≡◌ {A = Turn} ([], t) (forged_by s f digest found)
+pub forged_queued : (s t : StageFacts) (f : Forgery) (body : Body) (bytes : List ℕ) (gs : List Forger) → forged_body s f.message ≡ Some body → Forges s.forgers f body gs (Some bytes)
+    → t ≡ record s { forgers = gs; queue = s.queue ++ copies (forged_letter f body bytes) f.to } → ◌≡◌ {A = Turn} ([], t) (forges s f)
+forged_queued s t f body bytes gs says r is =
+    subst (λ (b : Option Body). ◌≡◌ {A = Turn} ([], t) (forged_for s f b)) (sym says) (by (signing_forger s.forgers f.from) r) where
+      by : (found : Option Forger) → ForgesBy found s.forgers f body gs (Some bytes) → ◌≡◌ {A = Turn} ([], t) (forged_by s f body found)
       by None r = absurd (some_none r.0)
       by (Some g) r =
-          ap {B = Turn} (λ (u : StageFacts). ([], u)) (is ∙ ap (with_bytes s f gs bytes) (kind_of_forged f.kind f digest)
-          ∙ ap (λ (bs : List ℕ). with_bytes s f gs bs (kind_of_body (vote_of f.kind f digest))) (same_value r.0)
-          ∙ ap (λ (xs : List Forger). with_bytes s f xs (encoding (forged_vote g.signer f digest)) (kind_of_body (vote_of f.kind f digest))) r.1)
+          ap {B = Turn} (λ (u : StageFacts). ([], u)) (is ∙ ap (with_bytes s f body gs) (same_value r.0)
+          ∙ ap (λ (xs : List Forger). with_bytes s f body xs (encoding (forged_message g.signer f body))) r.1)
 
-pub vote_refused : (s : StageFacts) (f : Forgery) (digest : List ℕ) (gs : List Forger) → digest_named s f.request ≡ Some digest → Forges s.forgers f digest gs None
-    → ◌≡◌ {A = Turn} (nothing_queued_line, record s { forgers = gs }) (forged s f)
-vote_refused s f digest gs named r =
-    subst (λ (d : Option (List ℕ)). ◌≡◌ {A = Turn} (nothing_queued_line, record s { forgers = gs }) (forged_for s f d)) (sym named) (by (signing_forger s.forgers f.from) r) where
-      by : (found : Option Forger) → ForgesBy found s.forgers f digest gs None → ◌≡◌ {A = Turn} (nothing_queued_line, record s { forgers = gs }) (forged_by s f digest found)
+pub forged_refused : (s : StageFacts) (f : Forgery) (body : Body) (gs : List Forger) → forged_body s f.message ≡ Some body → Forges s.forgers f body gs None
+    → ◌≡◌ {A = Turn} (nothing_queued_line, record s { forgers = gs }) (forges s f)
+forged_refused s f body gs says r =
+    subst (λ (b : Option Body). ◌≡◌ {A = Turn} (nothing_queued_line, record s { forgers = gs }) (forged_for s f b)) (sym says) (by (signing_forger s.forgers f.from) r) where
+      by : (found : Option Forger) → ForgesBy found s.forgers f body gs None → ◌≡◌ {A = Turn} (nothing_queued_line, record s { forgers = gs }) (forged_by s f body found)
       by None r = ap {B = Turn} (λ (xs : List Forger). (nothing_queued_line, record s { forgers = xs })) r.1
       by (Some g) r = absurd (none_some r.0)
 
-pub vote_unnamed : (s : StageFacts) (f : Forgery) → digest_named s f.request ≡ None → ◌≡◌ {A = Turn} (nothing_queued_line, s) (forged s f)
-vote_unnamed s f named = sym (ap (forged_for s f) named)
+pub forged_unsaid : (s : StageFacts) (f : Forgery) → forged_body s f.message ≡ None → ◌≡◌ {A = Turn} (nothing_queued_line, s) (forges s f)
+forged_unsaid s f says = sym (ap (forged_for s f) says)

@@ -2,13 +2,15 @@
 use Rattle.std.specs.Prelude.{◌≡◌, ℕ, ◌+◌, Bool, take, ◌++◌, List, [], ◌∷◌, map, if◌then◌else◌}
 use Rattle.host_types.specs.Configuration.{Configuration}
 use Rattle.host_types.specs.declared.config.ClientEntry.{ClientEntry}
-use Rattle.lms_tree.specs.Signature.{public_key_of}
+use Rattle.lms_tree.specs.Keys.{public_key_of_signer}
 use Rattle.lms_tree.specs.SigningState.{SigningState}
-use Rattle.script_text.specs.Heads.{HeadFacts, height_at, no_key}
+use Rattle.script_text.specs.Heads.{HeadFacts, client_shape, no_key}
+use Rattle.script_text.specs.KeyShapes.{shape_at}
+use Rattle.script_text.specs.declared.replica_keys.KeyShape.{KeyShape}
 use Rattle.script_text.specs.declared.script.Client.{Client}
 use Rattle.script_text.specs.declared.script.Secret.{Secret}
 use Rattle.host_types.specs.Configuration.{replicas_for}
-use Rattle.lms_tree.specs.declared.height.Height.{Height}
+use Rattle.host_types.specs.declared.key.PublicKey.{PublicKey}
 use Rattle.sha2.specs.Sha256.{sha256}
 use Rattle.std.specs.Int.{w32, to_be_bytes}
 use Rattle.std.specs.List.{range_with_len}
@@ -18,8 +20,8 @@ use Rattle.world_script.specs.declared.keys.Part.{Part}
 use Rattle.world_script.specs.declared.keys.Part.TheVariants as parts
 
 -- The public key of a signer.
-abbrev pub key_of : SigningState → List ℕ
-key_of s = public_key_of s.height s.id s.secret
+abbrev pub key_of : SigningState → PublicKey
+key_of s = public_key_of_signer s
 
 -- an entry without its key
 abbrev pub unkeyed : ClientEntry → ClientEntry
@@ -54,24 +56,26 @@ part_number parts.Seed = 1
 abbrev pub key_hash : Owner → ℕ → Secret → List ℕ
 key_hash owner part secret = sha256 ((mark_of owner ∷ []) ++ to_be_bytes w32 (number_of owner) ++ (part ∷ []) ++ secret.0)
 
-abbrev pub signer_of : Owner → Height → Secret → SigningState
-signer_of owner height secret = record {
-  height = height;
+-- The signer of a key, which has used the leaves that it is to have used at the start.
+abbrev pub signer_of : Owner → KeyShape → Secret → SigningState
+signer_of owner shape secret = record {
+  height = shape.height;
+  bottom = shape.bottom;
   id = take 16 (key_hash owner 0 secret);
   secret = key_hash owner 1 secret;
-  next_leaf = 0;
+  next_leaf = shape.spent;
 }
 
 -- one for each replica, ids ascending
 abbrev pub replica_signer : HeadFacts → ℕ → SigningState
-replica_signer h id = signer_of (owners.Replica (record { 0 = id })) (height_at h.heights id) h.secret
+replica_signer h id = signer_of (owners.Replica (record { 0 = id })) (shape_at h.keys id) h.secret
 
 abbrev pub replica_signers : HeadFacts → List SigningState
 replica_signers h = map (replica_signer h) (range_with_len 0 (replicas_for h.f))
 
 -- one for each client, in the order of the head
 abbrev pub client_signer : HeadFacts → Client → SigningState
-client_signer h c = signer_of (owners.Client c.id) h.client_height h.secret
+client_signer h c = signer_of (owners.Client c.id) (client_shape h) h.secret
 
 abbrev pub entry_of : HeadFacts → Client → ClientEntry
 entry_of h c = record { id = c.id; tenant = c.tenant; key = key_of (client_signer h c) }

@@ -52,5 +52,12 @@ digest_line id s =
 abbrev pub state_line : ReplicaId → Service → List ℕ
 state_line id s = codes "state " ++ (decimal id.0 ++ (codes " " ++ (encode_lower (encoded s) ++ codes "\n")))
 
+-- the canonical encoding of the state that bytes encode, and what is printed where they encode none
+abbrev pub upgraded_line : Service → List ℕ
+upgraded_line s = codes "upgraded " ++ (encode_lower (encoded s) ++ codes "\n")
+
+abbrev pub no_state_line : List ℕ
+no_state_line = codes "refused BadState\n"
+
 abbrev pub nothing_queued_line : List ℕ
 nothing_queued_line = codes "nothing queued\n"

@@ -24,7 +24,7 @@ use Rattle.world_script.specs.declared.forging.Forger.{Forger}
 use Rattle.replica_core.specs.Facts.{RowFacts}
 use Rattle.byz_world.specs.Worlds.{Gives, WorldFacts, member_of}
 use Rattle.byz_world.specs.declared.event.Event.{Event}
-use Rattle.world_script.specs.Stages.{Delivers, Prints, StageFacts, halt_in, lacked_memory, letters_in, queued, receivers, after_asking, after_forging, after_offer, at_first, forged_vote, is_forger, is_of, signing_forger, signing_session, text_at}
+use Rattle.world_script.specs.Stages.{Delivers, Prints, StageFacts, halt_in, lacked_memory, letters_in, queued, receivers, after_asking, after_forging, after_offer, at_first, forged_message, is_forger, is_of, signing_forger, signing_session, text_at}
 
 -- A request is the session's next one.
 pub record IsRequestOf (session : SessionState) (op : List ℕ) (made : Option CheckedMessage) : Type 0 where
@@ -45,13 +45,13 @@ abbrev pub Offers : List SessionState → ClientId → Result CheckedMessage Sea
 Offers old client (Err fault) text new = (text ≡ []) × (new ≡ old)
 Offers old client (Ok m) text new = (text ≡ text_at (find (is_of client) old) m.message) × (new ≡ after_offer old client m.message)
 
-abbrev pub ForgesBy : Option Forger → List Forger → Forgery → List ℕ → List Forger → Option (List ℕ) → Type 0
-ForgesBy None old f digest new vote = (vote ≡ None) × (new ≡ old)
-ForgesBy (Some g) old f digest new vote = (vote ≡ Some (encoding (forged_vote g.signer f digest))) × (new ≡ at_first (is_forger f.from) after_forging old)
+abbrev pub ForgesBy : Option Forger → List Forger → Forgery → Body → List Forger → Option (List ℕ) → Type 0
+ForgesBy None old f body new bytes = (bytes ≡ None) × (new ≡ old)
+ForgesBy (Some g) old f body new bytes = (bytes ≡ Some (encoding (forged_message g.signer f body))) × (new ≡ at_first (is_forger f.from) after_forging old)
 
--- A faulty replica signs a vote, unless it can't sign.
-abbrev pub Forges : List Forger → Forgery → List ℕ → List Forger → Option (List ℕ) → Type 0
-Forges old f digest new vote = ForgesBy (signing_forger old f.from) old f digest new vote
+-- A faulty replica signs a message, unless it can't sign.
+abbrev pub Forges : List Forger → Forgery → Body → List Forger → Option (List ℕ) → Type 0
+Forges old f body new bytes = ForgesBy (signing_forger old f.from) old f body new bytes
 
 -- An event happens at a replica, which gives a row or none.
 pub record Happened (s : StageFacts) (id : ReplicaId) (event : Event) (gave : Bool) (t : StageFacts) : Type 0 where
@@ -87,15 +87,7 @@ HasMore f s t false = (first_meant f s.queue ≡ None) × (t ≡ s)
 -- A step that delivers nothing.
 abbrev pub Performs : StageFacts → Step → List ℕ → StageFacts → Type 0
 Performs s (steps.Deliver f) text t = text ≡ []
-Performs s (steps.Request o) text t = Prints s (steps.Request o) text t
-Performs s (steps.Drop f) text t = Prints s (steps.Drop f) text t
-Performs s (steps.Repeat f) text t = Prints s (steps.Repeat f) text t
-Performs s (steps.Timeout at) text t = Prints s (steps.Timeout at) text t
-Performs s (steps.Forge f) text t = Prints s (steps.Forge f) text t
-Performs s (steps.Raw to bytes) text t = Prints s (steps.Raw to bytes) text t
-Performs s steps.Show text t = Prints s steps.Show text t
-Performs s steps.Digest text t = Prints s steps.Digest text t
-Performs s (steps.State id) text t = Prints s (steps.State id) text t
+Performs s other text t = Prints s other text t
 
 -- a client's session before its first request, which signs by this signer
 abbrev pub fresh_session : Configuration → ClientEntry → SigningState → SessionState

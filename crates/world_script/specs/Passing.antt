@@ -25,14 +25,7 @@ use Rattle.world_script.specs.Starts.{is_faulty, start_of}
 abbrev pub DoesPart : StageFacts → Step → StageFacts → Type 0
 DoesPart s (steps.Deliver f) t = (n : ℕ) × (text : List ℕ) × Deliveries f n s text t
 DoesPart s (steps.Timeout at) t = (first later : List ReplicaId) × (at ≡ first ++ later) × AllTimeOut s first t
-DoesPart s (steps.Request o) t = t ≡ s
-DoesPart s (steps.Drop f) t = t ≡ s
-DoesPart s (steps.Repeat f) t = t ≡ s
-DoesPart s (steps.Forge f) t = t ≡ s
-DoesPart s (steps.Raw to bytes) t = t ≡ s
-DoesPart s steps.Show t = t ≡ s
-DoesPart s steps.Digest t = t ≡ s
-DoesPart s (steps.State id) t = t ≡ s
+DoesPart s other t = t ≡ s
 
 abbrev pub DoesPartOfFirst : StageFacts → List Step → StageFacts → Type 0
 DoesPartOfFirst s [] t = t ≡ s

@@ -6,11 +6,13 @@ use Rattle.std.specs.Option.{option_map}
 use Rattle.host_types.specs.Configuration.{Configuration, replicas_for}
 use Rattle.host_types.specs.declared.ClientId.{ClientId}
 use Rattle.host_types.specs.declared.ReplicaId.{ReplicaId}
+use Rattle.host_types.specs.declared.View.{View}
 use Rattle.host_types.specs.declared.request.Reply.{Reply}
 use Rattle.lms_tree.specs.Keys.{after_signing, leaf_count}
 use Rattle.lms_tree.specs.SigningState.{SigningState}
 use Rattle.pbft_codec.specs.declared.body.Body.{Body}
 use Rattle.pbft_codec.specs.declared.body.Body.TheVariants as bodies
+use Rattle.pbft_codec.specs.declared.body.view_change.ViewChange.{ViewChange}
 use Rattle.pbft_codec.specs.declared.signed.Role.TheVariants as roles
 use Rattle.pbft_codec.specs.declared.signed.Signed.{Signed}
 use Rattle.pbft_codec.specs.Encoding.{signed_text}
@@ -19,6 +21,7 @@ use Rattle.seal.specs.declared.fault.SealFault.{SealFault}
 use Rattle.seal.specs.declared.vote.VoteKind.{VoteKind}
 use Rattle.seal.specs.declared.vote.VoteKind.TheVariants as votes
 use Rattle.sha2.specs.Sha256.{sha256}
+use Rattle.service_model.specs.Decoding.{Decodes}
 use Rattle.service_model.specs.TenantStates.{Service}
 use Rattle.pbft_model.specs.Core.{Core}
 use Rattle.replica_core.specs.Facts.{RowFacts}
@@ -32,6 +35,10 @@ use Rattle.byz_world.specs.declared.event.Event.{Event}
 use Rattle.byz_world.specs.declared.event.Event.TheVariants as events
 use Rattle.client_session.specs.Sessions.{SessionState, accepted_by, asked, next_request, offered}
 use Rattle.script_text.specs.declared.script.Filter.{Filter}
+use Rattle.script_text.specs.declared.script.Damage.{Damage}
+use Rattle.script_text.specs.declared.script.ForgedMessage.{ForgedMessage}
+use Rattle.script_text.specs.declared.script.ForgedMessage.TheVariants as forged
+use Rattle.script_text.specs.declared.script.ForgedVote.{ForgedVote}
 use Rattle.script_text.specs.declared.script.Forgery.{Forgery}
 use Rattle.script_text.specs.declared.script.Order.{Order}
 use Rattle.script_text.specs.declared.script.Node.{Node}
@@ -40,8 +47,8 @@ use Rattle.script_text.specs.declared.script.Step.{Step}
 use Rattle.script_text.specs.declared.script.Step.TheVariants as steps
 use Rattle.world_script.specs.declared.forging.Forger.{Forger}
 use Rattle.world_script.specs.declared.made.Made.{Made}
-use Rattle.world_script.specs.Letters.{LetterFacts, copies, first_meant, is_meant, letter_of, same_node, without_first}
-use Rattle.world_script.specs.Lines.{digest_line, nothing_queued_line, refusal_line, reply_line, state_line, status_line}
+use Rattle.world_script.specs.Letters.{LetterFacts, copies, first_meant, is_meant, letter_of, mangled, same_node, without_first}
+use Rattle.world_script.specs.Lines.{digest_line, no_state_line, nothing_queued_line, refusal_line, reply_line, state_line, status_line, upgraded_line}
 
 -- What a running script holds.
 pub record StageFacts : Type 0 where
@@ -130,7 +137,7 @@ requested_by s o (Some session) = quiet (with_request s o session)
 abbrev pub requested : StageFacts → Order → Turn
 requested s o = requested_by s o (signing_session s.sessions o.client)
 
--- ---- forged votes
+-- ---- forged messages
 
 abbrev pub is_request : ClientId × ℕ → Made → Bool
 is_request named made = (made.client.0 == named.0.0) && (made.time == named.1)
@@ -140,13 +147,23 @@ abbrev pub digest_named : StageFacts → Option (ClientId × ℕ) → Option (Li
 digest_named s None = Some (sha256 [])
 digest_named s (Some named) = option_map (λ (made : Made). made.digest.0) (find (is_request named) s.made)
 
-abbrev pub vote_of : VoteKind → Forgery → List ℕ → Body
-vote_of votes.PrePrepare f digest = bodies.PrePrepare (record { view = f.view; number = f.number; digest = record { 0 = digest } })
-vote_of votes.Prepare f digest = bodies.Prepare (record { view = f.view; number = f.number; digest = record { 0 = digest } })
-vote_of votes.Commit f digest = bodies.Commit (record { view = f.view; number = f.number; digest = record { 0 = digest } })
+abbrev pub vote_body : VoteKind → ForgedVote → List ℕ → Body
+vote_body votes.PrePrepare v digest = bodies.PrePrepare (record { view = v.view; number = v.number; digest = record { 0 = digest } })
+vote_body votes.Prepare v digest = bodies.Prepare (record { view = v.view; number = v.number; digest = record { 0 = digest } })
+vote_body votes.Commit v digest = bodies.Commit (record { view = v.view; number = v.number; digest = record { 0 = digest } })
 
-abbrev pub forged_vote : SigningState → Forgery → List ℕ → Signed Body
-forged_vote signer f digest = sealed_message signer roles.Replica f.from.0 (vote_of f.kind f digest)
+-- a ViewChange that proves nothing
+abbrev pub bare_view_change : View → ViewChange
+bare_view_change view = record { view = view; low = record { 0 = 0 }; checkpoints = []; certificates = [] }
+
+-- What a forged message says. A vote for a request that was never made is none.
+abbrev pub forged_body : StageFacts → ForgedMessage → Option Body
+forged_body s (forged.Vote v) = option_map (vote_body v.kind v) (digest_named s v.request)
+forged_body s (forged.Checkpoint number digest) = Some (bodies.Checkpoint (record { number = number; digest = digest }))
+forged_body s (forged.ViewChange view) = Some (bodies.ViewChange (bare_view_change view))
+
+abbrev pub forged_message : SigningState → Forgery → Body → Signed Body
+forged_message signer f body = sealed_message signer roles.Replica f.from.0 body
 
 abbrev pub is_forger : ReplicaId → Forger → Bool
 is_forger id g = g.id.0 == id.0
@@ -154,10 +171,10 @@ is_forger id g = g.id.0 == id.0
 abbrev pub after_forging : Forger → Forger
 after_forging g = record g { signer = after_signing g.signer }
 
-abbrev pub with_vote : StageFacts → Forgery → List ℕ → Forger → StageFacts
-with_vote s f digest g = record s {
+abbrev pub with_forged : StageFacts → Forgery → Body → Forger → StageFacts
+with_forged s f body g = record s {
   forgers = at_first (is_forger f.from) after_forging s.forgers;
-  queue = s.queue ++ copies (letter_of (Replica f.from) (forged_vote g.signer f digest)) f.to;
+  queue = s.queue ++ copies (letter_of (Replica f.from) (forged_message g.signer f body)) f.to;
 }
 
 -- the forger of this id that can still sign
@@ -165,17 +182,16 @@ abbrev pub signing_forger : List Forger → ReplicaId → Option Forger
 signing_forger forgers id = if_it_signs (λ (g : Forger). g.signer) (find (is_forger id) forgers)
 
 -- A replica that can't sign queues nothing.
-abbrev pub forged_by : StageFacts → Forgery → List ℕ → Option Forger → Turn
-forged_by s f digest None = nothing_queued s
-forged_by s f digest (Some g) = quiet (with_vote s f digest g)
+abbrev pub forged_by : StageFacts → Forgery → Body → Option Forger → Turn
+forged_by s f body None = nothing_queued s
+forged_by s f body (Some g) = quiet (with_forged s f body g)
 
--- A vote for a request that was never made is none.
-abbrev pub forged_for : StageFacts → Forgery → Option (List ℕ) → Turn
+abbrev pub forged_for : StageFacts → Forgery → Option Body → Turn
 forged_for s f None = nothing_queued s
-forged_for s f (Some digest) = forged_by s f digest (signing_forger s.forgers f.from)
+forged_for s f (Some body) = forged_by s f body (signing_forger s.forgers f.from)
 
-abbrev pub forged : StageFacts → Forgery → Turn
-forged s f = forged_for s f (digest_named s f.request)
+abbrev pub forges : StageFacts → Forgery → Turn
+forges s f = forged_for s f (forged_body s f.message)
 
 -- ---- events at a replica
 
@@ -308,6 +324,14 @@ state_of id (Some service) = state_line id service
 abbrev pub state_printed : WorldFacts → ReplicaId → List ℕ
 state_printed w id = state_of id (service_in (member_of w id.0))
 
+-- ---- what `upgrade` prints
+
+-- The bytes encode a state in one of the versions, and its canonical encoding is printed; or they encode none.
+abbrev pub Upgrades : Configuration → List ℕ → List ℕ → Type 0
+Upgrades c bytes text =
+    ((state : Service) × Decodes c bytes state × (text ≡ upgraded_line state))
+    ⊎ (((state : Service) → Decodes c bytes state → ⊥) × (text ≡ no_state_line))
+
 -- ---- steps
 
 -- The letters that are meant are removed, or queued once more.
@@ -316,6 +340,10 @@ dropped s f = record s { queue = filter (λ (l : LetterFacts). not (is_meant f l
 
 abbrev pub repeated : StageFacts → Filter → StageFacts
 repeated s f = queued s (filter (is_meant f) s.queue)
+
+-- A changed copy of each letter that is meant is queued.
+abbrev pub mangled_by : StageFacts → Filter → Damage → StageFacts
+mangled_by s f damage = queued s (map (mangled damage) (filter (is_meant f) s.queue))
 
 abbrev pub raw_letter : List ℕ → LetterFacts
 raw_letter bytes = record { to = Replica (record { 0 = 0 }); from = None; kind = None; bytes = bytes }
@@ -327,24 +355,18 @@ Prints s (steps.Deliver f) text t = (n : ℕ) × (n ≤ max_deliveries) × Deliv
 Prints s (steps.Drop f) text t = (text, t) ≡ quiet (dropped s f)
 Prints s (steps.Repeat f) text t = (text, t) ≡ quiet (repeated s f)
 Prints s (steps.Timeout at) text t = (text ≡ []) × AllTimeOut s at t
-Prints s (steps.Forge f) text t = (text, t) ≡ forged s f
+Prints s (steps.Forge f) text t = (text, t) ≡ forges s f
+Prints s (steps.Mangle f damage) text t = (text, t) ≡ quiet (mangled_by s f damage)
 Prints s (steps.Raw to bytes) text t = (text, t) ≡ quiet (queued s (copies (raw_letter bytes) to))
 Prints s steps.Show text t = (text ≡ flat_map (status_printed s.world) (ids_of s.world.config)) × (t ≡ s)
 Prints s steps.Digest text t = (text ≡ flat_map (digest_printed s.world) (ids_of s.world.config)) × (t ≡ s)
 Prints s (steps.State id) text t = (text ≡ state_printed s.world id) × (t ≡ s)
+Prints s (steps.Upgrade bytes) text t = Upgrades s.world.config bytes text × (t ≡ s)
 
 -- More messages are meant than a step delivers.
 abbrev pub Overruns : StageFacts → Step → List ℕ → Type 0
 Overruns s (steps.Deliver f) text = (t : StageFacts) × Deliveries f max_deliveries s text t × (first_meant f t.queue ≢ None)
-Overruns s (steps.Request o) text = ⊥
-Overruns s (steps.Drop f) text = ⊥
-Overruns s (steps.Repeat f) text = ⊥
-Overruns s (steps.Timeout at) text = ⊥
-Overruns s (steps.Forge f) text = ⊥
-Overruns s (steps.Raw to bytes) text = ⊥
-Overruns s steps.Show text = ⊥
-Overruns s steps.Digest text = ⊥
-Overruns s (steps.State id) text = ⊥
+Overruns s other text = ⊥
 
 -- nothing, or all that a step prints
 abbrev pub IsAllOrNothing : StageFacts → Step → List ℕ → Type 0
@@ -353,12 +375,4 @@ IsAllOrNothing s step text = (text ≡ []) ⊎ ((t : StageFacts) × Prints s ste
 -- What a step may have printed before it ended: the lines of some deliveries, else all lines or none.
 abbrev pub Begins : StageFacts → Step → List ℕ → Type 0
 Begins s (steps.Deliver f) text = (n : ℕ) × (t : StageFacts) × (n ≤ max_deliveries) × Deliveries f n s text t
-Begins s (steps.Request o) text = IsAllOrNothing s (steps.Request o) text
-Begins s (steps.Drop f) text = IsAllOrNothing s (steps.Drop f) text
-Begins s (steps.Repeat f) text = IsAllOrNothing s (steps.Repeat f) text
-Begins s (steps.Timeout at) text = IsAllOrNothing s (steps.Timeout at) text
-Begins s (steps.Forge f) text = IsAllOrNothing s (steps.Forge f) text
-Begins s (steps.Raw to bytes) text = IsAllOrNothing s (steps.Raw to bytes) text
-Begins s steps.Show text = IsAllOrNothing s steps.Show text
-Begins s steps.Digest text = IsAllOrNothing s steps.Digest text
-Begins s (steps.State id) text = IsAllOrNothing s (steps.State id) text
+Begins s other text = IsAllOrNothing s other text

@@ -1,17 +1,21 @@
-//! Votes that faulty replicas sign, whether they may or not.
+//! Messages that faulty replicas sign, whether they may or not.
 
 ghost use Rattle.std.specs.Prelude.{◌≡◌, true, false, IfOk, IsErrOf, OnOk, position, option_map};
 ghost use Rattle.lms_tree.specs.declared.fault.SignFault.{SignFault};
 ghost use Rattle.lms_tree.specs.Keys.{after_signing};
+ghost use Rattle.pbft_codec.specs.declared.body.Body.TheVariants as bodies;
 ghost use Rattle.pbft_codec.specs.Encoding.{encoding};
 ghost use Rattle.pbft_codec.specs.WellFormed.{BodyWellFormed};
 ghost use Rattle.world_script.specs.Parts.{Forges};
-ghost use Rattle.world_script.specs.Stages.{forged_vote, has_no_leaf, is_forger, vote_of};
+ghost use Rattle.world_script.specs.Stages.{bare_view_change, forged_message, has_no_leaf, is_forger, vote_body};
 
-use host_types::{Bytes, Digest, ReplicaId};
+use host_types::{Bytes, Digest, ReplicaId, SeqNo, View};
 use lms_tree::{SignFault, Signer};
-use pbft_codec::{Body, Commit, PrePrepare, Prepare, Role, Signed, encode, signed_bytes};
-use script_text::Forgery;
+use pbft_codec::{
+    Body, Certificates, Checkpoint, CheckpointList, Commit, PrePrepare, Prepare, Role, Signed,
+    ViewChange, encode, signed_bytes,
+};
+use script_text::{ForgedVote, Forgery, Number};
 use seal::VoteKind;
 use std::alloc::{AllocError, Global};
 
@@ -22,20 +26,21 @@ pub(crate) struct Forger {
     pub signer: Signer,
 }
 
-/// The vote of the forger that a forgery names, for a digest; none where it has no leaf left, or is no
-/// forger.
+/// The bytes of the message that a forgery's forger signs, with this body; none where it has no leaf left,
+/// or is no forger.
 pub(crate) fn forge(
     alloc: Global,
     forgers: &mut Vec<Forger>,
     forgery: &Forgery,
-    digest: Digest,
+    body: Body,
 ) -> Result<Option<Vec<u8>>, AllocError>
-    ensures { IfOk result (λ vote. Forges forgers.old.items forgery.now digest.0 forgers.new.items (option_map (λ bytes. bytes.items) vote)) }
+    requires { BodyWellFormed body }
+    ensures { IfOk result (λ signed. Forges forgers.old.items forgery.now body forgers.new.items (option_map (λ bytes. bytes.items) signed)) }
 {
     let Some(index) = index_of(forgers, forgery.from) else {
         return Ok(None);
     };
-    match forgers[index].sign(alloc, forgery, digest) {
+    match forgers[index].sign(alloc, forgery, body) {
         Ok(bytes) => Ok(Some(bytes)),
         Err(SignFault::Memory) => Err(AllocError),
         Err(SignFault::Exhausted) => Ok(None),
@@ -49,15 +54,11 @@ fn index_of(forgers: &[Forger], id: ReplicaId) -> Option<usize>
 }
 
 impl Forger {
-    /// The bytes of a vote for a digest. Any view and number is signed, the primary's and a backup's votes
-    /// alike. `Exhausted` comes where the signer has no leaf left.
-    fn sign(
-        &mut self,
-        alloc: Global,
-        forgery: &Forgery,
-        digest: Digest,
-    ) -> Result<Vec<u8>, SignFault>
-        ensures vote { IfOk result (λ bytes. bytes.items ≡ encoding (forged_vote self.old.signer forgery.now digest.0)) }
+    /// The bytes of a message with this body. Any view and number is signed, the primary's and a backup's
+    /// votes alike. `Exhausted` comes where the signer has no leaf left.
+    fn sign(&mut self, alloc: Global, forgery: &Forgery, body: Body) -> Result<Vec<u8>, SignFault>
+        requires { BodyWellFormed body }
+        ensures message { IfOk result (λ bytes. bytes.items ≡ encoding (forged_message self.old.signer forgery.now body)) }
         ensures signed { OnOk result (self.new ≡ record self.old { signer = after_signing self.old.signer }) }
         ensures can { OnOk result (has_no_leaf self.old.signer ≡ false) }
         ensures exhausted { IsErrOf result SignFault.Exhausted → (has_no_leaf self.old.signer ≡ true) × (self.new ≡ self.old) }
@@ -65,17 +66,17 @@ impl Forger {
         if self.signer.leaves_left() == 0 {
             return Err(SignFault::Exhausted);
         }
-        let mut vote = Signed {
+        let mut message = Signed {
             role: Role::Replica,
             id: u32::from(forgery.from.0),
-            body: vote_body(forgery, digest),
+            body,
             sig: Bytes::from_vec(Vec::new(alloc)),
         };
-        let Ok(text) = signed_bytes(alloc, &vote) else {
+        let Ok(text) = signed_bytes(alloc, &message) else {
             return Err(SignFault::Memory);
         };
-        vote.sig = Bytes::from_vec(self.signer.sign(&text)?);
-        match encode(alloc, &vote) {
+        message.sig = Bytes::from_vec(self.signer.sign(&text)?);
+        match encode(alloc, &message) {
             Ok(bytes) => Ok(bytes),
             Err(_) => Err(SignFault::Memory),
         }
@@ -83,13 +84,13 @@ impl Forger {
 }
 
 /// The body of a forged vote for a digest.
-fn vote_body(forgery: &Forgery, digest: Digest) -> Body
+pub(crate) fn vote_body(vote: &ForgedVote, digest: Digest) -> Body
     ensures formed { BodyWellFormed result }
-    ensures value { result ≡ vote_of forgery.now.kind forgery.now digest.0 }
+    ensures value { result ≡ vote_body vote.now.kind vote.now digest.0 }
 {
-    let view = forgery.view;
-    let number = forgery.number.get();
-    match forgery.kind {
+    let view = vote.view;
+    let number = vote.number.get();
+    match vote.kind {
         VoteKind::PrePrepare => Body::PrePrepare(PrePrepare {
             view,
             number,
@@ -106,4 +107,28 @@ fn vote_body(forgery: &Forgery, digest: Digest) -> Body
             digest,
         }),
     }
+}
+
+/// The body of a Checkpoint.
+pub(crate) fn checkpoint_body(number: &Number, digest: Digest) -> Body
+    ensures formed { BodyWellFormed result }
+    ensures value { result ≡ bodies.Checkpoint (record { number = number.now; digest = digest }) }
+{
+    Body::Checkpoint(Checkpoint {
+        number: number.get(),
+        digest,
+    })
+}
+
+/// The body of a ViewChange from number 0, which proves nothing.
+pub(crate) fn view_change_body(alloc: Global, view: View) -> Body
+    ensures formed { BodyWellFormed result }
+    ensures value { result ≡ bodies.ViewChange (bare_view_change view) }
+{
+    Body::ViewChange(ViewChange {
+        view,
+        low: SeqNo(0),
+        checkpoints: CheckpointList::from_vec(Vec::new(alloc)),
+        certificates: Certificates::from_vec(Vec::new(alloc)),
+    })
 }

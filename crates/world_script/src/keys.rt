@@ -1,13 +1,15 @@
 //! The keys of a script's replicas and clients, made of its secret.
 
-ghost use Rattle.std.specs.Prelude.{◌≡◌, IfOk, length, map};
+ghost use Rattle.std.specs.Prelude.{◌≡◌, ◌≤◌, ◌+◌, IfOk, OnOk, length, map};
 ghost use Rattle.host_types.specs.Configuration.{replicas_for};
 ghost use Rattle.host_types.specs.declared.config.ClientEntry.{ClientEntry};
+ghost use Rattle.lms_tree.specs.Keys.{leaf_count};
+ghost use Rattle.script_text.specs.KeyShapes.{leaves_of};
 ghost use Rattle.world_script.specs.Keys.{AreKeys, client_signer, configuration_of, entry_of, key_hash, key_of, mark_of, number_of, part_number, replica_signers, signer_of};
 
-use host_types::{ClientEntry, ClientId, Config, ReplicaId};
-use lms_tree::{Height, Signer};
-use script_text::{Head, Secret};
+use host_types::{ClientEntry, ClientId, Config, PublicKey, ReplicaId};
+use lms_tree::{SignFault, Signer};
+use script_text::{Head, KeyShape, Secret};
 use sha2::{Digest, Sha256};
 use std::alloc::{AllocError, Global};
 
@@ -92,19 +94,19 @@ fn replica_signers(alloc: Global, head: &Head) -> Result<Vec<Signer>, AllocError
     for id in 0..head.replica_count() {
         let id = ReplicaId(id);
         let owner = Owner::Replica(id);
-        signers.push(make_signer(alloc, owner, head.height(id), head.secret())?)?;
+        signers.push(make_signer(alloc, owner, head.replica_key(id), head.secret())?)?;
     }
     Ok(signers)
 }
 
 /// The public keys of signers.
-fn public_keys(alloc: Global, signers: &[Signer]) -> Result<Vec<[u8; 56]>, AllocError>
+fn public_keys(alloc: Global, signers: &[Signer]) -> Result<Vec<PublicKey>, AllocError>
     ensures { IfOk result (λ keys. keys.items ≡ map key_of signers.now) }
 {
     signers.iter().map(public_key).collect(alloc)
 }
 
-fn public_key(signer: &Signer) -> [u8; 56]
+fn public_key(signer: &Signer) -> PublicKey
     ensures { result ≡ key_of signer.now }
 {
     signer.public_key()
@@ -119,7 +121,7 @@ fn client_signers(alloc: Global, head: &Head) -> Result<(Vec<ClientEntry>, Vec<S
     let mut signers = Vec::new(alloc);
     for client in head.clients() {
         let owner = Owner::Client(client.id);
-        let signer = make_signer(alloc, owner, head.client_height(), head.secret())?;
+        let signer = make_signer(alloc, owner, head.client_key(), head.secret())?;
         entries.push(ClientEntry {
             id: client.id,
             tenant: client.tenant,
@@ -134,16 +136,37 @@ fn client_signers(alloc: Global, head: &Head) -> Result<(Vec<ClientEntry>, Vec<S
 fn make_signer(
     alloc: Global,
     owner: Owner,
-    height: Height,
+    shape: KeyShape,
     secret: &Secret,
 ) -> Result<Signer, AllocError>
-    ensures { IfOk result (λ s. s ≡ signer_of owner height secret.now) }
+    requires { shape.spent ≤ leaves_of shape }
+    ensures { IfOk result (λ s. s ≡ signer_of owner shape secret.now) }
 {
     let hash = hash_of(owner, Part::Identity, secret);
     let mut identity = [0; 16];
     identity.copy_from_slice(&hash[..16]);
     let seed = hash_of(owner, Part::Seed, secret);
-    Signer::from_seed(alloc, height, identity, seed)
+    let mut signer = match shape.bottom {
+        None => Signer::from_seed(alloc, shape.height, identity, seed)?,
+        Some(bottom) => Signer::from_seed2(alloc, shape.height, bottom, identity, seed)?,
+    };
+    spend(&mut signer, shape.spent)?;
+    Ok(signer)
+}
+
+/// Uses so many leaves of a signer, for signatures of one byte that is no message.
+fn spend(signer: &mut Signer, many: u32) -> Result<(), AllocError>
+    requires { signer.old.next_leaf + many ≤ leaf_count signer.old }
+    ensures { OnOk result (signer.new ≡ record signer.old { next_leaf = signer.old.next_leaf + many }) }
+{
+    for turn in 0..many {
+        match signer.sign(&[0]) {
+            Ok(_) => {}
+            Err(SignFault::Memory) => return Err(AllocError),
+            Err(SignFault::Exhausted) => unreachable!(),
+        }
+    }
+    Ok(())
 }
 
 fn hash_of(owner: Owner, part: Part, secret: &Secret) -> [u8; 32]

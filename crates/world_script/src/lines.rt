@@ -1,7 +1,7 @@
 //! The lines that a script prints.
 
 ghost use Rattle.std.specs.Prelude.{◌≡◌, IfOk, string_bytes};
-ghost use Rattle.world_script.specs.Lines.{digest_line, refusal_line, reply_line, state_line, status_line};
+ghost use Rattle.world_script.specs.Lines.{digest_line, no_state_line, refusal_line, reply_line, state_line, status_line, upgraded_line};
 
 use host_types::{ReplicaId, Reply};
 use replica_core::Status;
@@ -78,4 +78,20 @@ pub(crate) fn line_of_state(
     let bytes = state.to_bytes()?;
     let digits = hex::encode(alloc, bytes.as_slice())?;
     format!(in alloc; "state {id} {digits}\n")
+}
+
+/// The canonical encoding of a state.
+pub(crate) fn line_of_upgrade(alloc: Global, state: &State) -> Result<String, AllocError>
+    ensures { IfOk result (λ line. string_bytes line ≡ upgraded_line state.now) }
+{
+    let bytes = state.to_bytes()?;
+    let digits = hex::encode(alloc, bytes.as_slice())?;
+    format!(in alloc; "upgraded {digits}\n")
+}
+
+/// That bytes are no state.
+pub(crate) fn line_of_no_state(alloc: Global) -> Result<String, AllocError>
+    ensures { IfOk result (λ line. string_bytes line ≡ no_state_line) }
+{
+    String::from_str(alloc, "refused BadState\n")
 }

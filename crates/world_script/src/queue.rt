@@ -1,15 +1,15 @@
 //! Messages on their way.
 
-ghost use Rattle.std.specs.Prelude.{◌≡◌, ◌++◌, ◌∷◌, [], Some, None, IfNone, IfOk, OnOk, MatchOption, filter as kept, not};
+ghost use Rattle.std.specs.Prelude.{◌≡◌, ◌++◌, ◌∷◌, [], Some, None, IfNone, IfOk, OnOk, MatchOption, filter as kept, map, not};
 ghost use Rattle.std.specs.List.{list_any};
 ghost use Rattle.script_text.specs.declared.kind.Kind.{Kind};
 ghost use Rattle.script_text.specs.declared.script.Node.{Node};
 ghost use Rattle.world_script.specs.Stages.{all_but};
-ghost use Rattle.world_script.specs.Letters.{LetterFacts, addressed, copies, first_meant, is_among, is_meant, same_kind, same_node, without_first};
+ghost use Rattle.world_script.specs.Letters.{LetterFacts, addressed, copies, cut, damaged, first_meant, flipped, is_among, is_meant, mangled, same_kind, same_node, without_first};
 
 use host_types::Bytes;
 use pbft_codec::Sequence;
-use script_text::{Filter, Kind, Node};
+use script_text::{Damage, Filter, Kind, Node};
 use std::alloc::{AllocError, Global};
 use std::collections::VecDeque;
 use std::marker::Model;
@@ -79,6 +79,19 @@ impl Letter {
         })
     }
 
+    /// The same letter with changed bytes.
+    fn mangled(&self, alloc: Global, damage: Damage) -> Result<Letter, AllocError>
+        ensures { IfOk result (λ l. l ≡ mangled damage self.now) }
+    {
+        let bytes = damaged(alloc, self.bytes(), damage)?;
+        Ok(Letter {
+            to: self.to,
+            from: self.from,
+            kind: self.kind,
+            bytes: Arc::new(alloc, Bytes::from_vec(bytes))?,
+        })
+    }
+
     /// Whether a filter means it.
     fn is_meant_by(&self, filter: &Filter) -> bool
         ensures { result ≡ is_meant filter.now self.now }
@@ -86,6 +99,42 @@ impl Letter {
         names_node(&filter.to, Some(self.to))
             && names_node(&filter.from, self.from)
             && names_kind(&filter.kinds, self.kind)
+    }
+}
+
+/// A changed copy of bytes. Where there are too few of them it is the same.
+fn damaged(alloc: Global, bytes: &[u8], damage: Damage) -> Result<Vec<u8>, AllocError>
+    ensures { IfOk result (λ v. v.items ≡ damaged damage bytes.now) }
+{
+    match damage {
+        Damage::Cut(many) => Vec::from_slice(alloc, without_last(bytes, many)),
+        Damage::Flip(places) => {
+            let mut copy = Vec::from_slice(alloc, bytes)?;
+            flip(&mut copy, places);
+            Ok(copy)
+        }
+    }
+}
+
+/// Bytes without so many of the last ones.
+fn without_last(bytes: &[u8], many: u64) -> &[u8]
+    ensures { result.now ≡ cut many bytes.now }
+{
+    match usize::try_from(many) {
+        Ok(many) if many <= bytes.len() => &bytes[..bytes.len() - many],
+        _ => bytes,
+    }
+}
+
+/// Flips the lowest bit of the byte so many places before the last one.
+fn flip(bytes: &mut [u8], places: u64)
+    ensures { bytes.new ≡ flipped places bytes.old }
+{
+    if let Ok(places) = usize::try_from(places) {
+        if places < bytes.len() {
+            let index = bytes.len() - 1 - places;
+            bytes[index] ^= 1;
+        }
     }
 }
 
@@ -223,6 +272,21 @@ impl Queue {
             if let Some(letter) = self.letters.get(index) {
                 if letter.is_meant_by(filter) {
                     let letter = letter.copy_to(letter.to)?;
+                    self.push(letter)?;
+                }
+            }
+        }
+        Ok(())
+    }
+
+    /// Queues a changed copy of each letter that is meant.
+    pub(crate) fn mangle(&mut self, filter: &Filter, damage: Damage) -> Result<(), AllocError>
+        ensures { OnOk result (self.new ≡ self.old ++ map (mangled damage) (kept (is_meant filter.now) self.old)) }
+    {
+        for index in 0..self.letters.len() {
+            if let Some(letter) = self.letters.get(index) {
+                if letter.is_meant_by(filter) {
+                    let letter = letter.mangled(self.alloc, damage)?;
                     self.push(letter)?;
                 }
             }

@@ -1,6 +1,6 @@
 //! A running script: the replicas, the clients, and the messages between them.
 
-ghost use Rattle.std.specs.Prelude.{◌≡◌, ◌++◌, None, IfOk, OnOk, find, flat_map, length, map, option_copied, option_map, string_bytes};
+ghost use Rattle.std.specs.Prelude.{◌≡◌, ◌++◌, None, IfOk, IfSome, OnOk, find, flat_map, length, map, option_copied, option_map, string_bytes};
 ghost use Rattle.std.specs.FinSet as set;
 ghost use Rattle.byz_world.specs.Worlds.{first_world, member_of};
 ghost use Rattle.world_script.specs.Starts.{forgers_from, numbers_of, start_of};
@@ -13,13 +13,17 @@ ghost use Rattle.world_script.specs.Letters.{copies, first_meant, letter_of};
 ghost use Rattle.world_script.specs.Parts.{DeliversNext, Performs, Happened, HasMore, ahead, with_message};
 ghost use Rattle.pbft_codec.specs.declared.body.Body.TheVariants as bodies;
 ghost use Rattle.pbft_codec.specs.declared.body.request.RequestBody.{RequestBody};
-ghost use Rattle.world_script.specs.Stages.{AllTimeOut, HandsTo, TimesOut, AtReplica, at_client, digest_named, forged, ids_of, is_request, is_running, letters_in, letters_of, lacked_memory, halt_in, refusal_of, all_replicas, raw_letter, queued, requested, digest_printed, state_printed, status_printed};
+ghost use Rattle.pbft_codec.specs.WellFormed.{BodyWellFormed};
+ghost use Rattle.world_script.specs.Stages.{AllTimeOut, HandsTo, TimesOut, AtReplica, Upgrades, at_client, digest_named, forged_body, forges, ids_of, is_request, is_running, letters_in, letters_of, lacked_memory, halt_in, refusal_of, all_replicas, raw_letter, queued, requested, digest_printed, state_printed, status_printed};
 ghost use Rattle.seal.specs.Opening.{opening};
 
 use crate::fault::RunFault;
-use crate::forging::{Forger, forge};
+use crate::forging::{Forger, checkpoint_body, forge, view_change_body, vote_body};
 use crate::keys::make_keys;
-use crate::lines::{line_of_digest, line_of_refusal, line_of_state, line_of_status};
+use crate::lines::{
+    line_of_digest, line_of_no_state, line_of_refusal, line_of_state, line_of_status,
+    line_of_upgrade,
+};
 use crate::made::Made;
 use crate::queue::{Letter, Queue};
 use crate::sessions::Sessions;
@@ -29,8 +33,9 @@ use host_types::{Bytes, ClientId, Config, Digest, ReplicaId, ReplicaSet};
 use lms_tree::Signer;
 use pbft_codec::Body;
 use replica_core::{Dest, Halt, Output, Row};
-use script_text::{Filter, Forgery, Head, Kind, Node, Order, Step};
+use script_text::{Filter, ForgedMessage, Forgery, Head, Kind, Node, Order, Step};
 use seal::{Checked, SealFault, open, request_digest};
+use service_core::{State, StateFault};
 use sha2::{Digest as _, Sha256};
 use std::alloc::{AllocError, Global};
 use std::io::Write;
@@ -121,6 +126,10 @@ impl Stage {
                 self.queue.repeat(filter)?;
                 Ok(nothing)
             }
+            Step::Mangle { filter, damage } => {
+                self.queue.mangle(filter, *damage)?;
+                Ok(nothing)
+            }
             Step::Timeout(at) => {
                 self.time_out(at.as_slice())?;
                 Ok(nothing)
@@ -132,6 +141,7 @@ impl Stage {
             Step::Show => self.statuses(),
             Step::Digest => self.digests(),
             Step::State(id) => self.state_text(*id),
+            Step::Upgrade(bytes) => self.upgrade_text(bytes.as_slice()),
             Step::Deliver(_) => Ok(nothing),
         }
     }
@@ -168,21 +178,36 @@ impl Stage {
         }
     }
 
-    /// Signs a vote of a faulty replica and queues it. What is printed.
+    /// Signs a message of a faulty replica and queues it. What is printed.
     fn forge(&mut self, forgery: &Forgery) -> Result<String, AllocError>
-        ensures { IfOk result (λ text. (string_bytes text, self.new) ≡ forged self.old forgery.now) }
+        ensures { IfOk result (λ text. (string_bytes text, self.new) ≡ forges self.old forgery.now) }
     {
-        let Some(digest) = self.digest_named(&forgery.request) else {
+        let Some(body) = self.forged_body(&forgery.message) else {
             return nothing_queued(self.alloc);
         };
-        let Some(vote) = forge(self.alloc, &mut self.forgers, forgery, digest)? else {
+        let kind = Kind::of(&body);
+        let Some(bytes) = forge(self.alloc, &mut self.forgers, forgery, body)? else {
             return nothing_queued(self.alloc);
         };
         let from = Node::Replica(forgery.from);
-        let kind = Kind::of_vote(forgery.kind);
-        let letter = Letter::new(self.alloc, from, Some(from), Some(kind), &vote)?;
+        let letter = Letter::new(self.alloc, from, Some(from), Some(kind), &bytes)?;
         self.queue.send(&letter, forgery.to.as_slice())?;
         Ok(String::new(self.alloc))
+    }
+
+    /// What a forged message says; none where it is a vote for a request that was never made.
+    fn forged_body(&self, message: &ForgedMessage) -> Option<Body>
+        ensures formed { IfSome result BodyWellFormed }
+        ensures value { result ≡ forged_body self.now message.now }
+    {
+        match message {
+            ForgedMessage::Vote(vote) => {
+                let digest = self.digest_named(&vote.request)?;
+                Some(vote_body(vote, digest))
+            }
+            ForgedMessage::Checkpoint { number, digest } => Some(checkpoint_body(number, *digest)),
+            ForgedMessage::ViewChange(view) => Some(view_change_body(self.alloc, *view)),
+        }
     }
 
     /// The digest of a request that was made, or of the null request.
@@ -427,6 +452,17 @@ impl Stage {
         match self.world.state(id) {
             Some(state) => line_of_state(self.alloc, id, state),
             None => Ok(String::new(self.alloc)),
+        }
+    }
+
+    /// The canonical encoding of the state that bytes encode, or that they encode none.
+    fn upgrade_text(&self, bytes: &[u8]) -> Result<String, AllocError>
+        ensures { IfOk result (λ text. Upgrades self.now.world.config bytes.now (string_bytes text)) }
+    {
+        match State::from_bytes(self.alloc, Arc::try_clone(&self.config)?, bytes) {
+            Ok(state) => line_of_upgrade(self.alloc, &state),
+            Err(StateFault::BadState) => line_of_no_state(self.alloc),
+            Err(StateFault::Memory) => Err(AllocError),
         }
     }
 }

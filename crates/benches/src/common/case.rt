@@ -1,7 +1,7 @@
 //! A signature and what it is verified over.
 
 use anyhow::{Result, anyhow};
-use host_types::{ClientId, Config, ReplicaId};
+use host_types::{ClientId, Config, PublicKey, ReplicaId};
 use lms_tree::verify;
 use pbft_codec::{Role, signed_bytes};
 use seal::Checked;
@@ -10,13 +10,13 @@ use std::alloc::Global;
 /// A key, a text, and the signature of the text.
 #[derive(Drop)]
 pub(crate) struct Case {
-    pub(crate) key: [u8; 56],
+    pub(crate) key: PublicKey,
     pub(crate) text: Vec<u8>,
     pub(crate) sig: Vec<u8>,
 }
 
 /// The key of who signed a message.
-fn key_of(config: &Config, message: &Checked) -> Option<[u8; 56]> {
+fn key_of(config: &Config, message: &Checked) -> Option<PublicKey> {
     match message.signer() {
         (Role::Replica, id) => {
             let id = u8::try_from(id).ok()?;

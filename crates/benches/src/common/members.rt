@@ -24,6 +24,16 @@ pub(crate) fn signers(
     Ok(signers)
 }
 
+/// The signers with the ids from 0 on, whose keys are of two levels of height 5.
+pub(crate) fn signers_of_levels(alloc: Global, count: u8) -> Result<Vec<Signer>, AllocError> {
+    let mut signers = Vec::new(alloc);
+    for id in 0..count {
+        let signer = Signer::from_seed2(alloc, Height::H5, Height::H5, [id; 16], [2; 32])?;
+        signers.push(signer)?;
+    }
+    Ok(signers)
+}
+
 /// The configuration of replicas, of which so many may be faulty, and of clients. All clients are of one
 /// tenant.
 pub(crate) fn config(

@@ -1,7 +1,7 @@
 //! States of the service, with no replicas around them.
 
 use anyhow::{Result, anyhow};
-use host_types::{Bytes, ClientEntry, ClientId, Config, Request, TenantId};
+use host_types::{Bytes, ClientEntry, ClientId, Config, PublicKey, Request, TenantId};
 use service_core::State;
 use std::alloc::Global;
 use std::sync::Arc;
@@ -20,14 +20,14 @@ pub(crate) fn config(
 ) -> Result<Arc<Config>> {
     let mut keys = Vec::new(alloc);
     for index in 0..replicas {
-        keys.push([index; 56])?;
+        keys.push(PublicKey::Lms([index; 56]))?;
     }
     let mut entries = Vec::new(alloc);
     for index in 0..clients {
         entries.push(ClientEntry {
             id: ClientId(FIRST.saturating_add(index)),
             tenant: TenantId((index % tenants.max(1)).saturating_add(1)),
-            key: [7; 56],
+            key: PublicKey::Lms([7; 56]),
         })?;
     }
     let config = Config::new(faulty, 8, keys, entries)?;

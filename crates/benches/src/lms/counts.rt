@@ -13,15 +13,17 @@ pub(crate) fn public_blocks() -> u64 {
     blocks_of(22 + 67 * 32)
 }
 
-/// A tree of height 10: each leaf's 67 chains of a start and 15 steps, its public value and its node,
-/// and the nodes above.
+/// A leaf's 67 chains of a start and 15 steps, its public value and its node.
+pub(crate) fn leaf_blocks() -> u64 {
+    (67u64 * 16)
+        .saturating_add(public_blocks())
+        .saturating_add(blocks_of(54))
+}
+
+/// A tree of height 10: what each leaf takes, and the nodes above.
 pub(crate) fn key_blocks() -> u64 {
     1024u64
-        .saturating_mul(
-            (67u64 * 16)
-                .saturating_add(public_blocks())
-                .saturating_add(blocks_of(54)),
-        )
+        .saturating_mul(leaf_blocks())
         .saturating_add(1023u64.saturating_mul(blocks_of(86)))
 }
 

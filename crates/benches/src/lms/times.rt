@@ -2,16 +2,17 @@
 
 use crate::common::ratio::{Limit, Ratio, require_within_limits};
 use crate::lms::counts::{blocks_of, key_blocks, sign_blocks, verify_blocks};
+use crate::lms::levels;
 use anyhow::{Result, anyhow};
 use lms_tree::{Height, Signer, verify};
 use sha2::{Digest, Sha256};
 use std::time::Instant;
 
-const ID: [u8; 16] = [1; 16];
+pub(crate) const ID: [u8; 16] = [1; 16];
 
-const SECRET: [u8; 32] = [2; 32];
+pub(crate) const SECRET: [u8; 32] = [2; 32];
 
-const MESSAGE: [u8; 40] = [3; 40];
+pub(crate) const MESSAGE: [u8; 40] = [3; 40];
 
 /// The bytes of a long message.
 const LONG: usize = 1_000_000;
@@ -29,7 +30,7 @@ fn hashes(count: u64) -> u8 {
     input[23]
 }
 
-fn nanoseconds_of_hashes(rt: &HostRuntime, count: u64) -> Result<u128> {
+pub(crate) fn nanoseconds_of_hashes(rt: &HostRuntime, count: u64) -> Result<u128> {
     let start = Instant::now(rt)?;
     let last = hashes(count);
     let taken = start.elapsed(rt)?.as_nanos();
@@ -38,7 +39,7 @@ fn nanoseconds_of_hashes(rt: &HostRuntime, count: u64) -> Result<u128> {
 }
 
 /// Prints a ratio, and returns whether it is within the limit.
-fn print_ratio(
+pub(crate) fn print_ratio(
     rt: &HostRuntime,
     work: &str,
     blocks: u64,
@@ -136,5 +137,6 @@ pub(crate) fn print_times(rt: &HostRuntime) -> Result<()> {
     let verified = print_verification(rt, &mut signer)?;
     let verified_again = print_verification(rt, &mut signer)?;
     let signed = print_signatures(rt, &mut signer)?;
-    require_within_limits(key && verified && verified_again && signed)
+    let levels = levels::print_times(rt)?;
+    require_within_limits(key && verified && verified_again && signed && levels)
 }

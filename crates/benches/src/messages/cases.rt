@@ -1,11 +1,11 @@
 //! Messages as bytes, put together by hand.
 
 use crate::common::case::Case;
-use crate::common::members::{config, signers};
+use crate::common::members::{config, signers, signers_of_levels};
 use crate::common::signing::{put_length_prefixed, put_message};
 use anyhow::{Result, anyhow};
 use host_types::Config;
-use lms_tree::Height;
+use lms_tree::{Height, Signer};
 use std::alloc::{AllocError, Global};
 use std::sync::Arc;
 
@@ -95,9 +95,8 @@ pub(crate) fn new_view(alloc: Global) -> Result<Vec<u8>> {
     Ok(bytes)
 }
 
-/// This text of replica 1 as a message, where one replica may be faulty.
-fn seal_text(alloc: Global, text: Vec<u8>) -> Result<Sealed> {
-    let mut signers = signers(alloc, Height::H5, 0, 4)?;
+/// This text of replica 1 as a message, where one of the replicas with these signers may be faulty.
+fn seal_text(alloc: Global, mut signers: Vec<Signer>, text: Vec<u8>) -> Result<Sealed> {
     let config = config(alloc, 1, 8, &signers, &[])?;
     let Some(signer) = signers.get_mut(1) else {
         return Err(anyhow!("there is no such replica"));
@@ -116,13 +115,30 @@ fn seal_text(alloc: Global, text: Vec<u8>) -> Result<Sealed> {
 
 /// A Commit.
 pub(crate) fn commit(alloc: Global) -> Result<Sealed> {
-    seal_text(alloc, vote(alloc, 1, 4, 1)?)
+    let signers = signers(alloc, Height::H5, 0, 4)?;
+    seal_text(alloc, signers, vote(alloc, 1, 4, 1)?)
 }
 
 /// A Snapshot of some eight million bytes.
 pub(crate) fn snapshot(alloc: Global) -> Result<Sealed> {
+    let signers = signers(alloc, Height::H5, 0, 4)?;
+    seal_text(alloc, signers, snapshot_text(alloc)?)
+}
+
+/// The same where the replicas have keys of two levels.
+pub(crate) fn commit_of_levels(alloc: Global) -> Result<Sealed> {
+    let signers = signers_of_levels(alloc, 4)?;
+    seal_text(alloc, signers, vote(alloc, 1, 4, 1)?)
+}
+
+pub(crate) fn snapshot_of_levels(alloc: Global) -> Result<Sealed> {
+    let signers = signers_of_levels(alloc, 4)?;
+    seal_text(alloc, signers, snapshot_text(alloc)?)
+}
+
+fn snapshot_text(alloc: Global) -> Result<Vec<u8>> {
     let state = Vec::from_elem(alloc, 7u8, STATE)?;
     let mut text = text(alloc, 1, &[10, 0, 0, 0, 0, 0, 0, 0, 8])?;
     put_length_prefixed(&mut text, &state)?;
-    seal_text(alloc, text)
+    Ok(text)
 }

@@ -100,6 +100,15 @@ fn print_decodes(rt: &HostRuntime, snapshot: &Sealed) -> Result<bool> {
     Ok(read && read_nested)
 }
 
+/// Opening messages that are signed with keys of two levels.
+fn print_of_levels(rt: &HostRuntime) -> Result<bool> {
+    let commit = cases::commit_of_levels(rt.alloc())?;
+    let snapshot = cases::snapshot_of_levels(rt.alloc())?;
+    let opened = print_open(rt, "opening a commit of two levels", &commit, 100)?;
+    let opened_long = print_open(rt, "opening a snapshot of two levels", &snapshot, 1)?;
+    Ok(opened && opened_long)
+}
+
 /// Prints all ratios; an error where one passes its limit.
 pub(crate) fn print_times(rt: &HostRuntime) -> Result<()> {
     let snapshot = cases::snapshot(rt.alloc())?;
@@ -107,5 +116,6 @@ pub(crate) fn print_times(rt: &HostRuntime) -> Result<()> {
     let read = print_decodes(rt, &snapshot)?;
     let opened = print_open(rt, "opening a commit", &commit, 100)?;
     let opened_long = print_open(rt, "opening a snapshot", &snapshot, 1)?;
-    require_within_limits(read && opened && opened_long)
+    let levels = print_of_levels(rt)?;
+    require_within_limits(read && opened && opened_long && levels)
 }

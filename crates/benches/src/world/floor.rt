@@ -4,7 +4,7 @@ use crate::common::members::config;
 use crate::common::processor_time::ProcessorTime;
 use crate::common::signing::message_bytes;
 use anyhow::{Result, anyhow};
-use host_types::{Config, Digest, SeqNo, View};
+use host_types::{Config, Digest, PublicKey, SeqNo, View};
 use lms_tree::{Height, Signer, verify};
 use pbft_codec::{Body, Commit, Role};
 use seal::open;
@@ -106,7 +106,7 @@ pub(crate) fn nanoseconds_of_signing(
 /// The processor's time of so many verifications, of these signatures in turn, in nanoseconds.
 pub(crate) fn nanoseconds_of_verifying(
     rt: &HostRuntime,
-    key: &[u8; 56],
+    key: &PublicKey,
     signed: &[([u8; 50], Vec<u8>)],
     count: usize,
 ) -> Result<u128> {

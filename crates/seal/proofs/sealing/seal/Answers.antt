@@ -8,5 +8,5 @@ pub encoded-requires-clause-within : goal.encoded-requires-clause-within
 encoded-requires-clause-within c =
     let s = c.args.signer.now in
     let body = ap (λ (m : Signed Body). m.body) c.with_empty_signature-unsigned.ensures in
-    let valid = rw (← c.from_vec.ensures) at c.in_ok-signature.ensures.valid in
-    sealed_within s.height s.id s.secret c.deref.result.now _ _ valid (rw body c.requires.within)
+    let long = rw (← c.from_vec.ensures) at c.in_ok-signature.ensures.length in
+    sealed_within s _ _ long (rw body c.requires.within)

@@ -1,13 +1,12 @@
 use Rattle.std.proofs.Common.{◌≡◌, ◌++◌, ℕ, List, length}
-use Rattle.lms_tree.specs.Verifying.{Holds}
+use Rattle.lms_tree.specs.Verifying.{IsFed}
 use Rattle.seal.proofs.signature.update_and_copy.Given as goal
 
 abbrev pub invariant-loop-unhashed : goal.invariant-loop-unhashed
 invariant-loop-unhashed l = record {
   of_key : l.verifier.key.now ≡ l.fn.verifier.key.now;
   of_sig : l.verifier.sig.now ≡ l.fn.verifier.sig.now;
-  fed : (key sig body : List ℕ) → Holds l.fn.verifier.hasher key sig body →
-      (x : List ℕ) × Holds l.verifier.hasher key sig (body ++ x) × (x ++ l.unhashed ≡ l.fn.text);
+  fed : (body : List ℕ) → IsFed l.fn.verifier body → (x : List ℕ) × IsFed l.verifier (body ++ x) × (x ++ l.unhashed ≡ l.fn.text);
   copied : l.copy.items ++ l.uncopied ≡ l.fn.copy.items ++ l.fn.bytes;
 }
 

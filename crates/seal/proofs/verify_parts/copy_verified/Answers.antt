@@ -1,7 +1,7 @@
 use Rattle.std.proofs.Common.{◌≡◌, ◌++◌, cond, ◌⊎◌, inl, inr, List, ℕ, Option, Some, None, Ok, Err, Result, refl, sym, ◌∙◌, ap}
 use Rattle.std.specs.Prelude.{is_some, IfErr, IfOk, MatchResult}
 use Rattle.std.proofs.lemmas.Result.{err_from_is_err_and}
-use Rattle.lms_tree.specs.declared.fault.SigFault.{SigFault}
+use Rattle.lms_tree.specs.declared.SigFault.{SigFault}
 use Rattle.lms_tree.specs.Signature.{signature_fault}
 use Rattle.pbft_codec.specs.declared.body.Body.{Body}
 use Rattle.pbft_codec.specs.declared.signed.Signed.{Signed}

@@ -3,12 +3,14 @@ use Rattle.std.specs.Prelude.{flat_map}
 use Rattle.std.proofs.lemmas.List.{append-nil, length-map}
 use Rattle.bpf_verifier.specs.Verified.{Verified}
 use Rattle.service_model.specs.Words.{u32_bytes}
-use Rattle.service_model.specs.Encoding.{length_prefixed}
+use Rattle.service_model.specs.declared.version.Version.TheVariants.{Second}
+use Rattle.service_model.specs.Encoding.{encoded_procedure}
+use Rattle.service_core.specs.Procedures.{procedure_of}
 use Rattle.service_core.proofs.Fed.{fed_same, fed_more, fed_all, flat_map-map}
 use Rattle.service_core.proofs.encoding.put_procedures.Goals as goal
 
 abbrev piece : Verified → List ℕ
-piece p = length_prefixed p.bytes
+piece p = encoded_procedure Second (procedure_of p)
 
 pub loop-procedure-init : goal.loop-procedure-init
 loop-procedure-init g c =
@@ -16,14 +18,13 @@ loop-procedure-init g c =
 
 pub loop-procedure-preserved : goal.loop-procedure-preserved
 loop-procedure-preserved g c =
-    fed_more g.S.Sink.holds c.args.sink.now c.loop-procedure.sink c.put_length_prefixed.new.sink (u32_bytes (length c.args.procedures.now)) piece c.args.procedures.now c.loop-procedure.procedure-index c.procedure-item.result
-    c.loop-procedure-test.true c.procedure-item.is c.loop-procedure.invariant
-    (fed_same g.S.Sink.holds c.loop-procedure.sink c.put_length_prefixed.new.sink (length_prefixed c.code.result.now) (piece c.procedure-item.result) (ap length_prefixed c.code.ensures.value) c.in_ok-put_length_prefixed.ensures)
+    fed_more g.S.Sink.holds c.args.sink.now c.loop-procedure.sink c.put_procedure.new.sink (u32_bytes (length c.args.procedures.now)) piece c.args.procedures.now c.loop-procedure.procedure-index c.procedure-item.result
+    c.loop-procedure-test.true c.procedure-item.is c.loop-procedure.invariant c.in_ok-put_procedure.ensures
 
 pub returns : goal.returns
 returns g c =
-    let codes = map (λ (p : Verified). p.bytes) c.args.procedures.now in
-    fed_same g.S.Sink.holds c.args.sink.now c.loop-procedure.sink (u32_bytes (length c.args.procedures.now) ++ flat_map piece c.args.procedures.now) (u32_bytes (length codes) ++ flat_map length_prefixed codes)
-    (ap (λ (n : ℕ). u32_bytes n ++ flat_map piece c.args.procedures.now) (sym (length-map c.args.procedures.now (λ (p : Verified). p.bytes)))
-    ∙ ap (λ (ys : List ℕ). u32_bytes (length codes) ++ ys) (sym (flat_map-map length_prefixed (λ (p : Verified). p.bytes) c.args.procedures.now)))
+    let procedures = map procedure_of c.args.procedures.now in
+    fed_same g.S.Sink.holds c.args.sink.now c.loop-procedure.sink (u32_bytes (length c.args.procedures.now) ++ flat_map piece c.args.procedures.now) (u32_bytes (length procedures) ++ flat_map (encoded_procedure Second) procedures)
+    (ap (λ (n : ℕ). u32_bytes n ++ flat_map piece c.args.procedures.now) (sym (length-map c.args.procedures.now procedure_of))
+    ∙ ap (λ (ys : List ℕ). u32_bytes (length procedures) ++ ys) (sym (flat_map-map (encoded_procedure Second) procedure_of c.args.procedures.now)))
     (fed_all g.S.Sink.holds c.args.sink.now c.loop-procedure.sink (u32_bytes (length c.args.procedures.now)) piece c.args.procedures.now c.loop-procedure.procedure-index c.loop-procedure-test.false c.loop-procedure.invariant)

@@ -15,4 +15,4 @@ returns-clause-read c =
     let here = c.in_ok-procedures.ensures in
     let codes = sym c.with-part.ensures.procedures in
     let entries = sym c.with-part.ensures.entries in
-    subst (λ (x : Contents). AreContents x × (c.args.bytes.now ≡ encoded_contents c.args.tenant.0 x ++ c.in_ok-procedures.rest.now)) (λ i. (codes i, entries i)) here
+    subst (λ (x : Contents). AreContents c.args.version x × (c.args.bytes.now ≡ encoded_contents c.args.version c.args.tenant.0 x ++ c.in_ok-procedures.rest.now)) (λ i. (codes i, entries i)) here

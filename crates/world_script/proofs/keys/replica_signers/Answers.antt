@@ -1,8 +1,8 @@
 use Rattle.std.proofs.Common.{◌≡◌, ◌++◌, ◌∷◌, [], List, map, ap, ◌∙◌}
 use Rattle.std.specs.List.{range_with_len}
 use Rattle.lms_tree.specs.SigningState.{SigningState}
-use Rattle.lms_tree.specs.declared.height.Height.{Height}
-use Rattle.script_text.specs.Heads.{height_at}
+use Rattle.script_text.specs.KeyShapes.{shape_at}
+use Rattle.script_text.specs.declared.replica_keys.KeyShape.{KeyShape}
 use Rattle.script_text.specs.declared.script.Secret.{Secret}
 use Rattle.world_script.specs.declared.keys.Owner.{Owner}
 use Rattle.world_script.specs.declared.keys.Owner.TheVariants as owners
@@ -14,7 +14,7 @@ pub loop-id-preserved : goal.loop-id-preserved
 loop-id-preserved c =
     let owner : Owner = owners.Replica (record { 0 = c.loop-id.id }) in
     let made : c.in_ok-make_signer.field-0 ≡ replica_signer c.args.head.now c.loop-id.id =
-    c.in_ok-make_signer.ensures ∙ ap (λ (h : Height). signer_of owner h c.secret.result.now) c.height.ensures
-    ∙ ap (λ (s : Secret). signer_of owner (height_at c.args.head.now.heights c.loop-id.id) s) c.secret.ensures in
+    c.in_ok-make_signer.ensures ∙ ap (λ (h : KeyShape). signer_of owner h c.secret.result.now) c.replica_key.ensures.value
+    ∙ ap (λ (s : Secret). signer_of owner (shape_at c.args.head.now.keys c.loop-id.id) s) c.secret.ensures in
     c.in_ok-push.ensures.items ∙ ap (λ (ss : List SigningState). ss ++ c.in_ok-make_signer.field-0 ∷ []) c.loop-id.invariant
     ∙ ap (λ (s : SigningState). map (replica_signer c.args.head.now) (range_with_len 0 c.loop-id.id) ++ s ∷ []) made ∙ mapped_push (replica_signer c.args.head.now) c.loop-id.id

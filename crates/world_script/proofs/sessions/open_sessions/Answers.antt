@@ -4,6 +4,7 @@ use Rattle.std.proofs.lemmas.List.Elements.{All-push}
 use Rattle.client_session.specs.Sessions.{SessionState}
 use Rattle.host_types.specs.Configuration.{Configuration, IsConfiguration}
 use Rattle.host_types.specs.declared.config.ClientEntry.{ClientEntry}
+use Rattle.host_types.specs.declared.key.PublicKey.TheVariants.{Lms}
 use Rattle.world_script.proofs.Entries.{one_session_more}
 use Rattle.world_script.proofs.Listed.{keys_behind, listed_at}
 use Rattle.world_script.proofs.sessions.open_sessions.Goals as goal
@@ -14,7 +15,7 @@ new_session-requires-clause-listed c =
     (c.clients-entry-items.ensures.value ∙ ap (λ (x : Configuration). x.clients) c.deref.ensures) c.loop-entry-test.true
 
 abbrev nobody : ClientEntry
-nobody = record { id = record { 0 = 0 }; tenant = record { 0 = 0 }; key = [] }
+nobody = record { id = record { 0 = 0 }; tenant = record { 0 = 0 }; key = Lms [] }
 
 pub loop-entry-preserved : goal.loop-entry-preserved
 loop-entry-preserved c = (

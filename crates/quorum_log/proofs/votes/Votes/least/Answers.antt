@@ -1,5 +1,6 @@
-use Rattle.std.proofs.Common.{sym, ap, ◌∙◌, ◌++◌, ◌∷◌, [], arith}
+use Rattle.std.proofs.Common.{◌≡◌, Bool, true, false, cond, Option, Some, None, sym, ap, ◌∙◌, ◌++◌, ◌∷◌, [], arith}
 use Rattle.std.specs.Option.{option_copied}
+use Rattle.seal.specs.Opening.{CheckedMessage}
 use Rattle.quorum_log.proofs.Least.{took, passed, left_out}
 use Rattle.quorum_log.proofs.votes.Votes.least.Goals as goal
 use Rattle.quorum_log.proofs.votes.Votes.least.Goals.{in-Some, then-seen-many+in_ok-copy+in_ok-push, else-seen-many, in_default}
@@ -29,3 +30,14 @@ loop-signer-preserved c =
           let next = left_out c.args.self.now c.args.digest.now.0 c.args.many c.loop-signer.signer c.loop-signer.seen is inv.1 in
           (ap (λ l. l.config) w.list-is ∙ inv.0, w.seen-is ∙ next.counted, omega (arith, w.seen-is, inv.2), ap (λ l. l.messages) w.list-is ∙ inv.3 ∙ next.gathered)
     ]
+
+held : {X : Type 0} (b : Bool) (o : Option X) (x : X) → Some x ≡ cond b o None → o ≡ Some x
+held true o x e = sym e
+held false o x e = absurd cc
+
+-- a vote that is held is under the configuration
+pub push-requires : goal.push-requires
+push-requires c =
+    ap (λ (m : CheckedMessage). m.config) c.in_ok-copy.ensures
+    ∙ (c.requires c.loop-signer.signer c.in-Some.message.now (held _ _ _ (sym (ap option_copied c.in-Some.is) ∙ c.vote_for.ensures))
+    ∙ sym c.loop-signer.invariant.0)

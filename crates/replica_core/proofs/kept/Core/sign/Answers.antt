@@ -6,5 +6,5 @@ pub overflow_add-self : goal.overflow_add-self
 overflow_add-self c =
     let few = c.self.invariant.few in
     let all = c.leaves_left.ensures in
-    let small = leaf_count_small c.self.inside.signer.height in
+    let small = leaf_count_small c.self.inside.signer in
     omega arith

@@ -1,5 +1,0 @@
-use Rattle.hss_keys.proofs.KeyLemmas.{few-leaves}
-use Rattle.hss_keys.proofs.laws.leaves_are_few.Goals as goal
-
-pub returns : goal.returns
-returns c s = few-leaves s.height s.bottom

@@ -1,5 +1,0 @@
-use Rattle.hss_keys.proofs.KeyLemmas.{other-leaf}
-use Rattle.hss_keys.proofs.laws.no_leaf_signs_twice.Goals as goal
-
-pub returns : goal.returns
-returns c s n m first second small smaller same = other-leaf s.height s.bottom s.id s.secret n m first second small smaller same

@@ -1,0 +1,4 @@
+pub mod Faults
+pub mod Tree
+pub mod Signature
+pub mod Verifying

@@ -1,0 +1,4 @@
+pub mod Dealing
+pub mod Lanes
+pub mod Runs
+pub mod Settled

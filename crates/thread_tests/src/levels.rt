@@ -1,0 +1,48 @@
+//! A host whose replicas have keys of two levels.
+
+use crate::calls::called;
+use crate::gates::TURNS;
+use crate::place::{Place, call_it, four_of_two_levels, install};
+use replica_core::Row;
+use std::test::Fail;
+
+/// The leaves of a bottom tree.
+const LEAVES: u32 = 32;
+
+/// The requests, each of which takes three leaves at a replica.
+const REQUESTS: u8 = 12;
+
+// How many leaves the rows of a journal used.
+fn leaves_of(rows: &[Row]) -> u32 {
+    let mut leaves: u32 = 0;
+    for row in rows {
+        leaves = leaves.saturating_add(row.leaves());
+    }
+    leaves
+}
+
+#[test]
+fn replicas_with_two_levels_go_past_a_bottom_tree(rt: HostRuntime) -> Result<(), Fail> {
+    let alloc = rt.alloc();
+    let Place {
+        config,
+        signers,
+        client,
+    } = four_of_two_levels(alloc)?;
+    let mut ops = Vec::new(alloc);
+    ops.push(install(alloc)?)?;
+    for _ in 1..REQUESTS {
+        ops.push(call_it(alloc)?)?;
+    }
+    let (replies, journals) = called(&rt, alloc, signers, (config, client), ops, TURNS)?;
+    if replies.len() != usize::from(REQUESTS) || !replies.iter().all(|reply| reply.is_ok()) {
+        return Err(Fail::new("a call without a reply"));
+    }
+    if !journals
+        .iter()
+        .any(|journal| leaves_of(&journal.1) > LEAVES)
+    {
+        return Err(Fail::new("no replica has used a bottom tree up"));
+    }
+    Ok(())
+}
