@@ -129,7 +129,26 @@ fn twenty_posts_are_in_the_journal_each_once(rt: HostRuntime) -> Result<(), Fail
     Ok(())
 }
 
-// Posts a request to all while the gate holds replica 0, and then another to replica 0.
+// Posts a request to replica 0, which the gate then holds, and now that request to the others and another to
+// replica 0. Whether replica 0 was about to step for both.
+fn post_while_held<R: Clock + Drop, C: Clock + Wait>(
+    rt: &C,
+    alloc: Global,
+    host: &Host,
+    gate: &Watch<R>,
+    first: &[u8],
+    second: &[u8],
+) -> Result<bool, Fail> {
+    post_to(rt, alloc, host, 0, first)?;
+    let begun = wait_for_steps(rt, gate, 0, 1);
+    for id in 1..4u8 {
+        post_to(rt, alloc, host, id, first)?;
+    }
+    post_to(rt, alloc, host, 0, second)?;
+    Ok(begun && wait_for_steps(rt, gate, 0, 2))
+}
+
+// What the others and the openers do while the gate holds replica 0.
 fn held<R: Threads + Wait + Clock + Copy + Send + Sync + Drop + 'static>(
     rt: &R,
     alloc: Global,
@@ -154,11 +173,7 @@ fn held<R: Threads + Wait + Clock + Copy + Send + Sync + Drop + 'static>(
         1,
         Arc::try_clone(&gate)?,
     )?;
-    for id in 0..4u8 {
-        post_to(rt, alloc, &host, id, first)?;
-    }
-    post_to(rt, alloc, &host, 0, second)?;
-    let seen = wait_for_steps(rt, &*gate, 0, 2);
+    let seen = post_while_held(rt, alloc, &host, &*gate, first, second)?;
     host.close(rt)?;
     if !seen || gate.gave_up() {
         return fail("replica 0 was held too long");
