@@ -13,7 +13,7 @@ mod steps;
 mod times;
 
 /// Lets a client call, or does what a word names.
-pub(crate) fn run<R: Threads + Wait + Copy + Send + Drop + 'static>(
+pub(crate) fn run<R: Threads + Wait + Copy + Send + Sync + Drop + 'static>(
     rt: &HostRuntime,
     threads: &R,
     work: Option<&str>,

@@ -6,7 +6,7 @@ use crate::check::check;
 use crate::failure::Failure;
 use clap::{Arg, ArgAction, ArgMatches, Command, value_parser};
 use code_commands::{Profile, asm, disasm, exec, verify};
-use host_script::{Audited, run_script, run_threads};
+use host_script::{Audited, Played, run_script, run_threads};
 use host_types::ClientId;
 use std::alloc::{AllocError, Global};
 use std::io::{Read, Write};
@@ -43,7 +43,7 @@ Status: 0 done, 1 refused, 2 a fault of the command line, 3 out of memory, 4 a r
 /// lines, faults too, go to the writer. `run` waits until its requests are executed.
 pub fn run_command<
     'a,
-    R: Files + AllocGlobal + Threads + Wait + Copy + Send + Drop + 'static,
+    R: Files + AllocGlobal + Threads + Wait + Copy + Send + Sync + Drop + 'static,
     I: Read,
     O: Write,
 >(rt: &R, words: &'a [&'a str], reader: &mut I, writer: &mut O) -> u8
@@ -164,7 +164,7 @@ fn check_command<'a>(alloc: Global) -> Result<Command<'a>, AllocError> {
 
 fn dispatch<
     'a,
-    R: Files + AllocGlobal + Threads + Wait + Copy + Send + Drop + 'static,
+    R: Files + AllocGlobal + Threads + Wait + Copy + Send + Sync + Drop + 'static,
     I: Read,
     O: Write,
 >(rt: &R, words: &'a [&'a str], reader: &mut I, writer: &mut O) -> Result<(), Failure> {
@@ -203,15 +203,23 @@ fn run_parsed<I: Read, O: Write>(
             reader,
             writer,
         )?),
-        Some(("world", _)) => Ok(run_script(alloc, reader, writer)?),
+        Some(("world", _)) => play(alloc, reader, writer),
         Some(("exec", options)) => call(alloc, options, reader, writer),
         Some(_) => Err(Failure::Nested),
         None => call(alloc, matches, reader, writer),
     }
 }
 
+/// Runs a script of a world.
+fn play<I: Read, O: Write>(alloc: Global, reader: &mut I, writer: &mut O) -> Result<(), Failure> {
+    match run_script(alloc, reader, writer)? {
+        Played::Whole => Ok(()),
+        Played::Unexpected => Err(Failure::Refused),
+    }
+}
+
 /// Runs a script on replicas in threads.
-fn run<R: AllocGlobal + Threads + Wait + Copy + Send + 'static, I: Read, O: Write>(
+fn run<R: AllocGlobal + Threads + Wait + Copy + Send + Sync + 'static, I: Read, O: Write>(
     rt: &R,
     reader: &mut I,
     writer: &mut O,

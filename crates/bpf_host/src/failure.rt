@@ -16,8 +16,9 @@ pub enum Failure {
     /// A script has a fault, or ended early; its line is written already.
     #[error("{0}")]
     Script(ScriptFault),
-    /// The journals of running replicas don't agree; the line that says so is written already.
-    #[error("the journals don't agree")]
+    /// The journals of running replicas don't agree, or an `expect` of a script finds other lines; the line that says so is
+    /// written already.
+    #[error("the journals don't agree, or other lines were expected")]
     Refused,
     /// A folder's runs can't be read.
     #[error("{0}")]

@@ -30,7 +30,18 @@ fn main(rt: HostRuntime) -> ExitCode {
 /// read are an error.
 fn run<R>(rt: &R) -> io::Result<u8>
 where
-    R: Files + Env + Input + Print + AllocGlobal + Threads + Wait + Copy + Send + Drop + 'static,
+    R: Files
+        + Env
+        + Input
+        + Print
+        + AllocGlobal
+        + Threads
+        + Wait
+        + Copy
+        + Send
+        + Sync
+        + Drop
+        + 'static,
 {
     let alloc = rt.alloc();
     let arguments: Vec<String> = env::args(rt)?.collect(alloc)?;

@@ -1,28 +1,25 @@
 //! Why records have no history.
 
 use std::alloc::{AllocError, AllocFailed};
-use thiserror::Error;
+use std::error::Error;
+use std::fmt::{self, Display, Formatter};
 
 /// Why records have no history. Of several faults the first is reported.
-#[derive(Clone, Copy, Debug, PartialEq, Eq, Error)]
+#[derive(Clone, Copy, Debug, PartialEq, Eq)]
 pub enum AuditFault {
     /// One number was executed, or one was installed, with different digests or results.
-    #[error("Differ")]
     Differ = 1,
     /// A record's executions do not rise by one, from 0 or from the number last installed.
-    #[error("Gap")]
     Gap = 2,
     /// No record has executed a number up to the greatest.
-    #[error("Unrecorded")]
     Unrecorded = 3,
     /// Memory ran out.
-    #[error("Memory")]
     Memory = 4,
 }
 
 impl AuditFault {
     ghost use Rattle.std.specs.Prelude.{◌≡◌};
-    ghost use Rattle.byz_world.specs.Faults.{audit_number_of};
+    ghost use Rattle.byz_world.specs.Faults.{audit_name_of, audit_number_of};
 
     /// The fault's number.
     pub fn number(&self) -> u8
@@ -30,7 +27,32 @@ impl AuditFault {
     {
         *self as u8
     }
+
+    /// The fault's name.
+    pub fn name(&self) -> &'static str
+        ensures { result.now ≡ audit_name_of self.now }
+    {
+        match self {
+            AuditFault::Differ => "Differ",
+            AuditFault::Gap => "Gap",
+            AuditFault::Unrecorded => "Unrecorded",
+            AuditFault::Memory => "Memory",
+        }
+    }
 }
+
+impl Display for AuditFault {
+    ghost use Rattle.std.specs.Prelude.{Some};
+    ghost use Rattle.byz_world.specs.Faults.{audit_name_of};
+
+    ghost output = { λ fault. Some (audit_name_of fault) };
+
+    fn fmt<W: fmt::Write>(&self, f: &mut Formatter<W>) -> fmt::Result {
+        f.write_str(self.name())
+    }
+}
+
+impl Error for AuditFault {}
 
 impl From<AllocError> for AuditFault {
     ghost use Rattle.std.specs.Prelude.{◌≡◌};

@@ -72,6 +72,17 @@ impl Member {
         self.keeper.replica()
     }
 
+    /// Its id, and handles of its rows so far.
+    pub(crate) fn record(&self, alloc: Global) -> Result<(ReplicaId, Vec<Row>), AllocError>
+        ensures { IfOk result (λ r. r.1.items ≡ self.now.rows) }
+    {
+        let mut record = Vec::new(alloc);
+        for row in self.keeper.rows() {
+            record.push(row.copy()?)?;
+        }
+        Ok((self.id, record))
+    }
+
     /// Takes a message: the row that it gives, if it gives one.
     pub(crate) fn take(&mut self, message: &Checked) -> Result<Option<Row>, WorldFault>
         requires config { message.now.config ≡ self.old.replica.config }

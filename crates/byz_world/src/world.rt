@@ -8,15 +8,19 @@ ghost use Rattle.pbft_model.specs.Journals.{Agrees, Journals};
 ghost use Rattle.seal.specs.Opening.{opening};
 ghost use Rattle.view_change.specs.Setups.{setup_of};
 ghost use Rattle.replica_core.specs.declared.row.Input.TheVariants as inputs;
+ghost use Rattle.byz_world.specs.Audits.{IsAudit};
 ghost use Rattle.byz_world.specs.Handing.{UnlessMemory, index_in};
 ghost use Rattle.byz_world.specs.Procedures.{StaysSafe};
 ghost use Rattle.byz_world.specs.Worlds.{AreListed, Comes, Delivers, Gives, Happens, IsHonestReport, IsRefused, IsReported, IsSignedBy, Runs, WorldFacts, correct_ids, facts_of, first_members, first_world, member_of, outcome_of, output_of};
 ghost use Rattle.byz_world.specs.declared.event.Event.TheVariants as events;
 ghost use Rattle.byz_world.specs.declared.fault.WorldFault.TheVariants as faults;
 
+use crate::audit_fault::AuditFault;
 use crate::event::Event;
 use crate::fault::WorldFault;
+use crate::history::History;
 use crate::member::Member;
+use crate::records::audit;
 use crate::report::{Outcome, Report};
 use host_types::{Config, ReplicaId, ReplicaSet};
 use lms_tree::Signer;
@@ -108,6 +112,14 @@ impl World {
             Some(member) => member.replica().state(),
             None => None,
         }
+    }
+
+    /// What an audit of the correct replicas' rows so far answers.
+    pub fn audit(&self) -> Result<History, AuditFault>
+        ensures { IsAudit (map (λ m. m.rows) self.now.members) result }
+    {
+        let records = records_of(self.alloc, &self.members)?;
+        audit(self.alloc, &records)
     }
 
     /// What the correct replicas did. It is refused only where memory ran out.
@@ -255,6 +267,17 @@ fn first_members(
         }
     }
     Ok(members)
+}
+
+/// Handles of each correct replica's rows.
+fn records_of(alloc: Global, members: &[Member]) -> Result<Vec<(ReplicaId, Vec<Row>)>, AllocError>
+    ensures { IfOk result (λ records. map (λ r. r.1.items) records.items ≡ map (λ m. m.rows) members.now) }
+{
+    let mut records = Vec::new(alloc);
+    for member in members {
+        records.push(member.record(alloc)?)?;
+    }
+    Ok(records)
 }
 
 /// What each correct replica did.

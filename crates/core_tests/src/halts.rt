@@ -50,8 +50,8 @@ const THE_LAST_VIEW: Scenario = Scenario {
     replica: 1,
     leaves: 32,
     lines: "
-        0 view-change 4294967295 low 0 => leaves 0
-        2 view-change 4294967295 low 0 => view-change 4294967295 low 0 to all; leaves 1
+        2 view-change 4294967295 low 0 => leaves 0
+        3 view-change 4294967295 low 0 => view-change 4294967295 low 0 to all; leaves 1
         timeout                        => halts: Worn
         stands                         => view 4294967295 changing low 0 executed 0 left 0 halted Worn no state
         timeout                        => halts: AlreadyHalted
@@ -73,6 +73,21 @@ const THE_LAST_NUMBER: Scenario = Scenario {
     ",
 };
 
+// The state of the last number is installed.
+const NO_NUMBER_LEFT: Scenario = Scenario {
+    replica: 0,
+    leaves: 32,
+    lines: "
+        1 checkpoint 281474976710655 last => leaves 0
+        2 checkpoint 281474976710655 last => leaves 0
+        3 checkpoint 281474976710655 last => fetch state 281474976710655 to all; leaves 1
+        1 snapshot 281474976710655 last   => installed 281474976710655 last; leaves 0
+        request a                         => halts: Worn
+        stands                            => view 0 active low 281474976710655 executed 281474976710655 left 0 halted Worn no state
+        request b                         => halts: AlreadyHalted
+    ",
+};
+
 #[test]
 fn a_replica_stops(rt: HostRuntime) -> Result<(), Fail> {
     play_all(
@@ -83,6 +98,7 @@ fn a_replica_stops(rt: HostRuntime) -> Result<(), Fail> {
             A_TIMEOUT,
             THE_LAST_VIEW,
             THE_LAST_NUMBER,
+            NO_NUMBER_LEFT,
         ],
     )
 }

@@ -1,14 +1,15 @@
 //! A replica that takes messages as the bytes that come to it.
 
-ghost use Rattle.std.specs.Prelude.{◌≡◌};
+ghost use Rattle.std.specs.Prelude.{◌≡◌, ◌<◌};
 
-use host_types::{Config, ReplicaId};
+use host_types::{Config, Gate, ReplicaId};
 use lms_tree::Signer;
 use replica_core::{Halt, Replica, Row};
 use seal::open;
 use std::alloc::Global;
 use std::sync::Arc;
 use std::test::Fail;
+use std::thread::Threads;
 
 /// A replica, and the configuration that it runs under.
 #[derive(Drop)]
@@ -50,6 +51,20 @@ impl Node {
     pub fn take(&mut self, bytes: &[u8]) -> Result<Result<Row, Halt>, Fail> {
         let message = open(self.alloc, &self.config, bytes)?;
         Ok(self.replica.take(&message))
+    }
+
+    /// Opens a message, and takes it in lanes.
+    pub fn take_lanes<R: Threads + Sync, G: Gate + Sync>(
+        &mut self,
+        rt: &R,
+        bytes: &[u8],
+        workers: u8,
+        gate: &G,
+    ) -> Result<Result<Row, Halt>, Fail>
+        requires { 0 < workers }
+    {
+        let message = open(self.alloc, &self.config, bytes)?;
+        Ok(self.replica.take_lanes(rt, &message, workers, gate))
     }
 
     pub fn timeout(&mut self) -> Result<Row, Halt> {

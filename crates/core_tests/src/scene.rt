@@ -148,20 +148,21 @@ impl Scene {
             let state = self.state_after(times)?;
             self.words.add(name, state.digest(), &state.to_bytes()?)?;
         }
-        self.add_late_state()?;
+        self.add_late_state("late", (1 << 48) - 2)?;
+        self.add_late_state("last", (1 << 48) - 1)?;
         self.add_first_version()
     }
 
-    // The first state's bytes, with the last number but one in place of 0: behind the version.
-    fn add_late_state(&mut self) -> Result<(), Fail> {
+    // The first state's bytes, with another number in place of 0: behind the version.
+    fn add_late_state(&mut self, name: &'static str, number: u64) -> Result<(), Fail> {
         let first = self.words.state("s0")?;
         let (_, rest) = first.as_slice().split_at(first.as_slice().len().min(9));
         let mut bytes = Vec::from_slice(self.alloc, &[2])?;
-        bytes.extend_from_slice(&((1u64 << 48) - 2).to_be_bytes())?;
+        bytes.extend_from_slice(&number.to_be_bytes())?;
         bytes.extend_from_slice(rest)?;
         let config = Arc::try_clone(&self.config)?;
         let state = State::from_canonical(self.alloc, config, &bytes)?;
-        self.words.add("late", state.digest(), &bytes)?;
+        self.words.add(name, state.digest(), &bytes)?;
         Ok(())
     }
 

@@ -3,14 +3,14 @@
 ghost use Rattle.std.specs.Prelude.{◌≡◌};
 
 use crate::callers::Callers;
-use byz_world::{AuditFault, audit};
+use byz_world::audit;
 use host_types::{Bytes, Gate, ReplicaId};
 use replica_threads::Host;
 use script_text::{Head, Order, Step};
 use std::alloc::{AllocError, Global};
 use std::sync::{Arc, Wait};
 use std::thread::Threads;
-use world_script::{Keys, line_of_reply, make_keys};
+use world_script::{Keys, line_of_audit, line_of_reply, make_keys};
 
 /// The rows that the journal of a replica has room for.
 const MAX_ROWS: u32 = 65_536;
@@ -46,7 +46,7 @@ pub(crate) struct Group {
 
 impl Group {
     /// The replicas and clients of a head. It is refused where memory ran out or a thread could not be made.
-    pub(crate) fn start<R: Threads + Wait + Copy + Send + 'static>(
+    pub(crate) fn start<R: Threads + Wait + Copy + Send + Sync + 'static>(
         rt: &R,
         alloc: Global,
         head: &Head,
@@ -107,18 +107,11 @@ impl Group {
         let Ok(journals) = self.host.close(rt) else {
             return Err(AllocError);
         };
-        match audit(self.alloc, &journals) {
-            Ok(history) => {
-                let greatest = history.greatest().0;
-                let line = format!(in self.alloc; "audit agreed {greatest}\n")?;
-                Ok((Audited::Agreed, line))
-            }
-            Err(AuditFault::Memory) => Err(AllocError),
-            Err(fault) => {
-                let number = fault.number();
-                let line = format!(in self.alloc; "audit fault {number} {fault}\n")?;
-                Ok((Audited::Refused, line))
-            }
+        let answer = audit(self.alloc, &journals);
+        let line = line_of_audit(self.alloc, &answer)?;
+        match answer {
+            Ok(_) => Ok((Audited::Agreed, line)),
+            Err(_) => Ok((Audited::Refused, line)),
         }
     }
 }

@@ -3,11 +3,13 @@
 //!     let ended = run_threads(&rt, alloc, &mut reader, &mut writer)?;
 #![tactic(auto)]
 
+mod broken;
 mod callers;
 mod group;
 mod run;
 
+pub use broken::{BrokenReader, BrokenWriter};
 pub use group::Audited;
 pub use run::run_threads;
 pub use script_text::{Script, ScriptFault, ScriptKind, read_script, read_thread_script};
-pub use world_script::run_script;
+pub use world_script::{Played, run_script};

@@ -12,7 +12,7 @@ use world_script::{read_input, report, write_text};
 /// of each reply that a client accepts; at the end the line of an audit of the replicas' journals. Each
 /// request waits until its reply is accepted: forever, where the replicas can't execute it. A fault's line is
 /// written too, but for that of a failed write.
-pub fn run_threads<R: Threads + Wait + Copy + Send + 'static, I: Read, O: Write>(
+pub fn run_threads<R: Threads + Wait + Copy + Send + Sync + 'static, I: Read, O: Write>(
     rt: &R,
     alloc: Global,
     reader: &mut I,
@@ -24,7 +24,7 @@ pub fn run_threads<R: Threads + Wait + Copy + Send + 'static, I: Read, O: Write>
     }
 }
 
-fn run<R: Threads + Wait + Copy + Send + 'static, I: Read, O: Write>(
+fn run<R: Threads + Wait + Copy + Send + Sync + 'static, I: Read, O: Write>(
     rt: &R,
     alloc: Global,
     reader: &mut I,

@@ -1,6 +1,7 @@
 -- What an act gives is what is kept, and a reply that is given is short.
 use Rattle.std.proofs.Common.{◌≡◌, ℕ, ◌+◌, ◌<◌, ◌≤◌, List, length, Option, Some, None, refl, sym, ap, subst, ◌∙◌, arith}
-use Rattle.std.specs.Prelude.{IfSome}
+use Rattle.std.specs.Prelude.{IfSome, IsSome}
+use Rattle.std.proofs.lemmas.Bool.{false≢true}
 use Rattle.std.proofs.lemmas.Option.{same_Some}
 use Rattle.host_types.specs.Configuration.{Configuration}
 use Rattle.host_types.specs.declared.SeqNo.{SeqNo}
@@ -9,8 +10,9 @@ use Rattle.pbft_codec.specs.declared.body.Body.TheVariants as bodies
 use Rattle.service_model.proofs.Injective.{last_bounded}
 use Rattle.service_model.specs.Bounded.{IsBoundedReply}
 use Rattle.lms_tree.specs.Keys.{leaf_count}
-use Rattle.pbft_model.specs.Acts.{Destination, Send, ToClient}
+use Rattle.pbft_model.specs.Acts.{Act, Destination, Send, ToClient, acted}
 use Rattle.pbft_model.specs.Duties.{due_reply, reply_body}
+use Rattle.pbft_model.specs.Rows.{HasLeaves}
 use Rattle.pbft_model.specs.Rules.{own_message}
 use Rattle.pbft_model.specs.Sequential.{IsSound, Service, last_reply_of}
 use Rattle.pbft_model.specs.Setup.{number_limit}
@@ -18,7 +20,7 @@ use Rattle.pbft_model.specs.Tables.{at, number_key}
 use Rattle.pbft_model.specs.Words.{Reply}
 use Rattle.view_change.proofs.Sealing.{reply_is_sealable}
 use Rattle.view_change.specs.Sealable.{IsSealable}
-use Rattle.replica_core.specs.Doing.{Fulfilled, Says}
+use Rattle.replica_core.specs.Doing.{Fulfilled, Says, SendsOwed, act_done}
 use Rattle.replica_core.specs.Replicas.{KeptReplica}
 use Rattle.replica_core.proofs.Said.{given, says_reply, says_snapshot}
 
@@ -79,3 +81,17 @@ replies k k' t r body is said enough sent noted =
           (sent ∙ ap (given k (ToClient r.client.0)) said) noted,
     ) in
     subst (λ (o : Option Reply). Fulfilled k (due_reply k.me k.core o) t) (sym is) done
+
+-- the reply that is owed is sent and noted
+pub sends_owed : (k t u : KeptReplica) (o : Option Reply) → IsSome o → Fulfilled k (due_reply k.me k.core o) t → u ≡ record t { core = acted t.core } → SendsOwed k o u
+sends_owed k t u None some done noted = absurd (false≢true some)
+sends_owed k t u (Some reply) some (a, does, leaves, is) noted =
+    let whole : u ≡ act_done k a = λ i. record {
+      config = (ap (λ (x : KeptReplica). x.config) noted ∙ is.config) i;
+      me = (ap (λ (x : KeptReplica). x.me) noted ∙ is.me) i;
+      core = (ap (λ (x : KeptReplica). x.core) noted ∙ is.core) i;
+      outputs = (ap (λ (x : KeptReplica). x.outputs) noted ∙ is.outputs) i;
+      done = (ap (λ (x : KeptReplica). x.done) noted ∙ is.done) i;
+      leaves = (ap (λ (x : KeptReplica). x.leaves) noted ∙ is.leaves) i;
+    } in
+    (subst (λ (x : Act). HasLeaves k.core x) does leaves, whole ∙ ap (act_done k) does)

@@ -41,7 +41,7 @@ some_of g None h = absurd (false≢true h)
 some_of g (Some x) h = refl
 
 -- a duty that is due where a test passes
-passed : (test : Bool) (d : Duty) (o : Option Duty) → o ≡ when test d → IsSome o → (test ≡ true) × (o ≡ Some d)
+pub passed : (test : Bool) (d : Duty) (o : Option Duty) → o ≡ when test d → IsSome o → (test ≡ true) × (o ≡ Some d)
 passed false d o e some = absurd (false≢true (subst (λ (x : Option Duty). IsSome x) e some))
 passed true d o e some = (refl, e)
 

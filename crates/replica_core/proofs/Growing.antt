@@ -13,7 +13,7 @@ use Rattle.view_change.specs.Setups.{setup_of}
 
 module _ (c : Setup) (me : ℕ) where
   -- two stretches are one
-  joined : (acts more : List Act) (s t u : Core) → Follows c me s acts t → Follows c me t more u → Follows c me s (acts ++ more) u
+  pub joined : (acts more : List Act) (s t u : Core) → Follows c me s acts t → Follows c me t more u → Follows c me s (acts ++ more) u
   joined [] more s t u same rest = subst (λ (x : Core). Follows c me x more u) same rest
   joined (a ∷ acts) more s t u (does, leaves, rest) later = (does, leaves, joined acts more (after c s a) t u rest later)
 

@@ -35,5 +35,8 @@ pub mod Dispatch
 pub mod Ascending
 pub mod Ceasing
 pub mod Opening
+pub mod Committing
+pub mod Batching
+pub mod Applying
 pub mod Reacting
 pub mod LowMarks

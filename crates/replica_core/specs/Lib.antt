@@ -10,6 +10,7 @@ pub mod Replicas
 pub mod Doing
 pub mod Meanings
 pub mod Settling
+pub mod Batching
 pub mod OwnViewChange
 pub mod Opens
 pub mod Answering

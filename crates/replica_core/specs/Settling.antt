@@ -1,9 +1,10 @@
 -- Internal: what a message or a timeout makes a replica do, until nothing is due, and when it halts in place of it.
-use Rattle.std.specs.Prelude.{◌≡◌, ℕ, ◌+◌, ◌++◌, List, [], ◌∷◌, None}
+use Rattle.std.specs.Prelude.{◌≡◌, ℕ, ◌+◌, ◌<◌, ◌++◌, List, [], ◌∷◌, None}
 use Rattle.pbft_model.specs.Words.{SigningState}
 use Rattle.pbft_model.specs.Acts.{Act}
 use Rattle.pbft_model.specs.Core.{Core}
 use Rattle.pbft_model.specs.Duties.{due}
+use Rattle.pbft_model.specs.Ending.{left_to_do}
 use Rattle.pbft_model.specs.Histories.{IsHistory, core_after}
 use Rattle.pbft_model.specs.Rows as model
 use Rattle.pbft_model.specs.Rows.{Follows, Fulfils, HasLeaves, Lacks, all_done, all_leaves, all_outputs, done_of, leaves_for, outputs_of}
@@ -32,6 +33,12 @@ pub record IsAfter (k : KeptReplica) (acts : List Act) (t : KeptReplica) : Type 
 -- One act does what is due.
 abbrev pub Advances : KeptReplica → KeptReplica → Type 0
 Advances k t = (a : Act) × IsAfter k (a ∷ []) t
+
+-- Acts did what was due, one after another, and less is left to do.
+pub record Comes (k t : KeptReplica) : Type 0 where
+  pub acts : List Act
+  pub after : IsAfter k acts t
+  pub less : left_to_do t.core < left_to_do k.core
 
 -- Acts did all that was due.
 abbrev pub Settles : KeptReplica → KeptReplica → Type 0

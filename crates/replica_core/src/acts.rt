@@ -17,7 +17,7 @@ ghost use Rattle.seal.specs.Parts.{as_message};
 ghost use Rattle.sha2.specs.Sha256.{sha256};
 ghost use Rattle.view_change.specs.Setups.{setup_of};
 ghost use Rattle.replica_core.specs.declared.halt.Halt.TheVariants.{Memory};
-ghost use Rattle.replica_core.specs.Doing.{Does, Executes, Fulfilled, IsShortOf, Says};
+ghost use Rattle.replica_core.specs.Doing.{Does, Executes, Fulfilled, IsShortOf, Says, SendsOwed, reported};
 
 use crate::halt::Halt;
 use crate::kept::{Core, digest_of, null_digest};
@@ -102,10 +102,25 @@ impl Core {
         ensures executed { OnOk result (Executes self.old number.0 digest.0 self.new) }
         ensures memory { IfErr result (λ halt. halt ≡ Memory) }
     {
-        let alloc = self.alloc;
+        let _ = &self.service;
         let request = self.request_of(&digest)?;
         let outcome = self.take_next(request.as_ref())?;
-        let result = result_of(alloc, &outcome)?;
+        self.report(number, digest, outcome)
+    }
+
+    /// Notes what came of the request of this digest at a number, and what that leaves to send. At a
+    /// multiple of the interval the state is kept.
+    pub(crate) fn report(
+        &mut self,
+        number: SeqNo,
+        digest: Digest,
+        outcome: Outcome,
+    ) -> Result<(), Halt>
+        requires short { IfSome outcome.reply (λ r. (length r.result ≤ 265) × (r.number.0 < 2 ^ 48)) }
+        ensures reported { OnOk result (self.new ≡ reported self.old number.0 digest.0 outcome.reply) }
+        ensures memory { IfErr result (λ halt. halt ≡ Memory) }
+    {
+        let result = result_of(self.alloc, &outcome)?;
         self.note_done(Done::Executed {
             number,
             digest,
@@ -118,7 +133,7 @@ impl Core {
     }
 
     /// What a digest stands for: nothing for the null request.
-    fn request_of(&self, digest: &Digest) -> Result<Option<Request>, Halt>
+    pub(crate) fn request_of(&self, digest: &Digest) -> Result<Option<Request>, Halt>
         ensures request { IfOk result (λ o. o ≡ request_of (setup_of self.now.config) self.now.core digest.now.0) }
         ensures listed { IfOk result (λ o. IfSome o (λ taken. IsSome (entry_of self.now.config.clients taken.client.0))) }
         ensures in_range { IfOk result (λ o. IfSome o (λ taken. (taken.client.0 < 2 ^ 32) × (taken.time < 2 ^ 64))) }
@@ -156,6 +171,19 @@ impl Core {
         let body = reply_body(self.alloc, self.view(), reply)?;
         self.send(Dest::Client(client), body)?;
         self.note_reply();
+        Ok(())
+    }
+
+    /// Sends the reply that is owed, if one is, and notes that.
+    pub(crate) fn send_owed(&mut self) -> Result<(), Halt>
+        ensures sent { OnOk result (SendsOwed self.old self.old.core.reply_due self.new) }
+        ensures short { IfErr result (λ halt. IsSome self.old.core.reply_due × IsShortOf self.old 1 halt) }
+    {
+        if self.step.reply_due.is_none() {
+            return Ok(());
+        }
+        self.send_reply()?;
+        self.note_act();
         Ok(())
     }
 

@@ -1,6 +1,6 @@
 //! How a replica answers a message or a timeout, and what else is read of it.
 
-ghost use Rattle.std.specs.Prelude.{◌≡◌, ◌-◌, [], Some, true, false, IfErr, IfOk, OnOk};
+ghost use Rattle.std.specs.Prelude.{◌≡◌, ◌-◌, ◌<◌, [], Some, Ok, Err, true, false, IfErr, IfOk, OnOk};
 ghost use Rattle.lms_tree.specs.Keys.{leaf_count};
 ghost use Rattle.pbft_model.specs.Rows.{Received, TimedOut};
 ghost use Rattle.replica_core.specs.Answering.{Answers, HasBegun, IsAtRest, IsRowOf, IsSound};
@@ -10,9 +10,11 @@ ghost use Rattle.replica_core.specs.declared.row.Input.TheVariants as inputs;
 use crate::halt::Halt;
 use crate::kept::Core;
 use crate::row::{Input, Row};
+use host_types::Gate;
 use seal::Checked;
 use service_core::State;
 use std::alloc::AllocError;
+use std::thread::Threads;
 
 impl Core {
     /// Takes a message, and does what it asks for, until nothing is due. After a halt the replica is of no
@@ -27,6 +29,27 @@ impl Core {
         self.settle()?;
         let input = Input::Message(message.copy()?);
         Ok(self.give_row(input)?)
+    }
+
+    /// Takes a message as `answer` does, and executes requests in lanes.
+    pub(crate) fn answer_lanes<R: Threads + Sync, G: Gate + Sync>(
+        mut self,
+        rt: &R,
+        message: &Checked,
+        workers: u8,
+        gate: &G,
+    ) -> Result<(Core, Row), Halt>
+        requires workers { 0 < workers }
+        requires config { message.now.config ≡ self.config }
+        requires reached { IsSound self }
+        requires rest { IsAtRest self }
+        ensures row { IfOk result (λ r. Answers self (inputs.Message message.now) (Ok r.1) r.0) }
+        ensures halt { IfErr result (λ halt. Answers self (inputs.Message message.now) (Err halt) self) }
+    {
+        self.begin(message)?;
+        let mut core = self.settle_lanes(rt, workers, gate)?;
+        let row = core.give_row(Input::Message(message.copy()?))?;
+        Ok((core, row))
     }
 
     /// Takes a timeout, and does what it asks for, until nothing is due. A halt is as at `answer`.

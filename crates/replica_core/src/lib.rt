@@ -7,6 +7,7 @@
 #![tactic(auto)]
 
 mod acts;
+mod batch;
 mod certificates;
 mod changes;
 mod duties;

@@ -16,13 +16,14 @@ ghost use Rattle.replica_core.specs.Steps.{IsAllowed, IsLawful, IsRun, ReplicaFa
 use crate::halt::Halt;
 use crate::kept::Core;
 use crate::row::Row;
-use host_types::{Config, ReplicaId, SeqNo, View};
+use host_types::{Config, Gate, ReplicaId, SeqNo, View};
 use lms_tree::Signer;
 use seal::Checked;
 use service_core::State;
 use std::alloc::{AllocError, Global};
 use std::marker::Model;
 use std::sync::Arc;
+use std::thread::Threads;
 
 /// Where a replica stands after its last row; and whether it has stopped since.
 #[derive(Clone, Copy, Debug, PartialEq, Eq)]
@@ -107,6 +108,38 @@ impl Replica {
         };
         match core.answer(message) {
             Ok(row) => {
+                self.status = status_of(&core);
+                self.core = Some(core);
+                Ok(row)
+            }
+            Err(halt) => {
+                self.status.halted = Some(halt);
+                Err(halt)
+            }
+        }
+    }
+
+    /// Takes a message as `take` does, with the same row and the same halts, but executes requests of
+    /// different tenants at the same time: the committed ones from the next number up to the next multiple
+    /// of the checkpoint interval together, in at most so many lanes as workers, of which there has to be
+    /// one. Where no thread can be made, lanes run one after another. A lane calls `gate.step` with its
+    /// number, below that of the workers, once before its first request of these.
+    pub fn take_lanes<R: Threads + Sync, G: Gate + Sync>(
+        &mut self,
+        rt: &R,
+        message: &Checked,
+        workers: u8,
+        gate: &G,
+    ) -> Result<Row, Halt>
+        requires config { message.now.config ≡ self.old.config }
+        requires workers { 0 < workers }
+        ensures { Steps self.old (inputs.Message message.now) result self.new }
+    {
+        let Some(core) = self.core.take() else {
+            return Err(Halt::AlreadyHalted);
+        };
+        match core.answer_lanes(rt, message, workers, gate) {
+            Ok((core, row)) => {
                 self.status = status_of(&core);
                 self.core = Some(core);
                 Ok(row)

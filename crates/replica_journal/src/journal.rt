@@ -14,13 +14,14 @@ ghost use Rattle.replica_journal.specs.Keeping.{Advances, CannotStep, IsHaltOf, 
 
 use crate::keeper::Keeper;
 use crate::unkept::Unkept;
-use host_types::{Config, ReplicaId};
+use host_types::{Config, Gate, ReplicaId};
 use lms_tree::Signer;
 use replica_core::{Halt, Replica, Row, Status};
 use seal::Checked;
 use std::alloc::{AllocError, Global};
 use std::marker::Model;
 use std::sync::Arc;
+use std::thread::Threads;
 
 /// A replica with its journal. Once it has halted it gives no further row.
 #[derive(Drop)]
@@ -69,11 +70,20 @@ impl Journal {
     }
 
     /// Takes a message that was opened under the replica's configuration. Its row is appended to the
-    /// journal. The halts are, in this order, `AlreadyHalted`, which changes nothing; `JournalFull`, where
-    /// there are as many rows as the limit; those of the replica; and `Memory`, where the row can't be
-    /// kept. A halt is for good: the rows and where the replica stood after them stay as they were.
-    pub fn take(&mut self, message: &Checked) -> Result<Row, Halt>
+    /// journal. Requests of different tenants are executed at the same time: `Replica::take_lanes` says in
+    /// how many lanes, of which there has to be one, and when each calls the gate. The halts are, in this
+    /// order, `AlreadyHalted`, which changes nothing; `JournalFull`, where there are as many rows as the
+    /// limit; those of the replica; and `Memory`, where the row can't be kept. A halt is for good: the rows
+    /// and where the replica stood after them stay as they were.
+    pub fn take_lanes<R: Threads + Sync, G: Gate + Sync>(
+        &mut self,
+        rt: &R,
+        message: &Checked,
+        workers: u8,
+        gate: &G,
+    ) -> Result<Row, Halt>
         requires config { message.now.config ≡ self.old.replica.config }
+        requires workers { 0 < workers }
         ensures step { Advances self.old (inputs.Message message.now) result self.new }
         ensures kept { IsKept self.new }
     {
@@ -83,11 +93,11 @@ impl Journal {
             status,
         } = self;
         may_step(keeper.rows().len(), *limit, status)?;
-        let stepped = keeper.take(message);
+        let stepped = keeper.take_lanes(rt, message, workers, gate);
         finish(status, keeper.replica().status(), stepped)
     }
 
-    /// Takes a timeout. Its row is appended to the journal; the halts are those of `take`.
+    /// Takes a timeout. Its row is appended to the journal; the halts are those of `take_lanes`.
     pub fn timeout(&mut self) -> Result<Row, Halt>
         ensures step { Advances self.old inputs.Timeout result self.new }
         ensures kept { IsKept self.new }

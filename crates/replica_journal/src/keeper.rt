@@ -11,13 +11,14 @@ ghost use Rattle.replica_journal.specs.Keeping.{Keeps};
 ghost use Rattle.replica_journal.specs.declared.unkept.Unkept.TheVariants as unkept;
 
 use crate::unkept::Unkept;
-use host_types::{Config, ReplicaId};
+use host_types::{Config, Gate, ReplicaId};
 use lms_tree::Signer;
 use replica_core::{Replica, Row};
 use seal::Checked;
 use std::alloc::{AllocError, Global};
 use std::marker::Model;
 use std::sync::Arc;
+use std::thread::Threads;
 
 /// A replica with the rows that it gave, the oldest first.
 #[derive(Drop)]
@@ -66,6 +67,28 @@ impl Keeper {
         ensures id { self.new.replica.me ≡ self.old.replica.me }
     {
         match self.replica.take(message) {
+            Ok(row) => self.keep(row),
+            Err(halt) => Err(Unkept::Halted(halt)),
+        }
+    }
+
+    /// Takes a message as `take` does, where requests of different tenants are executed at the same time:
+    /// `Replica::take_lanes` says in how many lanes, of which there has to be one, and when each calls the
+    /// gate.
+    pub fn take_lanes<R: Threads + Sync, G: Gate + Sync>(
+        &mut self,
+        rt: &R,
+        message: &Checked,
+        workers: u8,
+        gate: &G,
+    ) -> Result<Row, Unkept>
+        requires config { message.now.config ≡ self.old.replica.config }
+        requires workers { 0 < workers }
+        ensures keeps { Keeps self.old (inputs.Message message.now) result self.new }
+        ensures config { self.new.replica.config ≡ self.old.replica.config }
+        ensures id { self.new.replica.me ≡ self.old.replica.me }
+    {
+        match self.replica.take_lanes(rt, message, workers, gate) {
             Ok(row) => self.keep(row),
             Err(halt) => Err(Unkept::Halted(halt)),
         }

@@ -2,7 +2,7 @@
 //! one row of the replica's step, or halts.
 //!
 //!     let mut journal = Journal::new(alloc, &config, ReplicaId(0), signer, 65_536)?;
-//!     let row = journal.take(&message)?;
+//!     let row = journal.take_lanes(&rt, &message, 2, &gate)?;
 #![tactic(auto)]
 
 mod journal;

@@ -3,9 +3,8 @@
 ghost use Rattle.std.specs.Prelude.{◌≡◌, ◌<◌, IfOk};
 
 use crate::messages::{cast, checkpoint, config, signers};
-use crate::view_messages::{
-    change, checked, digest_of, fault_name, new_view_of, proposal, replicas,
-};
+use crate::signing::checked;
+use crate::view_messages::{change, digest_of, fault_name, new_view_of, proposal, replicas};
 use checkpoints::Checkpoints;
 use host_types::{Bytes, Config, Digest, SeqNo, View};
 use lms_tree::Signer;
@@ -50,11 +49,9 @@ fn record(
     let mut all = true;
     for line in votes.lines() {
         let [id, kind, view, number, digest] = vote_of(line)?;
-        if number < 16 {
-            let (view, number) = (View(u32::from(view)), SeqNo(u64::from(number)));
-            let message = cast(alloc, config, signers, id, kind, view, number, digest)?;
-            all = all && accept(log, &message);
-        }
+        let (view, number) = (View(u32::from(view)), SeqNo(u64::from(number)));
+        let message = cast(alloc, config, signers, id, kind, view, number, digest)?;
+        all = accept(log, &message) && all;
     }
     Ok(all)
 }
@@ -69,44 +66,53 @@ fn accept(log: &mut QuorumLog, message: &Checked) -> bool
     }
 }
 
-#[test]
-fn a_log_reports_names_and_numbers(rt: HostRuntime) -> Result<(), Fail> {
-    let alloc = rt.alloc();
-    let mut signers = signers(alloc, 9)?;
+/// A log of these replicas that has recorded the votes.
+fn recorded(alloc: Global, secret: u8) -> Result<QuorumLog, Fail> {
+    let mut signers = signers(alloc, secret)?;
     let config = config(alloc, &signers)?;
     let mut log = QuorumLog::new(alloc, &config)?;
-    assert_eq!(rt; log.greatest_in(View(0)), None);
-    let recorded = record(alloc, &config, &mut signers, &mut log, VOTES)?;
-    assert_eq!(rt; recorded, true);
-    assert_eq!(rt; (log.low(), log.floor()), (SeqNo(0), Some(SeqNo(0))));
+    if log.greatest_in(View(0)).is_none()
+        && record(alloc, &config, &mut signers, &mut log, VOTES)?
+    {
+        Ok(log)
+    } else {
+        Err(Fail::new("a vote is refused"))
+    }
+}
+
+/// Whether it names digests as the votes do.
+fn names_digests(log: &QuorumLog) -> bool {
     let (seven, nine) = (Digest([7; 32]), Digest([9; 32]));
-    assert_eq!(rt;
-        (log.names(&seven), log.names(&Digest([6; 32]))),
-        (true, false)
-    );
-    assert_eq!(rt;
-        (log.names_in(View(0), &seven), log.names_in(View(0), &nine)),
-        (true, false)
-    );
-    assert_eq!(rt; log.names_in(View(1), &nine), true);
-    assert_eq!(rt; log.greatest_in(View(0)), Some(SeqNo(3)));
-    assert_eq!(rt; log.greatest_in(View(1)), Some(SeqNo(2)));
-    assert_eq!(rt; log.greatest_in(View(2)), None);
+    log.names(&seven)
+        && !log.names(&Digest([6; 32]))
+        && log.names_in(View(0), &seven)
+        && !log.names_in(View(0), &nine)
+        && log.names_in(View(1), &nine)
+}
+
+/// Whether it has the marks, and the greatest numbers in views 0 to 2.
+fn has_numbers(log: &QuorumLog) -> bool {
+    (log.low(), log.floor()) == (SeqNo(0), Some(SeqNo(0)))
+        && log.greatest_in(View(0)) == Some(SeqNo(3))
+        && log.greatest_in(View(1)) == Some(SeqNo(2))
+        && log.greatest_in(View(2)).is_none()
+}
+
+#[test]
+fn a_log_reports_names_and_numbers(rt: HostRuntime) -> Result<(), Fail> {
+    let log = recorded(rt.alloc(), 9)?;
+    assert!(rt; names_digests(&log));
+    assert!(rt; has_numbers(&log));
     Ok(())
 }
 
 #[test]
 fn a_certificate_is_copied(rt: HostRuntime) -> Result<(), Fail> {
-    let alloc = rt.alloc();
-    let mut signers = signers(alloc, 10)?;
-    let config = config(alloc, &signers)?;
-    let mut log = QuorumLog::new(alloc, &config)?;
-    let recorded = record(alloc, &config, &mut signers, &mut log, VOTES)?;
-    assert_eq!(rt; recorded, true);
+    let log = recorded(rt.alloc(), 10)?;
     let certificate = log.certificate(View(0), SeqNo(1))?.ok_or("not certified")?;
     let copy = certificate.copy()?;
-    assert_eq!(rt; copy.pre_prepare.bytes(), certificate.pre_prepare.bytes());
-    assert_eq!(rt; copy.prepares.len(), 2);
+    assert!(rt; copy.pre_prepare.bytes() == certificate.pre_prepare.bytes());
+    assert!(rt; copy.prepares.len() == 2);
     Ok(())
 }
 
@@ -124,8 +130,7 @@ fn note_three(
     kept: &mut Checkpoints,
     number: SeqNo,
 ) -> Result<(), Fail>
-    requires config { kept.old.config ≡ config.now.value }
-    requires number { number.0 < 16 }
+    requires { kept.old.config ≡ config.now.value }
     ensures { IfOk result (λ _. kept.new.config ≡ kept.old.config) }
 {
     for id in 0..3 {
@@ -137,31 +142,38 @@ fn note_three(
     Ok(())
 }
 
-#[test]
-fn the_greatest_kept_snapshot_that_is_stable(rt: HostRuntime) -> Result<(), Fail> {
-    let alloc = rt.alloc();
+/// A table in which 2, 4 and 6 are stable.
+fn three_stable(alloc: Global) -> Result<Checkpoints, Fail> {
     let mut signers = signers(alloc, 11)?;
     let config = config(alloc, &signers)?;
     let mut kept = Checkpoints::new(alloc, &config)?;
     note_three(alloc, &config, &mut signers, &mut kept, SeqNo(2))?;
     note_three(alloc, &config, &mut signers, &mut kept, SeqNo(4))?;
     note_three(alloc, &config, &mut signers, &mut kept, SeqNo(6))?;
-    let abc: &[u8] = b"abc";
-    let abd: &[u8] = b"abd";
-    kept.keep(SeqNo(2), Bytes::from_vec(Vec::from_slice(alloc, abc)?))?;
-    kept.keep(SeqNo(4), Bytes::from_vec(Vec::from_slice(alloc, abc)?))?;
-    kept.keep(SeqNo(6), Bytes::from_vec(Vec::from_slice(alloc, abd)?))?;
-    assert_eq!(rt; kept.stable_kept(SeqNo(1)), None);
-    assert_eq!(rt;
-        kept.stable_kept(SeqNo(3)),
-        Some((SeqNo(2), Digest(OF_ABC)))
-    );
-    assert_eq!(rt;
-        kept.stable_kept(SeqNo(9)),
-        Some((SeqNo(4), Digest(OF_ABC)))
-    );
+    Ok(kept)
+}
+
+/// Keeps these bytes at a number.
+fn keep(alloc: Global, kept: &mut Checkpoints, number: u64, bytes: &[u8]) -> Result<(), Fail> {
+    let bytes = Bytes::from_vec(Vec::from_slice(alloc, bytes)?);
+    Ok(kept.keep(SeqNo(number), bytes)?)
+}
+
+/// Whether this number is the greatest up to another at which what is kept has the stable digest.
+fn is_greatest(kept: &Checkpoints, up_to: u64, number: u64) -> bool {
+    kept.stable_kept(SeqNo(up_to)) == Some((SeqNo(number), Digest(OF_ABC)))
+}
+
+#[test]
+fn the_greatest_kept_snapshot_that_is_stable(rt: HostRuntime) -> Result<(), Fail> {
+    let mut kept = three_stable(rt.alloc())?;
+    keep(rt.alloc(), &mut kept, 2, b"abc")?;
+    keep(rt.alloc(), &mut kept, 4, b"abc")?;
+    keep(rt.alloc(), &mut kept, 6, b"abd")?;
+    assert!(rt; kept.stable_kept(SeqNo(1)).is_none());
+    assert!(rt; is_greatest(&kept, 3, 2) && is_greatest(&kept, 9, 4));
     kept.discard_to(SeqNo(4));
-    assert_eq!(rt; (kept.low(), kept.stable_kept(SeqNo(9))), (SeqNo(4), None));
+    assert!(rt; kept.low() == SeqNo(4) && kept.stable_kept(SeqNo(9)).is_none());
     Ok(())
 }
 
@@ -197,36 +209,70 @@ fn three_changes(
     Ok(list)
 }
 
+/// The body of the NewView that is made of three ViewChanges, which have a copy; and whether 8 is its floor.
+fn made(alloc: Global, config: &Arc<Config>, signers: &mut [Signer]) -> Result<(Body, bool), Fail> {
+    let changes = three_changes(alloc, config, signers)?;
+    let none = CheckedList::new(alloc, config)?;
+    let body = make_new_view(alloc, View(1), &changes, &none)?;
+    let is_right = has_floor(&body) && changes.copy()?.len() == 3;
+    Ok((body, is_right))
+}
+
+/// Whether 8 is the floor of a NewView's ViewChanges.
+fn has_floor(body: &Body) -> bool {
+    match body {
+        Body::NewView(entry) => floor_of(entry.changes.as_slice()) == SeqNo(8),
+        _ => false,
+    }
+}
+
+/// Whether a NewView is valid, and has so many Checkpoints and proposals inside.
+fn reports(
+    alloc: Global,
+    config: &Arc<Config>,
+    message: &Checked,
+    checkpoints: usize,
+    proposals: usize,
+) -> Result<bool, Fail>
+    requires { message.now.config ≡ config.now.value }
+{
+    Ok(
+        fault_name(alloc, config, message)?.as_str() == "-"
+            && nested_checkpoints(alloc, message)?.len() == checkpoints
+            && nested_pre_prepares(alloc, message)?.len() == proposals,
+    )
+}
+
 #[test]
 fn a_new_view_is_made_and_reported(rt: HostRuntime) -> Result<(), Fail> {
-    let alloc = rt.alloc();
-    let (mut signers, config) = replicas(alloc, 12)?;
-    let changes = three_changes(alloc, &config, &mut signers)?;
-    let body = make_new_view(alloc, View(1), &changes, &CheckedList::new(alloc, &config)?)?;
-    if let Body::NewView(entry) = &body {
-        assert_eq!(rt; floor_of(entry.changes.as_slice()), SeqNo(8));
-    }
-    let message = checked(alloc, &config, &mut signers, 1, body)?;
-    assert!(rt; fault_name(alloc, &config, &message)?.as_str() == "-");
-    assert_eq!(rt; nested_checkpoints(alloc, &message)?.len(), 9);
-    assert_eq!(rt; nested_pre_prepares(alloc, &message)?.len(), 0);
-    assert_eq!(rt; changes.copy()?.len(), 3);
+    let (mut signers, config) = replicas(rt.alloc(), 12)?;
+    let (body, is_right) = made(rt.alloc(), &config, &mut signers)?;
+    let message = checked(rt.alloc(), &config, &mut signers, 1, body)?;
+    assert!(rt; is_right && reports(rt.alloc(), &config, &message, 9, 0)?);
     Ok(())
+}
+
+/// The NewView of `ENTRY`, signed by replica 1.
+fn entry(alloc: Global, config: &Arc<Config>, signers: &mut [Signer]) -> Result<Checked, Fail>
+    ensures { IfOk result (λ c. c.config ≡ config.now.value) }
+{
+    let entry = new_view_of(alloc, signers, ENTRY)?;
+    checked(alloc, config, signers, 1, Body::NewView(entry))
+}
+
+/// The number of the last proposal inside.
+fn last_proposed(alloc: Global, message: &Checked) -> Result<Option<SeqNo>, AllocError> {
+    let proposals = nested_pre_prepares(alloc, message)?;
+    let last = proposals.as_slice().last().and_then(|inside| inside.vote());
+    Ok(last.map(|vote| vote.number))
 }
 
 #[test]
 fn the_nested_messages_are_reported(rt: HostRuntime) -> Result<(), Fail> {
-    let alloc = rt.alloc();
-    let (mut signers, config) = replicas(alloc, 13)?;
-    let entry = new_view_of(alloc, &mut signers, ENTRY)?;
-    let message = checked(alloc, &config, &mut signers, 1, Body::NewView(entry))?;
-    let proposals = nested_pre_prepares(alloc, &message)?;
-    let last = proposals.as_slice().last().and_then(|inside| inside.vote());
-    assert_eq!(rt;
-        last.map(|vote| vote.number),
-        Some(proposal(1, 10, 7).number)
-    );
-    assert_eq!(rt; nested_checkpoints(alloc, &message)?.len(), 3);
-    assert_eq!(rt; null_digest(), digest_of(0));
+    let (mut signers, config) = replicas(rt.alloc(), 13)?;
+    let message = entry(rt.alloc(), &config, &mut signers)?;
+    assert!(rt; last_proposed(rt.alloc(), &message)? == Some(proposal(1, 10, 7).number));
+    assert!(rt; nested_checkpoints(rt.alloc(), &message)?.len() == 3);
+    assert!(rt; null_digest() == digest_of(0));
     Ok(())
 }

@@ -15,6 +15,8 @@ mod openings;
 #[cfg(test)]
 mod sealing;
 #[cfg(test)]
+mod signing;
+#[cfg(test)]
 mod stable;
 #[cfg(test)]
 mod validity;

@@ -1,15 +1,12 @@
 //! Signed messages of four replicas, of which one may be faulty.
 
-ghost use Rattle.std.specs.Prelude.{◌≡◌, ◌<◌, IfOk};
-ghost use Rattle.pbft_codec.specs.Bodies.{BodyWellFormed};
-ghost use Rattle.pbft_codec.specs.Limits.{IsSequenceNumber};
+ghost use Rattle.std.specs.Prelude.{◌≡◌, IfOk};
 
-use host_types::{Bytes, Config, Digest, SeqNo, View};
+use crate::signing::checked;
+use host_types::{Config, Digest, SeqNo, View};
 use lms_tree::{Height, Signer};
-use pbft_codec::{
-    Body, Checkpoint, Commit, PrePrepare, Prepare, Role, Signed, encode, signed_bytes,
-};
-use seal::{Checked, open};
+use pbft_codec::{Body, Checkpoint, Commit, PrePrepare, Prepare};
+use seal::Checked;
 use std::alloc::{AllocError, Global};
 use std::sync::Arc;
 use std::test::Fail;
@@ -23,37 +20,34 @@ pub fn signers(alloc: Global, secret: u8) -> Result<Vec<Signer>, AllocError> {
     Ok(signers)
 }
 
-/// The configuration of these replicas, with no clients.
-pub fn config(alloc: Global, signers: &[Signer]) -> Result<Arc<Config>, Fail> {
+/// The configuration of these replicas, with no clients and a checkpoint at each multiple of the interval.
+fn config_at(alloc: Global, signers: &[Signer], interval: u8) -> Result<Arc<Config>, Fail> {
     let mut keys = Vec::new(alloc);
     for signer in signers {
         keys.push(signer.public_key())?;
     }
-    Ok(Arc::new(alloc, Config::new(1, 8, keys, Vec::new(alloc))?)?)
+    let config = Config::new(1, interval, keys, Vec::new(alloc))?;
+    Ok(Arc::new(alloc, config)?)
+}
+
+/// The configuration of these replicas, with no clients and a checkpoint at each eighth number.
+pub fn config(alloc: Global, signers: &[Signer]) -> Result<Arc<Config>, Fail> {
+    config_at(alloc, signers, 8)
 }
 
 /// The same with a checkpoint after each number: two numbers lie between the marks.
 pub fn narrow_config(alloc: Global, signers: &[Signer]) -> Result<Arc<Config>, Fail> {
-    let mut keys = Vec::new(alloc);
-    for signer in signers {
-        keys.push(signer.public_key())?;
-    }
-    Ok(Arc::new(alloc, Config::new(1, 1, keys, Vec::new(alloc))?)?)
+    config_at(alloc, signers, 1)
 }
 
 /// The body of a vote in view 0 for number 1: kinds 0 to 2 are a `PrePrepare`, a `Prepare` and a `Commit`,
 /// any other is a `Checkpoint`. All bytes of the digest are this one.
-pub fn body(kind: u8, digest: u8) -> Body
-    ensures { BodyWellFormed result }
-{
+pub fn body(kind: u8, digest: u8) -> Body {
     body_at(kind, View(0), SeqNo(1), digest)
 }
 
-/// The same in this view for this number, below 16.
-fn body_at(kind: u8, view: View, number: SeqNo, digest: u8) -> Body
-    requires { number.0 < 16 }
-    ensures { BodyWellFormed result }
-{
+/// The same in this view for this number.
+fn body_at(kind: u8, view: View, number: SeqNo, digest: u8) -> Body {
     let digest = Digest([digest; 32]);
     match kind {
         0 => Body::PrePrepare(PrePrepare {
@@ -86,10 +80,10 @@ pub fn vote(
 ) -> Result<Checked, Fail>
     ensures { IfOk result (λ c. c.config ≡ config.now.value) }
 {
-    signed(alloc, config, signers, id, body(kind, digest))
+    checked(alloc, config, signers, id, body(kind, digest))
 }
 
-/// The same in this view for this number, below 16.
+/// The same in this view for this number.
 pub fn cast(
     alloc: Global,
     config: &Arc<Config>,
@@ -100,10 +94,9 @@ pub fn cast(
     number: SeqNo,
     digest: u8,
 ) -> Result<Checked, Fail>
-    requires { number.0 < 16 }
     ensures { IfOk result (λ c. c.config ≡ config.now.value) }
 {
-    signed(
+    checked(
         alloc,
         config,
         signers,
@@ -121,44 +114,13 @@ pub fn checkpoint(
     number: SeqNo,
     digest: Digest,
 ) -> Result<Checked, Fail>
-    requires { IsSequenceNumber number }
     ensures { IfOk result (λ c. c.config ≡ config.now.value) }
 {
-    signed(
+    checked(
         alloc,
         config,
         signers,
         id,
         Body::Checkpoint(Checkpoint { number, digest }),
     )
-}
-
-// The checked message of a replica with this body.
-fn signed(
-    alloc: Global,
-    config: &Arc<Config>,
-    signers: &mut [Signer],
-    id: u8,
-    body: Body,
-) -> Result<Checked, Fail>
-    requires { BodyWellFormed body }
-    ensures { IfOk result (λ c. c.config ≡ config.now.value) }
-{
-    let unsigned = Signed {
-        role: Role::Replica,
-        id: u32::from(id),
-        body,
-        sig: Bytes::from_vec(Vec::new(alloc)),
-    };
-    let text = signed_bytes(alloc, &unsigned)?;
-    let signature = match signers.get_mut(usize::from(id)) {
-        Some(signer) => signer.sign(&text)?,
-        None => Vec::new(alloc),
-    };
-    let message = Signed {
-        sig: Bytes::from_vec(signature),
-        ..unsigned
-    };
-    let bytes = encode(alloc, &message)?;
-    Ok(open(alloc, config, &bytes)?)
 }

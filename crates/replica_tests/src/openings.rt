@@ -2,9 +2,8 @@
 
 ghost use Rattle.std.specs.Prelude.{◌≡◌, IfOk};
 
-use crate::view_messages::{
-    change, checked, checkpoint, digest_of, fault_name, proposal, replicas, signed,
-};
+use crate::signing::{checked, signed};
+use crate::view_messages::{change, checkpoint, digest_of, fault_name, proposal, replicas};
 use host_types::{Config, Digest, SeqNo, View};
 use lms_tree::Signer;
 use pbft_codec::{Body, NewView, PrePrepare, Prepare, Sequence};
@@ -104,15 +103,19 @@ fn signed_from(
     })
 }
 
+/// The fault of the NewView that replica 1 signs from an opening.
+fn fault_from(alloc: Global, config: &Arc<Config>, signers: &mut [Signer]) -> Result<String, Fail> {
+    let list = list_of(alloc, config, signers, ASKING)?;
+    let opening = new_view(alloc, View(1), &list)?;
+    let entry = signed_from(alloc, signers, &opening.entries)?;
+    let message = checked(alloc, config, signers, 1, Body::NewView(entry))?;
+    fault_name(alloc, config, &message)
+}
+
 #[test]
 fn what_is_signed_from_an_opening_is_valid(rt: HostRuntime) -> Result<(), Fail> {
-    let alloc = rt.alloc();
-    let (mut signers, config) = replicas(alloc, 13)?;
-    let list = list_of(alloc, &config, &mut signers, ASKING)?;
-    let opening = new_view(alloc, View(1), &list)?;
-    let entry = signed_from(alloc, &mut signers, &opening.entries)?;
-    let message = checked(alloc, &config, &mut signers, 1, Body::NewView(entry))?;
-    assert!(rt; fault_name(alloc, &config, &message)?.as_str() == "-");
+    let (mut signers, config) = replicas(rt.alloc(), 13)?;
+    assert!(rt; fault_from(rt.alloc(), &config, &mut signers)?.as_str() == "-");
     Ok(())
 }
 
@@ -131,16 +134,14 @@ fn proof_of_8(
     Ok(list)
 }
 
-/// The checked certificate of view 0 at a number, with the Prepares of these replicas.
-fn prepared_at(
+/// The checked Prepares of these replicas in view 0 at a number.
+fn prepares_at(
     alloc: Global,
     config: &Arc<Config>,
     signers: &mut [Signer],
     number: u64,
     ids: &[u8],
-) -> Result<CheckedCertificate, Fail> {
-    let said = Body::PrePrepare(proposal(0, number, 7));
-    let pre_prepare = checked(alloc, config, signers, 0, said)?;
+) -> Result<CheckedList, Fail> {
     let mut prepares = CheckedList::new(alloc, config)?;
     for id in ids {
         let body = Body::Prepare(Prepare {
@@ -150,23 +151,59 @@ fn prepared_at(
         });
         prepares.push(checked(alloc, config, signers, *id, body)?)?;
     }
+    Ok(prepares)
+}
+
+/// The checked certificate of view 0 at a number, with the Prepares of these replicas.
+fn prepared_at(
+    alloc: Global,
+    config: &Arc<Config>,
+    signers: &mut [Signer],
+    number: u64,
+    ids: &[u8],
+) -> Result<CheckedCertificate, Fail> {
+    let said = Body::PrePrepare(proposal(0, number, 7));
     Ok(CheckedCertificate {
-        pre_prepare,
-        prepares,
+        pre_prepare: checked(alloc, config, signers, 0, said)?,
+        prepares: prepares_at(alloc, config, signers, number, ids)?,
     })
+}
+
+/// Certificates at 9 and 11.
+fn two_certificates(
+    alloc: Global,
+    config: &Arc<Config>,
+    signers: &mut [Signer],
+) -> Result<Vec<CheckedCertificate>, Fail> {
+    let mut certificates = Vec::new(alloc);
+    certificates.push(prepared_at(alloc, config, signers, 9, &[1, 2])?)?;
+    certificates.push(prepared_at(alloc, config, signers, 11, &[2, 3])?)?;
+    Ok(certificates)
+}
+
+/// The body that is made of a proof of 8 and of these certificates.
+fn made(alloc: Global, config: &Arc<Config>, signers: &mut [Signer]) -> Result<Body, Fail> {
+    let proof = proof_of_8(alloc, config, signers, &[0, 1, 3])?;
+    let certificates = two_certificates(alloc, config, signers)?;
+    Ok(make(alloc, View(1), SeqNo(8), &proof, &certificates)?)
+}
+
+/// The fault of a body that replica 3 signs.
+fn fault_of(
+    alloc: Global,
+    config: &Arc<Config>,
+    signers: &mut [Signer],
+    body: Body,
+) -> Result<String, Fail> {
+    let message = checked(alloc, config, signers, 3, body)?;
+    fault_name(alloc, config, &message)
 }
 
 #[test]
 fn what_is_made_is_valid(rt: HostRuntime) -> Result<(), Fail> {
-    let alloc = rt.alloc();
-    let (mut signers, config) = replicas(alloc, 14)?;
-    let proof = proof_of_8(alloc, &config, &mut signers, &[0, 1, 3])?;
-    let mut certificates = Vec::new(alloc);
-    certificates.push(prepared_at(alloc, &config, &mut signers, 9, &[1, 2])?)?;
-    certificates.push(prepared_at(alloc, &config, &mut signers, 11, &[2, 3])?)?;
-    let body = make(alloc, View(1), SeqNo(8), &proof, &certificates)?;
+    let (mut signers, config) = replicas(rt.alloc(), 14)?;
+    let body = made(rt.alloc(), &config, &mut signers)?;
     assert!(rt; matches!(&body, Body::ViewChange(made) if made.certificates.as_slice().len() == 2));
-    let message = checked(alloc, &config, &mut signers, 3, body)?;
-    assert!(rt; fault_name(alloc, &config, &message)?.as_str() == "-");
+    assert!(rt; fault_of(rt.alloc(), &config, &mut signers, body)?.as_str() == "-");
     Ok(())
 }

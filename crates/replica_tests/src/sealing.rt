@@ -1,42 +1,74 @@
-use crate::messages::{config, signers, vote};
-use host_types::{Digest, ReplicaId, SeqNo, View};
-use seal::{CheckedList, Vote, VoteKind};
+ghost use Rattle.std.specs.Prelude.{◌≡◌};
+
+use crate::messages::vote;
+use crate::view_messages::replicas;
+use host_types::Config;
+use seal::{Checked, CheckedList, VoteKind};
+use std::alloc::Global;
 use std::process::Abort;
+use std::sync::Arc;
 use std::test::Fail;
 
-// Signer, kind, digest, and what the vote is.
-static VOTES: [(u8, u8, u8, Option<VoteKind>); 5] = [
-    (0, 0, 7, Some(VoteKind::PrePrepare)),
-    (2, 1, 8, Some(VoteKind::Prepare)),
-    (0, 2, 9, Some(VoteKind::Commit)),
-    (3, 2, 7, Some(VoteKind::Commit)),
-    (1, 3, 7, None),
-];
+// Signer, kind and digest; what the vote is.
+const VOTES: &str = "\
+0 0 7 => PrePrepare 0 1 7 of 0\n\
+2 1 8 => Prepare 0 1 8 of 2\n\
+0 2 9 => Commit 0 1 9 of 0\n\
+3 2 7 => Commit 0 1 7 of 3\n\
+1 3 7 => -\n\
+";
+
+// The numbers of a line.
+fn numbers(text: &str) -> Result<[u8; 3], Fail> {
+    let mut numbers = [0; 3];
+    for (number, word) in numbers.iter_mut().zip(text.split(' ')) {
+        *number = word.parse()?;
+    }
+    Ok(numbers)
+}
+
+fn name_of(kind: VoteKind) -> &'static str {
+    match kind {
+        VoteKind::PrePrepare => "PrePrepare",
+        VoteKind::Prepare => "Prepare",
+        VoteKind::Commit => "Commit",
+    }
+}
+
+// A message's vote: kind, view, number, the first byte of the digest, and the signer.
+fn vote_text(alloc: Global, message: &Checked) -> Result<String, Fail> {
+    let Some(vote) = message.vote() else {
+        return Ok(String::from_str(alloc, "-")?);
+    };
+    let (kind, view, number) = (name_of(vote.kind), vote.view.0, vote.number.0);
+    let (digest, signer) = (vote.digest.0[0], vote.signer.0);
+    Ok(format!(in alloc; "{kind} {view} {number} {digest} of {signer}")?)
+}
+
+// Whether a list is empty, and has the message alone once that is pushed.
+fn is_listed(alloc: Global, config: &Arc<Config>, message: Checked) -> Result<bool, Fail>
+    requires { message.config ≡ config.now.value }
+{
+    let signer = message.signer();
+    let mut list = CheckedList::new(alloc, config)?;
+    let was_empty = list.is_empty();
+    list.push(message)?;
+    let first = list.as_slice().get(0).map(|message| message.signer());
+    Ok(was_empty && list.len() == 1 && first == Some(signer))
+}
 
 #[test]
 fn votes_and_lists_of_messages(rt: HostRuntime) -> Result<(), Fail> {
-    let alloc = rt.alloc();
-    let mut signers = signers(alloc, 5)?;
-    let config = config(alloc, &signers)?;
-    for (id, kind, digest, answer) in &VOTES {
-        let message = vote(alloc, &config, &mut signers, *id, *kind, *digest)?;
-        let expected = match answer {
-            None => None,
-            Some(kind) => Some(Vote {
-                kind: *kind,
-                view: View(0),
-                number: SeqNo(1),
-                digest: Digest([*digest; 32]),
-                signer: ReplicaId(*id),
-            }),
-        };
-        assert_eq!(rt; message.vote(), expected);
-        let mut list = CheckedList::new(alloc, &config)?;
-        assert_eq!(rt; list.is_empty(), true);
-        list.push(message)?;
-        assert_eq!(rt; list.len(), 1);
-        let signer = list.as_slice().get(0).map(|message| message.signer().1);
-        assert_eq!(rt; signer, Some(u32::from(*id)));
+    let (mut signers, config) = replicas(rt.alloc(), 5)?;
+    for line in VOTES.lines() {
+        let (said, wanted) = line.split_once(" => ").ok_or("no vote")?;
+        let [id, kind, digest] = numbers(said)?;
+        let message = vote(rt.alloc(), &config, &mut signers, id, kind, digest)?;
+        assert!(rt;
+            vote_text(rt.alloc(), &message)?.as_str() == wanted,
+            "{line}"
+        );
+        assert!(rt; is_listed(rt.alloc(), &config, message)?);
     }
     Ok(())
 }

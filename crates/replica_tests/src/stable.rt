@@ -1,6 +1,6 @@
 //! Checkpoints: which numbers are stable, their proofs, snapshots, and what is discarded.
 
-ghost use Rattle.std.specs.Prelude.{◌≡◌};
+ghost use Rattle.std.specs.Prelude.{◌≡◌, IfOk};
 
 use crate::messages::{checkpoint, config, signers};
 use checkpoints::{CheckpointFault, Checkpoints};
@@ -87,27 +87,35 @@ fn answers(
         let (said, wanted) = line.split_once(" => ").ok_or("no answer")?;
         let (fault, answer) = wanted.split_once(" ").ok_or("no digest")?;
         let [id, number, digest] = checkpoint_of(said)?;
-        if number < 100 {
-            let (number, digest) = (SeqNo(u64::from(number)), Digest([digest; 32]));
-            let message = checkpoint(alloc, config, signers, id, number, digest)?;
-            let found = name_of(note(kept, &message));
-            right = right && found == fault && stable(kept, 2) == answer.parse::<u8>().ok();
-        }
+        let (number, digest) = (SeqNo(u64::from(number)), Digest([digest; 32]));
+        let message = checkpoint(alloc, config, signers, id, number, digest)?;
+        let found = name_of(note(kept, &message));
+        right = right && found == fault && stable(kept, 2) == answer.parse::<u8>().ok();
     }
     Ok(right)
 }
 
+/// Signers, their configuration, and a table with nothing in it.
+fn nothing_kept(alloc: Global, secret: u8) -> Result<(Vec<Signer>, Arc<Config>, Checkpoints), Fail>
+    ensures { IfOk result (λ r. r.2.config ≡ r.1.value) }
+{
+    let signers = signers(alloc, secret)?;
+    let config = config(alloc, &signers)?;
+    let kept = Checkpoints::new(alloc, &config)?;
+    Ok((signers, config, kept))
+}
+
+/// Whether 2 has become stable, by replicas 0, 2 and 3.
+fn has_its_proof(alloc: Global, kept: &Checkpoints) -> Result<bool, Fail> {
+    let expected: [u32; 3] = [0, 2, 3];
+    Ok(provers(alloc, kept, 2)?.as_slice() == &expected[..])
+}
+
 #[test]
 fn a_quorum_makes_a_number_stable(rt: HostRuntime) -> Result<(), Fail> {
-    let alloc = rt.alloc();
-    let mut signers = signers(alloc, 6)?;
-    let config = config(alloc, &signers)?;
-    let mut kept = Checkpoints::new(alloc, &config)?;
-    let right = answers(alloc, &config, &mut signers, &mut kept, NOTES)?;
-    assert_eq!(rt; right, true);
-    let ids = provers(alloc, &kept, 2)?;
-    let expected: [u32; 3] = [0, 2, 3];
-    assert_eq!(rt; ids.as_slice(), &expected[..]);
+    let (mut signers, config, mut kept) = nothing_kept(rt.alloc(), 6)?;
+    assert!(rt; answers(rt.alloc(), &config, &mut signers, &mut kept, NOTES)?);
+    assert!(rt; has_its_proof(rt.alloc(), &kept)?);
     Ok(())
 }
 
@@ -168,25 +176,27 @@ fn is_cut(alloc: Global, kept: &Checkpoints) -> Result<bool, Fail> {
     )
 }
 
-#[test]
-fn the_mark_rises(rt: HostRuntime) -> Result<(), Fail> {
-    let alloc = rt.alloc();
-    let mut signers = signers(alloc, 7)?;
-    let config = config(alloc, &signers)?;
-    let mut kept = Checkpoints::new(alloc, &config)?;
-    let before = answers(alloc, &config, &mut signers, &mut kept, THREE_NUMBERS)?;
-    keep_each(alloc, &mut kept, &[2, 3, 4, 5])?;
-    assert_eq!(rt; before, true);
-    assert_eq!(rt; kept.stable_above(SeqNo(0)), Some(SeqNo(4)));
-    assert_eq!(rt; kept.stable_above(SeqNo(4)), None);
+/// Whether 4 is the greatest stable number, and remains it where the mark rises to it, and no longer rises.
+fn rises(alloc: Global, kept: &mut Checkpoints) -> Result<bool, Fail>
+    ensures { kept.new.config ≡ kept.old.config }
+{
+    let before = kept.stable_above(SeqNo(0)) == Some(SeqNo(4));
+    let above = kept.stable_above(SeqNo(4)).is_none();
     kept.discard_to(SeqNo(4));
-    let cut = is_cut(alloc, &kept)?;
+    let cut = is_cut(alloc, kept)?;
     kept.discard_to(SeqNo(4));
     kept.discard_to(SeqNo(2));
-    let same = is_cut(alloc, &kept)?;
-    let after = answers(alloc, &config, &mut signers, &mut kept, AFTER_THE_MARK)?;
-    assert_eq!(rt; (cut, same, after), (true, true, true));
-    assert_eq!(rt; kept.stable_above(SeqNo(4)), Some(SeqNo(6)));
+    Ok(before && above && cut && is_cut(alloc, kept)?)
+}
+
+#[test]
+fn the_mark_rises(rt: HostRuntime) -> Result<(), Fail> {
+    let (mut signers, config, mut kept) = nothing_kept(rt.alloc(), 7)?;
+    assert!(rt; answers(rt.alloc(), &config, &mut signers, &mut kept, THREE_NUMBERS)?);
+    keep_each(rt.alloc(), &mut kept, &[2, 3, 4, 5])?;
+    assert!(rt; rises(rt.alloc(), &mut kept)?);
+    assert!(rt; answers(rt.alloc(), &config, &mut signers, &mut kept, AFTER_THE_MARK)?);
+    assert!(rt; kept.stable_above(SeqNo(4)) == Some(SeqNo(6)));
     Ok(())
 }
 
@@ -237,39 +247,71 @@ fn seen(kept: &Checkpoints) -> Seen {
     )
 }
 
+/// Whether an offer has its fault and all stays as it is.
+fn is_refused(
+    alloc: Global,
+    kept: &mut Checkpoints,
+    number: u64,
+    text: &str,
+    fault: &str,
+) -> Result<bool, AllocError> {
+    let was = seen(kept);
+    let bytes = bytes_of(alloc, text.as_bytes())?;
+    let answer = kept.offer(SeqNo(number), bytes).err();
+    Ok(name_of(answer) == fault && seen(kept) == was)
+}
+
 /// Whether each offer has its fault and all stays as it is.
 fn refuses(alloc: Global, kept: &mut Checkpoints, offers: &str) -> Result<bool, Fail> {
-    let was = seen(kept);
     let mut right = true;
     for line in offers.lines() {
         let (said, fault) = line.split_once(" => ").ok_or("no fault")?;
         let (number, text) = said.split_once(" ").ok_or("no number")?;
-        let bytes = bytes_of(alloc, text.as_bytes())?;
-        let answer = kept.offer(SeqNo(number.parse()?), bytes).err();
-        right = right && name_of(answer) == fault && seen(kept) == was;
+        right = is_refused(alloc, kept, number.parse()?, text, fault)? && right;
     }
     Ok(right)
 }
 
+/// Notes the Checkpoints at 2 with the digest of "abc" of replicas 0 to 2.
+fn note_three(
+    alloc: Global,
+    config: &Arc<Config>,
+    signers: &mut [Signer],
+    kept: &mut Checkpoints,
+) -> Result<(), Fail>
+    requires { kept.old.config ≡ config.now.value }
+{
+    for id in 0..3 {
+        let message = checkpoint(alloc, config, signers, id, SeqNo(2), Digest(OF_ABC))?;
+        if note(kept, &message).is_some() {
+            return Err(Fail::new("a Checkpoint is refused"));
+        }
+    }
+    Ok(())
+}
+
+/// Whether the snapshot at 2 is "abc".
+fn is_kept(kept: &Checkpoints) -> bool {
+    let abc: &[u8] = b"abc";
+    kept.snapshot_of(SeqNo(2)) == Some(abc)
+}
+
+/// Whether "abc" is kept at 2, and stays where another is offered and where the mark rises to it.
+fn keeps_abc(alloc: Global, kept: &mut Checkpoints) -> Result<bool, Fail> {
+    kept.offer(SeqNo(2), bytes_of(alloc, b"abc")?)?;
+    let is_there = is_kept(kept);
+    let changed = refuses(alloc, kept, CHANGED)?;
+    kept.discard_to(SeqNo(2));
+    let after = refuses(alloc, kept, AT_THE_MARK)?;
+    Ok(is_there && changed && after && is_kept(kept))
+}
+
 #[test]
 fn snapshots_are_offered(rt: HostRuntime) -> Result<(), Fail> {
-    let alloc = rt.alloc();
-    let mut signers = signers(alloc, 8)?;
-    let config = config(alloc, &signers)?;
-    let mut kept = Checkpoints::new(alloc, &config)?;
-    for id in 0..3 {
-        let message = checkpoint(alloc, &config, &mut signers, id, SeqNo(2), Digest(OF_ABC))?;
-        assert_eq!(rt; note(&mut kept, &message), None);
-    }
-    let before = refuses(alloc, &mut kept, BEFORE)?;
-    assert_eq!(rt; kept.snapshot_of(SeqNo(2)), None);
-    let abc: &[u8] = b"abc";
-    kept.offer(SeqNo(2), bytes_of(alloc, abc)?)?;
-    assert_eq!(rt; kept.snapshot_of(SeqNo(2)), Some(abc));
-    let changed = refuses(alloc, &mut kept, CHANGED)?;
-    kept.discard_to(SeqNo(2));
-    let after = refuses(alloc, &mut kept, AT_THE_MARK)?;
-    assert_eq!(rt; (before, changed, after), (true, true, true));
-    assert_eq!(rt; kept.snapshot_of(SeqNo(2)), Some(abc));
+    let (mut signers, config, mut kept) = nothing_kept(rt.alloc(), 8)?;
+    note_three(rt.alloc(), &config, &mut signers, &mut kept)?;
+    assert!(rt; refuses(rt.alloc(), &mut kept, BEFORE)?);
+    assert!(rt; kept.snapshot_of(SeqNo(2)).is_none());
+    assert!(rt; keeps_abc(rt.alloc(), &mut kept)?);
     Ok(())
 }

@@ -67,6 +67,17 @@ new-view 1; 0 1 low 0; 2 2 low 0 => View\n\
 new-view 1; 0 1 low 0; 2 1 low 0, 0/1/7 by 1:7 => Proof\n\
 ";
 
+/// Two faults at once, in one ViewChange, in two of them, or in one and in the proposals: the first of View, Proof,
+/// Certificate and Order is reported, wherever it stands.
+const TWO_FAULTS: &str = "\
+new-view 1; 0 1 low 8; 1 1 low 0; 2 2 low 0 => View\n\
+new-view 1; 0 1 low 0, 0/1/7 by 1:7; 1 1 low 8; 2 1 low 0 => Proof\n\
+new-view 1; 0 1 low 0; 1 1 low 0, 0/17/7 by 1:7; 2 1 low 0 => Certificate\n\
+new-view 1; 0 1 low 0, 0/17/7 by 1:7 2:7; 1 1 low 0, 0/1/7 by 1:7; 2 1 low 0 => Certificate\n\
+new-view 1; 0 1 low 0, 0/1/7 by 1:7; 1 1 low 0; 2 1 low 0; with 1/1/0 => Certificate\n\
+new-view 1; 0 1 low 0; 1 1 low 8; 2 1 low 0; with 1/1/0 => Proof\n\
+";
+
 /// The proposals, where one ViewChange has a certificate at 2.
 const PROPOSALS: &str = "\
 new-view 1; 0 1 low 0; 1 1 low 0, 0/2/7 by 1:7 2:7; 2 1 low 0; with 1/1/0 1/2/7 => -\n\
@@ -130,6 +141,7 @@ fn view_changes_have_their_faults(rt: HostRuntime) -> Result<(), Fail> {
 #[test]
 fn new_views_have_their_faults(rt: HostRuntime) -> Result<(), Fail> {
     wants(&rt, 9, CHANGES)?;
+    wants(&rt, 16, TWO_FAULTS)?;
     wants(&rt, 10, PROPOSALS)?;
     wants(&rt, 11, CHOICES)
 }

@@ -1,16 +1,17 @@
 //! Signed ViewChanges and NewViews of four replicas, built of texts.
 
-ghost use Rattle.std.specs.Prelude.{◌≡◌, IfOk};
+ghost use Rattle.std.specs.Prelude.{◌≡◌};
 
 use crate::messages::{config, signers};
-use host_types::{Bytes, Config, Digest, SeqNo, View};
+pub use crate::signing::checked;
+use crate::signing::signed;
+use host_types::{Config, Digest, SeqNo, View};
 use lms_tree::Signer;
 use pbft_codec::{
-    Body, Certificate, Checkpoint, MessageBody, NewView, PrePrepare, Prepare, Role, Sequence,
-    Signed, ViewChange, signed_bytes,
+    Body, Certificate, Checkpoint, NewView, PrePrepare, Prepare, Sequence, Signed, ViewChange,
 };
-use seal::{Checked, open};
-use std::alloc::{AllocError, Global};
+use seal::Checked;
+use std::alloc::Global;
 use std::sync::Arc;
 use std::test::Fail;
 use view_change::{valid, valid_new_view};
@@ -45,67 +46,6 @@ pub fn proposal(view: u32, number: u64, digest: u8) -> PrePrepare {
     }
 }
 
-/// The text of a replica's body, and its signature.
-fn sign(
-    alloc: Global,
-    signers: &mut [Signer],
-    id: u8,
-    body: Body,
-) -> Result<(Vec<u8>, Vec<u8>), Fail> {
-    let unsigned = Signed {
-        role: Role::Replica,
-        id: u32::from(id),
-        body,
-        sig: Bytes::from_vec(Vec::new(alloc)),
-    };
-    let text = signed_bytes(alloc, &unsigned)?;
-    let signature = match signers.get_mut(usize::from(id)) {
-        Some(signer) => signer.sign(&text)?,
-        None => Vec::new(alloc),
-    };
-    Ok((text, signature))
-}
-
-/// A body of one kind, signed.
-pub fn signed<B: MessageBody>(
-    alloc: Global,
-    signers: &mut [Signer],
-    id: u8,
-    body: B,
-) -> Result<Signed<B>, Fail> {
-    let copy = body.try_clone(alloc)?;
-    let (_, signature) = sign(alloc, signers, id, copy.into_body())?;
-    Ok(Signed {
-        role: Role::Replica,
-        id: u32::from(id),
-        body,
-        sig: Bytes::from_vec(signature),
-    })
-}
-
-fn put_length_prefixed(out: &mut Vec<u8>, bytes: &[u8]) -> Result<(), AllocError> {
-    out.extend_from_slice(&((bytes.len() % (1 << 32)) as u32).to_be_bytes())?;
-    out.extend_from_slice(bytes)
-}
-
-/// The checked message of a replica's body.
-pub fn checked(
-    alloc: Global,
-    config: &Arc<Config>,
-    signers: &mut [Signer],
-    id: u8,
-    body: Body,
-) -> Result<Checked, Fail>
-    ensures { IfOk result (λ c. c.config ≡ config.now.value) }
-{
-    let (text, signature) = sign(alloc, signers, id, body)?;
-    let (signer, said) = text.split_at(text.len().min(5));
-    let mut bytes = Vec::from_slice(alloc, signer)?;
-    put_length_prefixed(&mut bytes, said)?;
-    put_length_prefixed(&mut bytes, &signature)?;
-    Ok(open(alloc, config, &bytes)?)
-}
-
 /// The numbers of a text between these signs, three at most.
 fn numbers(text: &str, between: &str) -> Result<[u32; 3], Fail> {
     let mut numbers = [0; 3];
@@ -127,20 +67,30 @@ fn certificate(alloc: Global, signers: &mut [Signer], text: &str) -> Result<Cert
     let said = proposal_of(said)?;
     let primary = (said.view.0 % 4) as u8;
     let pre_prepare = signed(alloc, signers, primary, said)?;
+    Ok(Certificate {
+        pre_prepare,
+        prepares: Sequence::from_vec(prepares(alloc, signers, &said, by)?),
+    })
+}
+
+/// The Prepares of a proposal's number, of `SIGNER:DIGEST ..`.
+fn prepares(
+    alloc: Global,
+    signers: &mut [Signer],
+    proposal: &PrePrepare,
+    text: &str,
+) -> Result<Vec<Signed<Prepare>>, Fail> {
     let mut prepares = Vec::new(alloc);
-    for word in by.split(' ') {
+    for word in text.split(' ') {
         let [id, digest, _] = numbers(word, ":")?;
         let prepare = Prepare {
-            view: said.view,
-            number: said.number,
+            view: proposal.view,
+            number: proposal.number,
             digest: digest_of(u8::try_from(digest)?),
         };
         prepares.push(signed(alloc, signers, u8::try_from(id)?, prepare)?)?;
     }
-    Ok(Certificate {
-        pre_prepare,
-        prepares: Sequence::from_vec(prepares),
-    })
+    Ok(prepares)
 }
 
 pub fn checkpoint(number: u64, digest: u8) -> Checkpoint {

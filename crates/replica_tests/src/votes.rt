@@ -1,7 +1,8 @@
 ghost use Rattle.std.specs.Prelude.{◌≡◌, IfOk};
 ghost use Rattle.quorum_log.specs.Ballots.{AreListed, AreUnder};
 
-use crate::messages::{config, signers, vote};
+use crate::messages::vote;
+use crate::view_messages::replicas;
 use host_types::{Config, Digest, ReplicaId, View};
 use lms_tree::Signer;
 use quorum_log::{Votes, digest_named};
@@ -51,17 +52,13 @@ fn agree(votes: &Votes, flat: &FlatVotes, digest: &Digest) -> bool {
     votes.count(digest) as usize == flat.count(digest)
 }
 
-// The signers of the messages, in order.
-fn signers_of(alloc: Global, messages: &[Checked]) -> Result<Vec<u32>, AllocError> {
-    let mut signers = Vec::new(alloc);
-    for message in messages {
-        signers.push(message.signer().1)?;
-    }
-    Ok(signers)
-}
-
-// How many, and the signers of the least that voted for digest 7 where replicas 0, 1 and 3 did.
-static LEAST: [(usize, &[u32]); 4] = [(0, &[]), (2, &[0, 1]), (3, &[0, 1, 3]), (4, &[0, 1, 3])];
+// How many are wanted; the signers of the least that voted for digest 7 where replicas 0, 1 and 3 did.
+const LEAST: &str = "\
+0 =>\n\
+2 => 0 1\n\
+3 => 0 1 3\n\
+4 => 0 1 3\n\
+";
 
 // Records the message, which is under this configuration as all others are.
 fn put(config: &Arc<Config>, votes: &mut Votes, message: &Checked) -> Result<(), AllocError>
@@ -78,98 +75,137 @@ fn put(config: &Arc<Config>, votes: &mut Votes, message: &Checked) -> Result<(),
     Ok(())
 }
 
-// The Commits of these replicas for these digests.
+// The Commits of `SIGNER:DIGEST ..`.
 fn commits(
     alloc: Global,
     config: &Arc<Config>,
     signers: &mut [Signer],
-    cases: &[(u8, u8)],
+    text: &str,
 ) -> Result<Votes, Fail>
     ensures under { IfOk result (λ votes. AreUnder config.now.value votes) }
     ensures listed { IfOk result (λ votes. AreListed config.now.value votes) }
 {
     let mut votes = Votes::new(alloc);
-    for (id, digest) in cases {
-        let message = vote(alloc, config, signers, *id, 2, *digest)?;
+    for word in text.split(' ') {
+        let (id, digest) = word.split_once(":").ok_or("no digest")?;
+        let message = vote(alloc, config, signers, id.parse()?, 2, digest.parse()?)?;
         put(config, &mut votes, &message)?;
     }
     Ok(votes)
 }
 
+// The signers of the least that voted for digest 7, in words.
+fn least(alloc: Global, config: &Arc<Config>, votes: &Votes, many: usize) -> Result<String, Fail>
+    requires { AreUnder config.now.value votes.now }
+{
+    let list = votes.least(alloc, config, &Digest([7; 32]), many)?;
+    let mut text = String::new(alloc);
+    for message in list.as_slice() {
+        let (_, id) = message.signer();
+        text.push_str(&format!(in alloc; " {id}")?)?;
+    }
+    Ok(text)
+}
+
+// Votes for digests 7 and 8.
+const SPLIT: &str = "3:7 1:7 2:8 0:7";
+
 #[test]
 fn the_least_signers_come_first(rt: HostRuntime) -> Result<(), Fail> {
-    let alloc = rt.alloc();
-    let mut signers = signers(alloc, 5)?;
-    let config = config(alloc, &signers)?;
-    let votes = commits(
-        alloc,
-        &config,
-        &mut signers,
-        &[(3, 7), (1, 7), (2, 8), (0, 7)],
-    )?;
-    for (many, expected) in &LEAST {
-        let list = votes.least(alloc, &config, &Digest([7; 32]), *many)?;
-        let least = signers_of(alloc, list.as_slice())?;
-        assert_eq!(rt; least.as_slice(), *expected);
+    let (mut signers, config) = replicas(rt.alloc(), 5)?;
+    let votes = commits(rt.alloc(), &config, &mut signers, SPLIT)?;
+    for line in LEAST.lines() {
+        let (many, wanted) = line.split_once(" =>").ok_or("no signers")?;
+        let found = least(rt.alloc(), &config, &votes, many.parse()?)?;
+        assert!(rt; found.as_str() == wanted, "{line}");
     }
     Ok(())
 }
 
-// Who voted for which digest, a view, and whether a quorum and whether two of its backups voted for
-// digest 7.
-static ENOUGH: [(&[(u8, u8)], u32, bool, bool); 5] = [
-    (&[(3, 7), (1, 7), (2, 8), (0, 7)], 0, true, true),
-    (&[(0, 7), (1, 7)], 0, false, false),
-    (&[(0, 7), (1, 7)], 2, false, true),
-    (&[(0, 7), (1, 7)], 5, false, false),
-    (&[(3, 8), (2, 8), (1, 8), (0, 7)], 1, false, false),
-];
+// Who voted for which digest, and a view; whether a quorum and whether two of its backups voted for digest 7.
+const ENOUGH: &str = "\
+3:7 1:7 2:8 0:7 in 0 => true true\n\
+0:7 1:7 in 0 => false false\n\
+0:7 1:7 in 2 => false true\n\
+0:7 1:7 in 5 => false false\n\
+3:8 2:8 1:8 0:7 in 1 => false false\n\
+";
+
+// Whether a quorum and whether two backups of the view voted for digest 7, in words.
+fn enough(
+    alloc: Global,
+    config: &Arc<Config>,
+    votes: &Votes,
+    view: u32,
+) -> Result<String, AllocError>
+    requires { AreListed config.now.value votes.now }
+{
+    let digest = Digest([7; 32]);
+    let quorum = votes.has_quorum(config, &digest);
+    let backups = votes.has_backups(config, View(view), &digest);
+    format!(in alloc; "{quorum} {backups}")
+}
 
 #[test]
 fn quorums_and_backups(rt: HostRuntime) -> Result<(), Fail> {
-    let alloc = rt.alloc();
-    let mut signers = signers(alloc, 5)?;
-    let config = config(alloc, &signers)?;
-    for (cases, view, quorum, backups) in &ENOUGH {
-        let votes = commits(alloc, &config, &mut signers, cases)?;
-        let digest = Digest([7; 32]);
-        assert_eq!(rt; votes.has_quorum(&config, &digest), *quorum);
-        assert_eq!(rt; votes.has_backups(&config, View(*view), &digest), *backups);
+    let (mut signers, config) = replicas(rt.alloc(), 5)?;
+    for line in ENOUGH.lines() {
+        let (said, wanted) = line.split_once(" => ").ok_or("no answer")?;
+        let (voted, view) = said.split_once(" in ").ok_or("no view")?;
+        let votes = commits(rt.alloc(), &config, &mut signers, voted)?;
+        let found = enough(rt.alloc(), &config, &votes, view.parse()?)?;
+        assert!(rt; found.as_str() == wanted, "{line}");
     }
     Ok(())
+}
+
+// The Checkpoints of each replica for each of two digests.
+fn pool(alloc: Global) -> Result<Vec<Checked>, Fail> {
+    let (mut signers, config) = replicas(alloc, 5)?;
+    let mut pool = Vec::new(alloc);
+    for drawn in 0..8 {
+        pool.push(vote(alloc, &config, &mut signers, drawn / 2, 3, 7 + drawn % 2)?)?;
+    }
+    Ok(pool)
+}
+
+// Whether both take the message alike, and agree then.
+fn take(votes: &mut Votes, flat: &mut FlatVotes, message: &Checked) -> Result<bool, AllocError> {
+    if message.signer().1 >= 10 || digest_named(message.body()).is_none() {
+        return Ok(true);
+    }
+    let is_new = votes.insert(message)?;
+    Ok(
+        is_new == flat.insert(message)?
+            && agree(votes, flat, &Digest([7; 32]))
+            && agree(votes, flat, &Digest([8; 32])),
+    )
+}
+
+// Whether both answer alike along eight draws from the pool.
+fn are_alike(alloc: Global, pool: &[Checked], drawn: &mut u32) -> Result<bool, AllocError> {
+    let mut votes = Votes::new(alloc);
+    let mut flat = FlatVotes {
+        messages: Vec::new(alloc),
+    };
+    let mut alike = true;
+    for _ in 0..8 {
+        *drawn = drawn.wrapping_mul(1_664_525).wrapping_add(1_013_904_223);
+        if let Some(message) = pool.get((*drawn >> 16) as usize % 8) {
+            alike = take(&mut votes, &mut flat, message)? && alike;
+        }
+    }
+    Ok(alike)
 }
 
 // A faulty replica votes for both digests: whatever comes first counts. Sequences of eight draws from a
 // pool in which each replica votes for each of two digests.
 #[test]
 fn votes_answer_as_a_plain_list(rt: HostRuntime) -> Result<(), Fail> {
-    let alloc = rt.alloc();
-    let mut signers = signers(alloc, 5)?;
-    let config = config(alloc, &signers)?;
-    let mut pool = Vec::new(alloc);
-    for id in 0..4 {
-        for digest in 7..9 {
-            pool.push(vote(alloc, &config, &mut signers, id, 3, digest)?)?;
-        }
-    }
+    let pool = pool(rt.alloc())?;
     let mut drawn: u32 = 1;
     for _ in 0..50 {
-        let mut votes = Votes::new(alloc);
-        let mut flat = FlatVotes {
-            messages: Vec::new(alloc),
-        };
-        for _ in 0..8 {
-            drawn = drawn.wrapping_mul(1_664_525).wrapping_add(1_013_904_223);
-            let Some(message) = pool.get((drawn >> 16) as usize % 8) else {
-                return Ok(());
-            };
-            if message.signer().1 < 10 && digest_named(message.body()).is_some() {
-                assert_eq!(rt; votes.insert(message)?, flat.insert(message)?);
-            }
-            let same = agree(&votes, &flat, &Digest([7; 32]))
-                && agree(&votes, &flat, &Digest([8; 32]));
-            assert_eq!(rt; same, true);
-        }
+        assert!(rt; are_alike(rt.alloc(), &pool, &mut drawn)?);
     }
     Ok(())
 }

@@ -56,7 +56,10 @@ impl Host {
     /// `WrongSigners` comes exactly where the signers aren't those of the listed keys, in the order of the
     /// replicas; `Memory` where memory ran out or a thread could not be made. Refused, it has ended the
     /// threads that it made, and the signers are dropped.
-    pub fn start<R: Threads + Wait + Copy + Send + 'static, G: Gate + Send + Sync + Drop + 'static>(
+    pub fn start<
+        R: Threads + Wait + Copy + Send + Sync + 'static,
+        G: Gate + Send + Sync + Drop + 'static,
+    >(
         rt: &R,
         alloc: Global,
         config: &Arc<Config>,
@@ -210,7 +213,10 @@ impl Host {
 }
 
 // Runs the overseer in a thread, and waits until it has made the others.
-fn run_overseer<R: Threads + Wait + Copy + Send + 'static, G: Gate + Send + Sync + Drop + 'static>(
+fn run_overseer<
+    R: Threads + Wait + Copy + Send + Sync + 'static,
+    G: Gate + Send + Sync + Drop + 'static,
+>(
     rt: &R,
     alloc: Global,
     links: Arc<Links<G>>,

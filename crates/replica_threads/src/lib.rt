@@ -11,6 +11,7 @@ mod desk;
 mod fault;
 mod furnishing;
 mod host;
+mod lane_gate;
 mod links;
 mod locked;
 mod named;

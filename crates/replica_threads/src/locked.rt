@@ -6,16 +6,18 @@ ghost use Rattle.replica_core.specs.declared.row.Input.TheVariants as inputs;
 ghost use Rattle.replica_journal.specs.Keeping.{Advances, MayStep};
 ghost use Rattle.replica_threads.specs.Stations.{IsAnswered, IsClosed, IsJournalOf, IsReported, counted_by};
 
+use crate::lane_gate::LANES;
 use crate::named::Named;
 use crate::record::JournalRecord;
 use crate::seat::Seat;
-use host_types::{Config, ReplicaId};
+use host_types::{Config, Gate, ReplicaId};
 use replica_core::{Halt, Row, Status};
 use replica_journal::Journal;
 use seal::Checked;
 use std::marker::Model;
 use std::sync::Arc;
 use std::sync::ledger::Book;
+use std::thread::Threads;
 
 /// The inside of a station: whenever the lock is free, its rows are a lawful journal of the replica that
 /// its name stands for, and while it has not halted, its core is the one after them. Each row was answered
@@ -56,16 +58,23 @@ impl<K: Named> Locked<K> {
     }
 
     /// Takes a message that was opened under the station's configuration. The row of the replica's step is
-    /// appended to the journal and counted in the seat; or the station halts, as `Journal::take` says, and
-    /// nothing is counted.
-    pub fn take(&mut self, seat: &mut Seat<K>, message: &Checked) -> Result<Row, Halt>
+    /// appended to the journal and counted in the seat; or the station halts, as `Journal::take_lanes`
+    /// says, and nothing is counted. Requests of different tenants are executed in two lanes, each of which
+    /// calls the gate with its number.
+    pub fn take<R: Threads + Sync, G: Gate + Sync>(
+        &mut self,
+        rt: &R,
+        seat: &mut Seat<K>,
+        message: &Checked,
+        gate: &G,
+    ) -> Result<Row, Halt>
         requires config { message.now.config ≡ K.config }
         ensures step { Advances self.old (inputs.Message message.now) result self.new }
         ensures answered { IfOk result (λ row. IsAnswered K.config K.id seat.old.rows (inputs.Message message.now) row) }
         ensures counted { seat.new ≡ counted_by seat.old result }
     {
         let Locked { journal, book } = self;
-        let row = journal.take(message)?;
+        let row = journal.take_lanes(rt, message, LANES, gate)?;
         seat.count(book);
         Ok(row)
     }

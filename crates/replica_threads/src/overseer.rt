@@ -14,7 +14,7 @@ use std::thread::{JoinHandle, Threads};
 /// Makes a thread at each desk and so many openers for each, says whether all could be made, and waits
 /// until they have ended. Where one can't be made, those that run are stopped.
 pub(crate) fn oversee<
-    R: Threads + Wait + Copy + Send + 'static,
+    R: Threads + Wait + Copy + Send + Sync + 'static,
     G: Gate + Send + Sync + Drop + 'static,
 >(
     rt: R,
@@ -35,7 +35,10 @@ pub(crate) fn oversee<
     }
 }
 
-fn hire_all<R: Threads + Wait + Copy + Send + 'static, G: Gate + Send + Sync + Drop + 'static>(
+fn hire_all<
+    R: Threads + Wait + Copy + Send + Sync + 'static,
+    G: Gate + Send + Sync + Drop + 'static,
+>(
     rt: R,
     alloc: Global,
     links: &Arc<Links<G>>,
@@ -55,7 +58,10 @@ fn hire_all<R: Threads + Wait + Copy + Send + 'static, G: Gate + Send + Sync + D
     Ok(())
 }
 
-fn hire_opener<R: Threads + Wait + Copy + Send + 'static, G: Gate + Send + Sync + Drop + 'static>(
+fn hire_opener<
+    R: Threads + Wait + Copy + Send + Sync + 'static,
+    G: Gate + Send + Sync + Drop + 'static,
+>(
     rt: R,
     alloc: Global,
     links: &Arc<Links<G>>,
@@ -67,11 +73,10 @@ fn hire_opener<R: Threads + Wait + Copy + Send + 'static, G: Gate + Send + Sync 
     Ok(thread::spawn(&rt, job)?)
 }
 
-fn hire_replica<R: Threads + Wait + Copy + Send + 'static, G: Gate + Send + Sync + Drop + 'static>(
-    rt: R,
-    links: &Arc<Links<G>>,
-    desk: Desk,
-) -> Result<JoinHandle<()>, AllocError> {
+fn hire_replica<
+    R: Threads + Wait + Copy + Send + Sync + 'static,
+    G: Gate + Send + Sync + Drop + 'static,
+>(rt: R, links: &Arc<Links<G>>, desk: Desk) -> Result<JoinHandle<()>, AllocError> {
     let links = Arc::try_clone(links)?;
     let job = move || {
         let id = desk.id;

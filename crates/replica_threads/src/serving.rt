@@ -15,9 +15,10 @@ use replica_journal::Journal;
 use std::marker::Brand;
 use std::sync::ledger::Blank;
 use std::sync::{Arc, Wait};
+use std::thread::Threads;
 
 /// Serves at a desk until a letter says stop: the journal of the replica.
-pub(crate) fn serve_at<R: Wait, G: Gate + Drop>(
+pub(crate) fn serve_at<R: Wait + Threads + Sync, G: Gate + Sync + Drop>(
     rt: &R,
     links: &Links<G>,
     desk: Desk,
@@ -34,7 +35,7 @@ pub(crate) fn serve_at<R: Wait, G: Gate + Drop>(
 }
 
 // Serves as the replica that the name stands for.
-fn serve<K: Named, R: Wait, G: Gate + Drop>(
+fn serve<K: Named, R: Wait + Threads + Sync, G: Gate + Sync + Drop>(
     rt: &R,
     links: &Links<G>,
     blank: Blank,
@@ -57,7 +58,7 @@ fn serve<K: Named, R: Wait, G: Gate + Drop>(
 }
 
 // Serves letter after letter.
-fn serve_letters<K: Named, R: Wait, G: Gate + Drop>(
+fn serve_letters<K: Named, R: Wait + Threads + Sync, G: Gate + Sync + Drop>(
     rt: &R,
     links: &Links<G>,
     config: &Arc<Config>,
@@ -83,7 +84,7 @@ fn serve_letters<K: Named, R: Wait, G: Gate + Drop>(
 }
 
 // The step that a letter asks for. A message that isn't under the station's configuration is dropped.
-fn step<K: Named, R: Wait, G: Gate + Drop>(
+fn step<K: Named, R: Wait + Threads + Sync, G: Gate + Sync + Drop>(
     rt: &R,
     links: &Links<G>,
     config: &Arc<Config>,

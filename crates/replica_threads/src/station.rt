@@ -8,6 +8,7 @@ ghost use Rattle.seal.specs.Signers.{key_of};
 ghost use Rattle.replica_core.specs.declared.row.Input.TheVariants as inputs;
 ghost use Rattle.replica_threads.specs.Stations.{IsAnswered, IsClosed, IsReported, counted_by};
 
+use crate::lane_gate::LaneGate;
 use crate::locked::Locked;
 use crate::named::Named;
 use crate::record::JournalRecord;
@@ -20,6 +21,7 @@ use seal::Checked;
 use std::alloc::{AllocError, Global};
 use std::sync::ledger::Blank;
 use std::sync::{Arc, Mutex, Wait};
+use std::thread::Threads;
 
 /// The parts that a station's ledger is cut into, of which each seat has at least one.
 pub const PARTS: u64 = 65_536;
@@ -75,10 +77,12 @@ impl<K: Named> Station<K> {
     }
 
     /// Takes a message that was opened under the station's configuration. The gate is called with the
-    /// replica's number, under the station's lock, before a step of the replica. The row is the journal's
-    /// last one, and is counted in the seat. The halts are, in this order, `AlreadyHalted`, `JournalFull`
-    /// and the replica's own; each is for good and counts nothing.
-    pub fn take<R: Wait, G: Gate>(
+    /// replica's number, under the station's lock, before a step of the replica. Requests of different
+    /// tenants that are executed in it are at the same time, in two lanes: lane j of replica i calls the
+    /// gate with 256 + 16 i + j, once before its first request of those that are executed together. The
+    /// row is the journal's last one, and is counted in the seat. The halts are, in this order,
+    /// `AlreadyHalted`, `JournalFull` and the replica's own; each is for good and counts nothing.
+    pub fn take<R: Wait + Threads + Sync, G: Gate + Sync>(
         &self,
         rt: &R,
         seat: &mut Seat<K>,
@@ -93,7 +97,7 @@ impl<K: Named> Station<K> {
         if locked.can_step() {
             gate.step(u32::from(self.id.0));
         }
-        locked.take(seat, message)
+        locked.take(rt, seat, message, &LaneGate::new(gate, self.id))
     }
 
     /// Takes a timeout, as `take` takes a message.

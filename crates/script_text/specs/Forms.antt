@@ -1,7 +1,11 @@
 -- Statement: what a script's values may be, and how the keys of a table are read.
-use Rattle.std.specs.Prelude.{codes, find, length, [], ◌∷◌, ◌++◌, Vec, ℕ, ℤ, pos, negsuc, ◌==◌, ◌&&◌, ◌||◌, Bool, true, false, nat_le, nat_lt, List, Option, Some, None, Result, Ok, Err, filter, not, if◌then◌else◌, bytes_eq}
+use Rattle.std.specs.Prelude.{codes, find, flat_map, length, slice_get, [], ◌∷◌, ◌++◌, ◌-◌, Vec, ℕ, ℤ, pos, negsuc, ◌==◌, ◌&&◌, ◌||◌, Bool, true, false, nat_le, nat_lt, List, Option, Some, None, Result, Ok, Err, filter, not, if◌then◌else◌, bytes_eq}
 use Rattle.std.specs.List.{list_any}
 use Rattle.std.specs.Option.{ok_or, option_map}
+use Rattle.bpf_asm.specs.Assembly.{assembly}
+use Rattle.bpf_asm.specs.declared.fault.AsmFault.{AsmFault}
+use Rattle.bpf_decode.specs.Encoding.{encoding}
+use Rattle.bpf_decode.specs.declared.insn.Insn.{Insn}
 use Rattle.hex.specs.Hex.{decode_of, decode_sized}
 use Rattle.hex.specs.declared.FromHexError.{FromHexError}
 use Rattle.host_types.specs.declared.ReplicaId.{ReplicaId}
@@ -147,6 +151,14 @@ decoded_bytes (Err error) = Err WrongValue
 abbrev pub hex_bytes : Data → Result (List ℕ) TableFault
 hex_bytes d = if_found (λ text. decoded_bytes (decode_of (filter (λ b. not (is_blank b)) text))) (as_str d)
 
+-- an assembler text, as the code that it is; at most 524,288 bytes
+abbrev pub assembled : Result (List Insn) AsmFault → Result (List ℕ) TableFault
+assembled (Ok code) = if nat_le (length (encoding code)) 524288 then Ok (encoding code) else Err WrongValue
+assembled (Err fault) = Err WrongValue
+
+abbrev pub assembler_text : Data → Result (List ℕ) TableFault
+assembler_text d = if_found (λ text. assembled (assembly text)) (as_str d)
+
 -- a replica among so many, by its index
 abbrev pub replica_of : ℕ → ℤ → Result ReplicaId TableFault
 replica_of count (pos n) = if nat_lt n count then Ok (record { 0 = n }) else Err WrongValue
@@ -249,6 +261,35 @@ per_replica count reads d = if_so_many count (list_of reads d)
 
 abbrev pub any_table : Data → Result (Unit {0}) TableFault
 any_table d = if_found (λ members. Ok tt) (as_table d)
+
+-- ---- printed lines
+
+abbrev pub text : Data → Result (List ℕ) TableFault
+text d = if_found Ok (as_str d)
+
+-- whether a text with this last byte has an end behind its last line
+abbrev pub is_ended : Option ℕ → Bool
+is_ended None = true
+is_ended (Some b) = b == 10
+
+abbrev pub ended : List ℕ → List ℕ
+ended t = if is_ended (slice_get t (length t - 1)) then t else t ++ 10 ∷ []
+
+-- strings as the lines of a text
+abbrev pub joined : List (List ℕ) → List ℕ
+joined ts = flat_map (λ t. t ++ 10 ∷ []) ts
+
+abbrev pub joined_from : Result (List (List ℕ)) TableFault → Result (List ℕ) TableFault
+joined_from (Ok ts) = Ok (joined ts)
+joined_from (Err fault) = Err fault
+
+abbrev pub lines_from : Option (List ℕ) → Data → Result (List ℕ) TableFault
+lines_from (Some t) d = Ok (ended t)
+lines_from None d = joined_from (list_of text d)
+
+-- a text, or a list of strings, each a line
+abbrev pub lines : Data → Result (List ℕ) TableFault
+lines d = lines_from (as_str d) d
 
 -- ---- a client's table
 

@@ -1,5 +1,5 @@
 -- Statement: the kind of a message.
-use Rattle.std.specs.Prelude.{ℕ}
+use Rattle.std.specs.Prelude.{ℕ, List, codes}
 use Rattle.pbft_codec.specs.declared.body.Body.{Body}
 use Rattle.pbft_codec.specs.declared.body.Body.TheVariants as bodies
 use Rattle.script_text.specs.declared.kind.Kind.{Kind}
@@ -29,3 +29,16 @@ kind_number ViewChange = 7
 kind_number NewView = 8
 kind_number Fetch = 9
 kind_number Snapshot = 10
+
+-- a kind's name in a script
+abbrev pub kind_text : Kind → List ℕ
+kind_text Request = codes "request"
+kind_text PrePrepare = codes "pre-prepare"
+kind_text Prepare = codes "prepare"
+kind_text Commit = codes "commit"
+kind_text Reply = codes "reply"
+kind_text Checkpoint = codes "checkpoint"
+kind_text ViewChange = codes "view-change"
+kind_text NewView = codes "new-view"
+kind_text Fetch = codes "fetch"
+kind_text Snapshot = codes "snapshot"

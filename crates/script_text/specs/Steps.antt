@@ -23,7 +23,7 @@ use Rattle.script_text.specs.declared.script.Node.{Node}
 use Rattle.script_text.specs.declared.script.Step.{Step}
 use Rattle.script_text.specs.declared.script.Step.TheVariants as steps
 use Rattle.script_text.specs.declared.kind.Kind.{Kind}
-use Rattle.script_text.specs.Forms.{pair_of, client_name, faulty_index, hex_bytes, digest, forged_kind, kind_name, list_of, needed_key, only_keys, optional_key, node, replica, sequence_number, up_to, yes}
+use Rattle.script_text.specs.Forms.{assembler_text, pair_of, client_name, faulty_index, hex_bytes, digest, forged_kind, kind_name, lines, list_of, needed_key, only_keys, optional_key, node, replica, sequence_number, up_to, yes}
 
 -- whose messages of the queue, for whom and of which kinds
 abbrev pub Selection : Type 0
@@ -45,6 +45,17 @@ filter_from (Err fault) = Err fault
 abbrev pub filter_in : ℕ → List Client → Members → Result Filter TableFault
 filter_in count clients members =
     filter_from (only_keys (selection_in count clients members) (codes "do" ∷ codes "from" ∷ codes "to" ∷ codes "kinds" ∷ []) members)
+
+-- what is delivered, and the seed of a drawn order
+abbrev pub deliver_from : Result (Option ℕ × Selection) TableFault → Result Step TableFault
+deliver_from (Ok r) = Ok (steps.Deliver (filter_of r.1) r.0)
+deliver_from (Err fault) = Err fault
+
+abbrev pub deliver_in : ℕ → List Client → Members → Result Step TableFault
+deliver_in count clients members =
+    deliver_from (only_keys
+    (pair_of (optional_key (up_to 9223372036854775807) (codes "order") members) (selection_in count clients members))
+    (codes "do" ∷ codes "from" ∷ codes "to" ∷ codes "kinds" ∷ codes "order" ∷ []) members)
 
 -- ---- changed copies
 
@@ -98,6 +109,15 @@ abbrev pub upgrade_in : Members → Result Step TableFault
 upgrade_in members =
     upgrade_from (only_keys (needed_key hex_bytes (codes "bytes") members) (codes "do" ∷ codes "bytes" ∷ []) members)
 
+-- what is to have been printed
+abbrev pub expect_from : Result (List ℕ) TableFault → Result Step TableFault
+expect_from (Ok text) = Ok (steps.Expect text)
+expect_from (Err fault) = Err fault
+
+abbrev pub expect_in : Members → Result Step TableFault
+expect_in members =
+    expect_from (only_keys (needed_key lines (codes "lines") members) (codes "do" ∷ codes "lines" ∷ []) members)
+
 -- bytes, and for whom they are queued
 abbrev pub raw_from : Result (List Node × List ℕ) TableFault → Result Step TableFault
 raw_from (Ok r) = Ok (steps.Raw r.0 r.1)
@@ -121,6 +141,10 @@ install_from (Err fault) = Err fault
 
 abbrev pub install_in : Members → Result (List ℕ) TableFault
 install_in members = install_from (needed_key hex_bytes (codes "install") members)
+
+-- the same of an assembler text
+abbrev pub asm_in : Members → Result (List ℕ) TableFault
+asm_in members = install_from (needed_key assembler_text (codes "asm") members)
 
 abbrev pub arguments_of : Option (List ℕ) → List ℕ
 arguments_of None = []
@@ -149,7 +173,7 @@ abbrev pub named_in : List Client → Members → Result (Option (ClientId × �
 named_in clients members =
     named_from (pair_of (needed_key (client_name clients) (codes "client") members) (needed_key (up_to 9223372036854775807) (codes "time") members))
 
--- A request: it installs code where there is such a key, else it calls a procedure.
+-- A request: it installs code where there is such a key, or that of an assembler text, else it calls a procedure.
 abbrev pub order_from : Result (List ℕ × (ClientId × Option (List Node))) TableFault → Result Order TableFault
 order_from (Ok r) = Ok (record { client = r.1.0; op = r.0; to = r.1.1 })
 order_from (Err fault) = Err fault
@@ -164,6 +188,8 @@ abbrev pub order_in : ℕ → List Client → Members → Result Order TableFaul
 order_in count clients members =
     if is_some (get_member (codes "install") members)
     then order_with (install_in members) (codes "do" ∷ codes "client" ∷ codes "install" ∷ codes "to" ∷ []) count clients members
+    else if is_some (get_member (codes "asm") members)
+    then order_with (asm_in members) (codes "do" ∷ codes "client" ∷ codes "asm" ∷ codes "to" ∷ []) count clients members
     else order_with (call_in members) (codes "do" ∷ codes "client" ∷ codes "call" ∷ codes "args" ∷ codes "to" ∷ []) count clients members
 
 -- ---- a forged message
@@ -250,9 +276,10 @@ bare said members = only_keys (Ok said) (codes "do" ∷ []) members
 abbrev pub step_named : List ℕ → ℕ → List ReplicaId → List Client → Members → Result Step TableFault
 step_named t count faulty clients members =
     if bytes_eq t (codes "request") then as_step steps.Request (order_in count clients members)
-    else if bytes_eq t (codes "deliver") then as_step steps.Deliver (filter_in count clients members)
+    else if bytes_eq t (codes "deliver") then deliver_in count clients members
     else if bytes_eq t (codes "drop") then as_step steps.Drop (filter_in count clients members)
     else if bytes_eq t (codes "repeat") then as_step steps.Repeat (filter_in count clients members)
+    else if bytes_eq t (codes "queue") then as_step steps.Queue (filter_in count clients members)
     else if bytes_eq t (codes "timeout") then timeout_in count members
     else if bytes_eq t (codes "forge") then as_step steps.Forge (forgery_in count faulty clients members)
     else if bytes_eq t (codes "mangle") then mangle_in count clients members
@@ -261,4 +288,6 @@ step_named t count faulty clients members =
     else if bytes_eq t (codes "digest") then bare steps.Digest members
     else if bytes_eq t (codes "state") then state_in count members
     else if bytes_eq t (codes "upgrade") then upgrade_in members
+    else if bytes_eq t (codes "expect") then expect_in members
+    else if bytes_eq t (codes "audit") then bare steps.Audit members
     else Err WrongValue

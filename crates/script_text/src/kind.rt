@@ -20,7 +20,7 @@ pub enum Kind {
 impl Kind {
     ghost use Rattle.std.specs.Prelude.{◌≡◌};
     ghost use Rattle.script_text.specs.Forms.{kind_named};
-    ghost use Rattle.script_text.specs.Kinds.{kind_number, kind_of_body};
+    ghost use Rattle.script_text.specs.Kinds.{kind_number, kind_of_body, kind_text};
 
     /// The kind of a body.
     pub fn of(body: &Body) -> Kind
@@ -45,6 +45,24 @@ impl Kind {
         ensures { result ≡ kind_number self }
     {
         self as u8
+    }
+
+    /// The kind's name in a script.
+    pub fn name(self) -> &'static str
+        ensures { result.now ≡ kind_text self }
+    {
+        match self {
+            Kind::Request => "request",
+            Kind::PrePrepare => "pre-prepare",
+            Kind::Prepare => "prepare",
+            Kind::Commit => "commit",
+            Kind::Reply => "reply",
+            Kind::Checkpoint => "checkpoint",
+            Kind::ViewChange => "view-change",
+            Kind::NewView => "new-view",
+            Kind::Fetch => "fetch",
+            Kind::Snapshot => "snapshot",
+        }
     }
 
     /// The kind of this name.

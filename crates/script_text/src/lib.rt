@@ -7,6 +7,7 @@
 //!     }
 #![tactic(auto)]
 
+mod assembly;
 mod dialect;
 mod document;
 mod fault;
@@ -15,6 +16,7 @@ mod form;
 mod head;
 mod head_keys;
 mod kind;
+mod lines;
 mod replica_keys;
 mod script;
 mod step_keys;

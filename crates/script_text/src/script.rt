@@ -195,13 +195,19 @@ pub enum Step {
     /// Queues a signed request.
     Request(Order),
     /// Delivers each message that is meant, and what comes of it where that is meant too.
-    Deliver(Filter),
+    Deliver {
+        filter: Filter,
+        /// The seed of an order that is drawn; the oldest message first where it is left out.
+        order: Option<u64>,
+    },
     /// Removes each message that is meant.
     Drop(Filter),
     /// Queues each message that is meant once more.
     Repeat(Filter),
     /// Timeouts at these replicas, in this order.
     Timeout(Sequence<ReplicaId>),
+    /// Prints each message that is meant, the oldest first.
+    Queue(Filter),
     /// Queues a message that a faulty replica signs.
     Forge(Forgery),
     /// Queues a changed copy of each message that is meant.
@@ -222,4 +228,8 @@ pub enum Step {
     State(ReplicaId),
     /// Prints the canonical encoding of the state that these bytes encode.
     Upgrade(ScriptBytes),
+    /// Goes on if this is what has been printed since the last `expect`. Each of its lines has an end.
+    Expect(Bytes),
+    /// Prints whether the rows of the correct replicas agree so far.
+    Audit,
 }

@@ -1,36 +1,42 @@
 //! The keys of a script's steps.
 
-ghost use Rattle.std.specs.Prelude.{◌≡◌, ℕ, List, Result, codes, map};
+ghost use Rattle.std.specs.Prelude.{◌≡◌, ◌∷◌, ℕ, IfOk, List, Result, codes, map};
 ghost use Rattle.host_types.specs.Configuration.{replicas_for};
 ghost use Rattle.toml.specs.View.{table_view, view};
 ghost use Rattle.script_text.specs.declared.fault.TableFault.{TableFault};
 ghost use Rattle.script_text.specs.declared.script.Damage.{Damage as DamageSaid};
 ghost use Rattle.script_text.specs.declared.script.Damage.TheVariants as damages;
 ghost use Rattle.script_text.specs.Faults.{IsUnlessMemory};
-ghost use Rattle.script_text.specs.Steps.{Selection as SelectionSaid, bare, call_in, damage_at, filter_in, filter_of, install_in, mangle_from, mangle_in, mangle_with, order_in, order_with, raw_in, selection_in, state_in, step_named, timeout_in, upgrade_in};
+ghost use Rattle.script_text.specs.Steps.{Selection as SelectionSaid, asm_in, bare, call_in, damage_at, deliver_in, expect_in, filter_in, filter_of, install_in, mangle_from, mangle_in, mangle_with, order_in, order_with, raw_in, selection_in, state_in, step_named, timeout_in, upgrade_in};
 ghost use Rattle.script_text.specs.Dialects.{step, step_named_for, thread_step};
 
+use crate::assembly::AssemblerText;
 use crate::dialect::Dialect;
 use crate::fault::TableFault;
 use crate::forgery_keys::read_forgery;
 use crate::form::{needed, optional, pair, value_at, with_only, wrong_where};
 use crate::head::Head;
 use crate::kind::Kind;
-use crate::script::{Client, Damage, Filter, Node, Operation, Order, Step};
+use crate::lines::Lines;
+use crate::script::{Client, Damage, Filter, Node, Operation, Order, ScriptBytes, Step};
 use crate::values::{
     ClientName, HexBytes, KindName, ListOf, NodeName, ReplicaIndex, UpTo, Word, table_of,
 };
 use host_types::operation::{CALL, INSTALL};
 use host_types::{Bytes, ReplicaId};
 use pbft_codec::Sequence;
-use std::alloc::Global;
+use std::alloc::{AllocError, Global};
 use toml::{Table, Value};
 
 const INSTALL_KEYS: [&str; 4] = ["do", "client", "install", "to"];
 
+const ASM_KEYS: [&str; 4] = ["do", "client", "asm", "to"];
+
 const CALL_KEYS: [&str; 5] = ["do", "client", "call", "args", "to"];
 
 const FILTER_KEYS: [&str; 4] = ["do", "from", "to", "kinds"];
+
+const DELIVER_KEYS: [&str; 5] = ["do", "from", "to", "kinds", "order"];
 
 const TIMEOUT_KEYS: [&str; 2] = ["do", "at"];
 
@@ -45,6 +51,8 @@ const BARE_KEYS: [&str; 1] = ["do"];
 const STATE_KEYS: [&str; 2] = ["do", "at"];
 
 const UPGRADE_KEYS: [&str; 2] = ["do", "bytes"];
+
+const EXPECT_KEYS: [&str; 2] = ["do", "lines"];
 
 /// The greatest integer of a document.
 pub(crate) const MAX_INTEGER: u64 = 9_223_372_036_854_775_807;
@@ -134,9 +142,10 @@ fn read_named_step(
 {
     match name {
         "request" => Ok(Step::Request(read_request(alloc, names, table)?)),
-        "deliver" => Ok(Step::Deliver(read_filter(alloc, names, table)?)),
+        "deliver" => read_deliver(alloc, names, table),
         "drop" => Ok(Step::Drop(read_filter(alloc, names, table)?)),
         "repeat" => Ok(Step::Repeat(read_filter(alloc, names, table)?)),
+        "queue" => Ok(Step::Queue(read_filter(alloc, names, table)?)),
         "timeout" => read_timeout(alloc, names, table),
         "forge" => Ok(Step::Forge(read_forgery(alloc, names, table)?)),
         "mangle" => read_mangle(alloc, names, table),
@@ -145,6 +154,8 @@ fn read_named_step(
         "digest" => read_bare(table, Step::Digest),
         "state" => read_state(alloc, names, table),
         "upgrade" => read_upgrade(alloc, table),
+        "expect" => read_expect(alloc, table),
+        "audit" => read_bare(table, Step::Audit),
         _ => Err(TableFault::WrongValue),
     }
 }
@@ -161,15 +172,14 @@ fn read_request(alloc: Global, names: &Names<'_>, table: &Table) -> Result<Order
     ensures { IsUnlessMemory result (order_in names.now.count names.now.clients.now (table_view table.now)) }
 {
     if value_at(table, "install").is_some() {
-        read_order(
-            alloc,
-            names,
-            table,
-            read_install(alloc, table),
-            &INSTALL_KEYS,
-        )
+        let install = read_install(alloc, table);
+        read_order(alloc, names, table, install, &INSTALL_KEYS)
+    } else if value_at(table, "asm").is_some() {
+        let install = read_asm(alloc, table);
+        read_order(alloc, names, table, install, &ASM_KEYS)
     } else {
-        read_order(alloc, names, table, read_call(alloc, table), &CALL_KEYS)
+        let call = read_call(alloc, table);
+        read_order(alloc, names, table, call, &CALL_KEYS)
     }
 }
 
@@ -206,6 +216,20 @@ fn read_install(alloc: Global, table: &Table) -> Result<Operation, TableFault>
     ensures { IsUnlessMemory result (install_in (table_view table.now)) }
 {
     let code = needed(alloc, table, "install", &HexBytes)?;
+    Ok(installation(alloc, &code)?)
+}
+
+/// The operation that installs the code of an assembler text.
+fn read_asm(alloc: Global, table: &Table) -> Result<Operation, TableFault>
+    ensures { IsUnlessMemory result (asm_in (table_view table.now)) }
+{
+    let code = needed(alloc, table, "asm", &AssemblerText)?;
+    Ok(installation(alloc, &code)?)
+}
+
+fn installation(alloc: Global, code: &ScriptBytes) -> Result<Operation, AllocError>
+    ensures { IfOk result (λ op. op ≡ 1 ∷ code.now) }
+{
     let mut op = Vec::new(alloc);
     op.push(INSTALL)?;
     op.extend_from_slice(code.as_slice())?;
@@ -227,6 +251,21 @@ fn read_call(alloc: Global, table: &Table) -> Result<Operation, TableFault>
         op.extend_from_slice(arguments.as_slice())?;
     }
     Ok(Operation::new(Bytes::from_vec(op)))
+}
+
+/// Which messages of the queue are delivered, and in which order.
+fn read_deliver(alloc: Global, names: &Names<'_>, table: &Table) -> Result<Step, TableFault>
+    ensures { IsUnlessMemory result (deliver_in names.now.count names.now.clients.now (table_view table.now)) }
+{
+    let named = pair(
+        optional(alloc, table, "order", &UpTo(MAX_INTEGER)),
+        read_selection(alloc, names, table),
+    );
+    let (order, selection) = with_only(named, table, &DELIVER_KEYS)?;
+    Ok(Step::Deliver {
+        filter: filter_of(selection),
+        order,
+    })
 }
 
 /// Which messages of the queue are meant.
@@ -349,4 +388,11 @@ fn read_upgrade(alloc: Global, table: &Table) -> Result<Step, TableFault>
 {
     let named = needed(alloc, table, "bytes", &HexBytes);
     Ok(Step::Upgrade(with_only(named, table, &UPGRADE_KEYS)?))
+}
+
+fn read_expect(alloc: Global, table: &Table) -> Result<Step, TableFault>
+    ensures { IsUnlessMemory result (expect_in (table_view table.now)) }
+{
+    let named = needed(alloc, table, "lines", &Lines);
+    Ok(Step::Expect(with_only(named, table, &EXPECT_KEYS)?))
 }

@@ -22,7 +22,7 @@ use std::alloc::{AllocError, Global};
 use toml::{Table, Value};
 
 /// The most bytes that hex digits give: a script has no more than twice as many.
-const MAX_HEX_BYTES: usize = 524_288;
+pub(crate) const MAX_HEX_BYTES: usize = 524_288;
 
 /// The most leaves that a key may have used at the start.
 const MAX_SPENT: u32 = 2_048;

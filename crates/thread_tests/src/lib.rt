@@ -15,4 +15,6 @@ mod place;
 #[cfg(test)]
 mod stations;
 #[cfg(test)]
+mod streams;
+#[cfg(test)]
 mod texts;

@@ -31,6 +31,12 @@ step = [{ do = 'deliver' }]|3 1
 step = [{ do = 'show' }]|3 1
 step = [{ do = 'state' }]|3 1
 step = [{ do = 'state', x = 1 }]|3 1
+step = [{ do = 'expect', lines = [] }]|3 1
+step = [{ do = 'audit' }]|3 1
+step = [{ do = 'queue' }]|3 1
+step = [{ do = 'request', client = 100, asm = 'exit' }]|ok
+step = [{ do = 'request', client = 100, asm = 'jump' }]|3 1
+step = [{ do = 'request', client = 100, asm = 'exit', to = [0] }]|3 1
 step = [{ do = 'timeout', at = [0] }, { do = 'raw' }]|3 2
 step = [{ do = 'show' }, { do = 'timeout' }]|3 1
 faulty = [0]/step = [{ do = 'show' }]|3 0

@@ -2,9 +2,10 @@
 
 ghost use Rattle.std.specs.Prelude.{◌≡◌, IfOk};
 
+use crate::sealing::message_of;
 use host_types::{Bytes, ClientEntry, ClientId, Config, PublicKey, SeqNo, TenantId, View};
 use lms_tree::{Height, Signer};
-use pbft_codec::{Body, ReplyBody, Role, Signed, encode, signed_bytes};
+use pbft_codec::{Body, ReplyBody, Role, Signed, signed_bytes};
 use seal::{Checked, open};
 use std::alloc::{AllocError, Global};
 use std::sync::Arc;
@@ -67,6 +68,50 @@ pub fn fields_of(text: &str) -> Result<Fields, Fail> {
     })
 }
 
+/// The Reply of these fields, without a signature.
+fn unsigned(alloc: Global, fields: &Fields) -> Result<Signed, AllocError> {
+    let result = Bytes::from_vec(Vec::from_slice(alloc, &[fields.result])?);
+    Ok(Signed {
+        role: Role::Replica,
+        id: u32::from(fields.replica),
+        body: Body::Reply(ReplyBody {
+            view: View(fields.view),
+            client: ClientId(fields.client),
+            time: fields.time,
+            number: SeqNo(u64::from(fields.number)),
+            result,
+        }),
+        sig: Bytes::from_vec(Vec::new(alloc)),
+    })
+}
+
+/// What is signed of a Reply, and its signature: none where there is no such replica.
+fn sign(
+    alloc: Global,
+    replicas: &mut [Signer],
+    fields: &Fields,
+) -> Result<(Vec<u8>, Vec<u8>), Fail> {
+    let message = unsigned(alloc, fields)?;
+    sign_message(
+        alloc,
+        replicas.get_mut(usize::from(fields.replica)),
+        &message,
+    )
+}
+
+fn sign_message(
+    alloc: Global,
+    signer: Option<&mut Signer>,
+    message: &Signed,
+) -> Result<(Vec<u8>, Vec<u8>), Fail> {
+    let text = signed_bytes(alloc, message)?;
+    let signature = match signer {
+        Some(signer) => signer.sign(&text)?,
+        None => Vec::new(alloc),
+    };
+    Ok((text, signature))
+}
+
 /// The checked Reply of a replica.
 pub fn reply(
     alloc: Global,
@@ -76,35 +121,7 @@ pub fn reply(
 ) -> Result<Checked, Fail>
     ensures { IfOk result (λ c. c.config ≡ config.now.value) }
 {
-    let Fields {
-        replica,
-        view,
-        client,
-        time,
-        number,
-        result,
-    } = *fields;
-    let unsigned = Signed {
-        role: Role::Replica,
-        id: u32::from(replica),
-        body: Body::Reply(ReplyBody {
-            view: View(view),
-            client: ClientId(client),
-            time,
-            number: SeqNo(u64::from(number)),
-            result: Bytes::from_vec(Vec::from_slice(alloc, &[result])?),
-        }),
-        sig: Bytes::from_vec(Vec::new(alloc)),
-    };
-    let text = signed_bytes(alloc, &unsigned)?;
-    let signature = match replicas.get_mut(usize::from(replica)) {
-        Some(signer) => signer.sign(&text)?,
-        None => Vec::new(alloc),
-    };
-    let message = Signed {
-        sig: Bytes::from_vec(signature),
-        ..unsigned
-    };
-    let bytes = encode(alloc, &message)?;
+    let (text, signature) = sign(alloc, replicas, fields)?;
+    let bytes = message_of(alloc, &text, &signature)?;
     Ok(open(alloc, config, &bytes)?)
 }

@@ -56,12 +56,16 @@ fn message(
     id: u32,
     body: &[u8],
 ) -> Result<Vec<u8>, Fail> {
-    let sig = signer.sign(&covered(alloc, role, id, body)?)?;
-    let mut out = Vec::new(alloc);
-    out.push(role)?;
-    out.extend_from_slice(&id.to_be_bytes())?;
+    let text = covered(alloc, role, id, body)?;
+    message_of(alloc, &text, &signer.sign(&text)?)
+}
+
+/// The message of which this is signed, with this signature.
+pub(crate) fn message_of(alloc: Global, text: &[u8], signature: &[u8]) -> Result<Vec<u8>, Fail> {
+    let (sender, body) = text.split_at(text.len().min(5));
+    let mut out = Vec::from_slice(alloc, sender)?;
     put_length_prefixed(&mut out, body)?;
-    put_length_prefixed(&mut out, &sig)?;
+    put_length_prefixed(&mut out, signature)?;
     Ok(out)
 }
 
@@ -318,18 +322,46 @@ fn client(alloc: Global) -> Result<Signer, AllocError> {
     signer(alloc, [100; 16], [6; 32])
 }
 
+/// Whether the first request is as it should be, and after 32 none is sealed.
+fn seals_32(
+    rt: &impl Abort,
+    alloc: Global,
+    config: &Arc<Config>,
+    signer: &mut Signer,
+    bytes: &[u8],
+) -> Result<bool, Fail> {
+    let first = sealed_request(rt, alloc, config, signer)??;
+    let is_right = is_sealed_as(&first, bytes) && is_opened(alloc, &first)?;
+    Ok(is_right && is_exhausted_after(rt, alloc, config, signer, 31)?)
+}
+
+/// Whether the signer seals so many more, and then none.
+fn is_exhausted_after(
+    rt: &impl Abort,
+    alloc: Global,
+    config: &Arc<Config>,
+    signer: &mut Signer,
+    more: u8,
+) -> Result<bool, Fail> {
+    for _ in 0..more {
+        let _next = sealed_request(rt, alloc, config, signer)??;
+    }
+    let none = sealed_request(rt, alloc, config, signer)?;
+    Ok(none.err() == Some(SignFault::Exhausted) && signer.next_leaf() == 32)
+}
+
+/// The first request's bytes, as a twin of the signer makes them.
+fn first_request(alloc: Global) -> Result<Vec<u8>, Fail> {
+    let mut twin = client(alloc)?;
+    message(alloc, &mut twin, 2, 100, &REQUEST)
+}
+
 #[test]
 fn a_signer_seals_until_it_is_exhausted(rt: HostRuntime) -> Result<(), Fail> {
     let alloc = rt.alloc();
-    let bytes = message(alloc, &mut client(alloc)?, 2, 100, &REQUEST)?;
+    let bytes = first_request(alloc)?;
     let mut signer = client(alloc)?;
     let config = config(alloc, &[PublicKey::Lms([0; 56]); 4], signer.public_key())?;
-    let first = sealed_request(&rt, alloc, &config, &mut signer)??;
-    assert!(rt; is_sealed_as(&first, &bytes) && is_opened(alloc, &first)?);
-    for _ in 1..32 {
-        let _next = sealed_request(&rt, alloc, &config, &mut signer)??;
-    }
-    let none = sealed_request(&rt, alloc, &config, &mut signer)?;
-    assert!(rt; none.err() == Some(SignFault::Exhausted) && signer.next_leaf() == 32);
+    assert!(rt; seals_32(&rt, alloc, &config, &mut signer, &bytes)?);
     Ok(())
 }

@@ -119,19 +119,32 @@ const LATER: &str = "\
 2 0 16 2 5 8 => accepted\n\
 ";
 
+/// The replicas' signers, the configuration and the session.
+fn parties(rt: &impl Abort, alloc: Global) -> Result<(Vec<Signer>, Arc<Config>, Session), Fail>
+    ensures { IfOk result (λ r. r.2.config ≡ r.1.value) }
+{
+    let replicas = signers(alloc)?;
+    let signer = signer(alloc, 16)?;
+    let config = config(alloc, &replicas, signer.public_key())?;
+    let session = session(rt, alloc, &config, signer)?;
+    Ok((replicas, config, session))
+}
+
+/// Whether the third request is made, and nothing is accepted for it yet.
+fn goes_on(alloc: Global, session: &mut Session) -> Result<bool, Fail> {
+    let request = ask(alloc, session)??;
+    Ok(is_request(&request, 3) && session.accepted().is_none())
+}
+
 #[test]
 fn what_2_replicas_reply_is_accepted(rt: HostRuntime) -> Result<(), Fail> {
     let alloc = rt.alloc();
-    let mut replicas = signers(alloc)?;
-    let signer = signer(alloc, 16)?;
-    let config = config(alloc, &replicas, signer.public_key())?;
-    let mut session = session(&rt, alloc, &config, signer)?;
+    let (mut replicas, config, mut session) = parties(&rt, alloc)?;
     assert!(rt; session.client() == ClientId(16));
     assert!(rt; answers(alloc, &config, &mut replicas, &mut session, &EARLY)?);
     assert!(rt; ask_up_to(alloc, &mut session, 2)?);
     assert!(rt; answers(alloc, &config, &mut replicas, &mut session, &LATER)?);
-    let request = ask(alloc, &mut session)??;
-    assert!(rt; is_request(&request, 3) && session.accepted().is_none());
+    assert!(rt; goes_on(alloc, &mut session)?);
     Ok(())
 }
 
@@ -143,17 +156,20 @@ const SECOND: &str = "\
 3 0 16 32 5 7 => accepted\n\
 ";
 
+/// Whether a request is refused since the signer is exhausted.
+fn is_exhausted(alloc: Global, session: &mut Session) -> Result<bool, Fail>
+    ensures { session.new.config ≡ session.old.config }
+{
+    Ok(ask(alloc, session)?.err() == Some(SessionFault::Exhausted))
+}
+
 #[test]
 fn a_refused_request_leaves_the_open_one(rt: HostRuntime) -> Result<(), Fail> {
     let alloc = rt.alloc();
-    let mut replicas = signers(alloc)?;
-    let signer = signer(alloc, 16)?;
-    let config = config(alloc, &replicas, signer.public_key())?;
-    let mut session = session(&rt, alloc, &config, signer)?;
+    let (mut replicas, config, mut session) = parties(&rt, alloc)?;
     assert!(rt; ask_up_to(alloc, &mut session, 32)?);
     assert!(rt; answers(alloc, &config, &mut replicas, &mut session, &FIRST)?);
-    let refused = ask(alloc, &mut session)?;
-    assert!(rt; refused.err() == Some(SessionFault::Exhausted));
+    assert!(rt; is_exhausted(alloc, &mut session)?);
     assert!(rt; answers(alloc, &config, &mut replicas, &mut session, &SECOND)?);
     Ok(())
 }

@@ -20,11 +20,12 @@ use Rattle.script_text.specs.declared.script.Script.{Script}
 use Rattle.script_text.specs.declared.script.Step.{Step}
 use Rattle.script_text.specs.declared.script.Step.TheVariants as steps
 use Rattle.world_script.specs.declared.forging.Forger.{Forger}
+use Rattle.world_script.specs.Expecting.{Scene, first_scene, unread_behind}
 use Rattle.world_script.specs.Keys.{configuration_of}
 use Rattle.world_script.specs.Passing.{DoesPart, DoesPartOfFirst, IsOnRun, Passes, correct_signers}
 use Rattle.world_script.specs.Scripts.{Plays}
 use Rattle.world_script.specs.Stages.{AllTimeOut, Deliveries, Delivers, HandsTo, Occurs, Prints, Receives, StageFacts, TimesOut, Turn, at_client, forged_body, forged_by, forged_for, is_running, quiet, requested_by, signing_forger, signing_session}
-use Rattle.world_script.specs.Letters.{without_first}
+use Rattle.world_script.specs.Letters.{meant_count, passed_over}
 use Rattle.world_script.specs.Starts.{is_faulty, start_of}
 use Rattle.world_script.proofs.Hearing.{passed_hears}
 use Rattle.world_script.proofs.LegalHeads.{head_configuration, head_listed, script_legal}
@@ -76,12 +77,13 @@ hands_leads : (node : Node) (s : StageFacts) (bytes text : List ℕ) (t : StageF
 hands_leads (Replica id) s bytes text t h = at_replica_leads s id bytes text t (is_running s.world id) h
 hands_leads (Client client) s bytes text t h = turned s t text (at_client s client (opening s.world.config bytes)) (client_world s client (opening s.world.config bytes)) h
 
-delivers_leads : (f : Filter) (s : StageFacts) (text : List ℕ) (t : StageFacts) → Delivers f s text t → Leads s.world t.world
-delivers_leads f s text t d = hands_leads d.letter.to (record s { queue = without_first f s.queue }) d.letter.bytes text t d.handed
+delivers_leads : (f : Filter) (passed : ℕ) (s : StageFacts) (text : List ℕ) (t : StageFacts) → Delivers f passed s text t → Leads s.world t.world
+delivers_leads f passed s text t d = hands_leads d.letter.to (record s { queue = d.before ++ d.after }) d.letter.bytes text t d.handed
 
-deliveries_lead : (f : Filter) (n : ℕ) (s : StageFacts) (text : List ℕ) (t : StageFacts) → Deliveries f n s text t → Leads s.world t.world
-deliveries_lead f zero s text t h = stays s.world t.world (ap (λ (x : StageFacts). x.world) h.1)
-deliveries_lead f (suc n) s text t (before, line, u, first, last, is) = on s.world u.world t.world (deliveries_lead f n s before u first) (delivers_leads f u line t last)
+deliveries_lead : (f : Filter) (order : Option ℕ) (n : ℕ) (s : StageFacts) (text : List ℕ) (t : StageFacts) → Deliveries f order n s text t → Leads s.world t.world
+deliveries_lead f order zero s text t h = stays s.world t.world (ap (λ (x : StageFacts). x.world) h.1)
+deliveries_lead f order (suc n) s text t (before, line, u, first, last, is) =
+    on s.world u.world t.world (deliveries_lead f order n s before u first) (delivers_leads f (passed_over order n (meant_count f u.queue)) u line t last)
 
 -- ---- steps
 
@@ -99,24 +101,22 @@ forged_for_world s f (Some body) = forged_world s f body (signing_forger s.forge
 
 prints_leads : (s : StageFacts) (step : Step) (text : List ℕ) (t : StageFacts) → Prints s step text t → Leads s.world t.world
 prints_leads s (steps.Request o) text t h = turned s t text (requested_by s o (signing_session s.sessions o.client)) (requested_world s o (signing_session s.sessions o.client)) h
-prints_leads s (steps.Deliver f) text t h = deliveries_lead f h.0 s text t h.2
+prints_leads s (steps.Deliver f order) text t h = deliveries_lead f order h.0 s text t h.2
 prints_leads s (steps.Drop f) text t h = turned s t text _ refl h
 prints_leads s (steps.Repeat f) text t h = turned s t text _ refl h
 prints_leads s (steps.Timeout at) text t h = all_time_leads s at t h.1
 prints_leads s (steps.Forge f) text t h = turned s t text (forged_for s f (forged_body s f.message)) (forged_for_world s f (forged_body s f.message)) h
 prints_leads s (steps.Mangle f damage) text t h = turned s t text _ refl h
 prints_leads s (steps.Raw to bytes) text t h = turned s t text _ refl h
-prints_leads s steps.Show text t h = stays s.world t.world (ap (λ (x : StageFacts). x.world) h.1)
-prints_leads s steps.Digest text t h = stays s.world t.world (ap (λ (x : StageFacts). x.world) h.1)
-prints_leads s (steps.State id) text t h = stays s.world t.world (ap (λ (x : StageFacts). x.world) h.1)
-prints_leads s (steps.Upgrade bytes) text t h = stays s.world t.world (ap (λ (x : StageFacts). x.world) h.1)
+prints_leads s other text t h = stays s.world t.world (ap (λ (x : StageFacts). x.world) h.1)
 
-plays_lead : (s : StageFacts) (xs : List Step) (text : List ℕ) (t : StageFacts) → Plays s xs text t → Leads s.world t.world
-plays_lead s [] text t h = stays s.world t.world (ap (λ (x : StageFacts). x.world) h.1)
-plays_lead s (x ∷ xs) text t (line, more, u, first, rest, is) = on s.world u.world t.world (prints_leads s x line u first) (plays_lead u xs more t rest)
+plays_lead : (s : Scene) (xs : List Step) (text : List ℕ) (t : Scene) → Plays s xs text t → Leads s.stage.world t.stage.world
+plays_lead s [] text t h = stays s.stage.world t.stage.world (ap (λ (x : Scene). x.stage.world) h.1)
+plays_lead s (x ∷ xs) text t (line, more, u, first, holds, rest, is) =
+    on s.stage.world u.world t.stage.world (prints_leads s.stage x line u first) (plays_lead (record { stage = u; unread = unread_behind s.unread x line }) xs more t rest)
 
 part_leads : (s : StageFacts) (step : Step) (t : StageFacts) → DoesPart s step t → Leads s.world t.world
-part_leads s (steps.Deliver f) t (n, text, h) = deliveries_lead f n s text t h
+part_leads s (steps.Deliver f order) t (n, text, h) = deliveries_lead f order n s text t h
 part_leads s (steps.Timeout at) t (first, later, splits, h) = all_time_leads s first t h
 part_leads s other t h = stays s.world t.world (ap (λ (x : StageFacts). x.world) h)
 
@@ -125,7 +125,8 @@ first_part_leads s [] t h = stays s.world t.world (ap (λ (x : StageFacts). x.wo
 first_part_leads s (x ∷ xs) t h = part_leads s x t h
 
 pub passed_leads : (script : Script) (t : StageFacts) → Passes script t → Leads (start_of script.head).world t.world
-passed_leads script t p = on (start_of script.head).world p.stage.world t.world (plays_lead (start_of script.head) p.before p.text p.stage p.plays) (first_part_leads p.stage p.later t p.part)
+passed_leads script t p =
+    on (start_of script.head).world p.scene.stage.world t.world (plays_lead (first_scene script.head) p.before p.text p.scene p.plays) (first_part_leads p.scene.stage p.later t p.part)
 
 pub on_run : (input : List ℕ) (script : Script) (t : StageFacts) → script_of input ≡ Ok script → Passes script t → IsOnRun script.head t
 on_run input script t is p =

@@ -36,8 +36,9 @@ use Rattle.script_text.specs.declared.script.Step.{Step}
 use Rattle.script_text.specs.declared.script.Step.TheVariants as steps
 use Rattle.script_text.specs.Heads.{HeadFacts}
 use Rattle.world_script.specs.declared.forging.Forger.{Forger}
+use Rattle.world_script.specs.Expecting.{Scene, first_scene, unread_behind}
 use Rattle.world_script.specs.Keys.{configuration_of}
-use Rattle.world_script.specs.Letters.{without_first}
+use Rattle.world_script.specs.Letters.{meant_count, passed_over}
 use Rattle.world_script.specs.Passing.{DoesPart, DoesPartOfFirst, HasHeard, Passes}
 use Rattle.world_script.specs.Scripts.{Plays}
 use Rattle.world_script.specs.Stages.{AllTimeOut, Deliveries, Delivers, HandsTo, Occurs, Prints, Receives, StageFacts, TimesOut, Turn, after_asking, at_client, at_first, forged_body, forged_by, forged_for, is_of, is_running, quiet, requested_by, signing_forger, signing_session}
@@ -190,13 +191,14 @@ hands_hears c (nodes.Client client) s bytes text t o h =
     turn_hears c t text (at_client s client (opening s.world.config bytes))
     (client_hears c s client (opening s.world.config bytes) (λ x is. subst (λ (k : Configuration). IsAuthentic k x.message) h.config (opened_authentic s.world.config bytes x is)) h) o
 
-delivers_hears : (c : Configuration) (f : Filter) (s : StageFacts) (text : List ℕ) (t : StageFacts) → Delivers f s text t → Hears c s → Hears c t
-delivers_hears c f s text t d h =
-    hands_hears c d.letter.to (record s { queue = without_first f s.queue }) d.letter.bytes text t d.handed (record { config = h.config; heard = h.heard })
+delivers_hears : (c : Configuration) (f : Filter) (passed : ℕ) (s : StageFacts) (text : List ℕ) (t : StageFacts) → Delivers f passed s text t → Hears c s → Hears c t
+delivers_hears c f passed s text t d h =
+    hands_hears c d.letter.to (record s { queue = d.before ++ d.after }) d.letter.bytes text t d.handed (record { config = h.config; heard = h.heard })
 
-deliveries_hear : (c : Configuration) (f : Filter) (n : ℕ) (s : StageFacts) (text : List ℕ) (t : StageFacts) → Deliveries f n s text t → Hears c s → Hears c t
-deliveries_hear c f zero s text t o h = subst (Hears c) (sym o.1) h
-deliveries_hear c f (suc n) s text t (before, line, u, first, last, is) h = delivers_hears c f u line t last (deliveries_hear c f n s before u first h)
+deliveries_hear : (c : Configuration) (f : Filter) (order : Option ℕ) (n : ℕ) (s : StageFacts) (text : List ℕ) (t : StageFacts) → Deliveries f order n s text t → Hears c s → Hears c t
+deliveries_hear c f order zero s text t o h = subst (Hears c) (sym o.1) h
+deliveries_hear c f order (suc n) s text t (before, line, u, first, last, is) h =
+    delivers_hears c f (passed_over order n (meant_count f u.queue)) u line t last (deliveries_hear c f order n s before u first h)
 
 requested_hears : (c : Configuration) (s : StageFacts) (o : Order) (session : Option SessionState) → Hears c s → Hears c (requested_by s o session).1
 requested_hears c s o None h = h
@@ -215,24 +217,22 @@ forged_for_hears c s f (Some body) h = forged_hears c s f body (signing_forger s
 
 prints_hears : (c : Configuration) (s : StageFacts) (step : Step) (text : List ℕ) (t : StageFacts) → Prints s step text t → Hears c s → Hears c t
 prints_hears c s (steps.Request o) text t p h = turn_hears c t text (requested_by s o (signing_session s.sessions o.client)) (requested_hears c s o (signing_session s.sessions o.client) h) p
-prints_hears c s (steps.Deliver f) text t p h = deliveries_hear c f p.0 s text t p.2 h
+prints_hears c s (steps.Deliver f order) text t p h = deliveries_hear c f order p.0 s text t p.2 h
 prints_hears c s (steps.Drop f) text t p h = turn_hears c t text _ (record { config = h.config; heard = h.heard }) p
 prints_hears c s (steps.Repeat f) text t p h = turn_hears c t text _ (record { config = h.config; heard = h.heard }) p
 prints_hears c s (steps.Timeout at) text t p h = all_time_hears c s at t p.1 h
 prints_hears c s (steps.Forge f) text t p h = turn_hears c t text (forged_for s f (forged_body s f.message)) (forged_for_hears c s f (forged_body s f.message) h) p
 prints_hears c s (steps.Mangle f damage) text t p h = turn_hears c t text _ (record { config = h.config; heard = h.heard }) p
 prints_hears c s (steps.Raw to bytes) text t p h = turn_hears c t text _ (record { config = h.config; heard = h.heard }) p
-prints_hears c s steps.Show text t p h = subst (Hears c) (sym p.1) h
-prints_hears c s steps.Digest text t p h = subst (Hears c) (sym p.1) h
-prints_hears c s (steps.State id) text t p h = subst (Hears c) (sym p.1) h
-prints_hears c s (steps.Upgrade bytes) text t p h = subst (Hears c) (sym p.1) h
+prints_hears c s other text t p h = subst (Hears c) (sym p.1) h
 
-plays_hear : (c : Configuration) (s : StageFacts) (xs : List Step) (text : List ℕ) (t : StageFacts) → Plays s xs text t → Hears c s → Hears c t
-plays_hear c s [] text t p h = subst (Hears c) (sym p.1) h
-plays_hear c s (x ∷ xs) text t (line, more, u, first, rest, is) h = plays_hear c u xs more t rest (prints_hears c s x line u first h)
+plays_hear : (c : Configuration) (s : Scene) (xs : List Step) (text : List ℕ) (t : Scene) → Plays s xs text t → Hears c s.stage → Hears c t.stage
+plays_hear c s [] text t p h = subst (λ (x : Scene). Hears c x.stage) (sym p.1) h
+plays_hear c s (x ∷ xs) text t (line, more, u, first, holds, rest, is) h =
+    plays_hear c (record { stage = u; unread = unread_behind s.unread x line }) xs more t rest (prints_hears c s.stage x line u first h)
 
 part_hears : (c : Configuration) (s : StageFacts) (step : Step) (t : StageFacts) → DoesPart s step t → Hears c s → Hears c t
-part_hears c s (steps.Deliver f) t (n, text, p) h = deliveries_hear c f n s text t p h
+part_hears c s (steps.Deliver f order) t (n, text, p) h = deliveries_hear c f order n s text t p h
 part_hears c s (steps.Timeout at) t (first, later, splits, p) h = all_time_hears c s first t p h
 part_hears c s other t same h = subst (Hears c) (sym same) h
 
@@ -248,4 +248,4 @@ pub passed_hears : (script : Script) (t : StageFacts) → Passes script t → Al
 passed_hears script t p =
     let c = configuration_of script.head in
     let started : Hears c (start_of script.head) = record { config = refl; heard = fresh_heard script.head script.head.clients } in
-    (first_part_hears c p.stage p.later t p.part (plays_hear c (start_of script.head) p.before p.text p.stage p.plays started)).heard
+    (first_part_hears c p.scene.stage p.later t p.part (plays_hear c (first_scene script.head) p.before p.text p.scene p.plays started)).heard

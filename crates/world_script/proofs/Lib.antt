@@ -1,5 +1,6 @@
 mod Deliveries
 mod Delivering
+mod Differing
 mod Entries
 mod Events
 mod Hearing

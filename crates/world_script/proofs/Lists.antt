@@ -1,13 +1,15 @@
 -- Lists: ranges, the first that is so, and what a change of it leaves.
-use Rattle.std.proofs.Common.{◌≡◌, ℕ, zero, suc, ◌+◌, ◌<◌, Bool, true, false, cond, List, [], ◌∷◌, ◌++◌, length, get_or, set, find, map, Some, None, refl, sym, ap, ◌∙◌, arith, if◌then◌else◌}
-use Rattle.std.specs.List.{position, range_with_len}
-use Rattle.std.specs.Prelude.{slice_get, option_and_then}
-use Rattle.std.proofs.lemmas.Option.{slice_get-get_or}
+use Rattle.std.proofs.Common.{◌≡◌, ℕ, zero, suc, ◌+◌, ◌<◌, Bool, true, false, cond, List, [], ◌∷◌, ◌++◌, length, get_or, set, take, drop, filter, find, map, Option, Some, None, refl, sym, ap, subst, ◌∙◌, arith, if◌then◌else◌}
+use Rattle.std.specs.List.{position, range_with_len, remove}
+use Rattle.std.specs.Prelude.{IsSomeAnd, OnSome, slice_get, option_and_then}
+use Rattle.std.proofs.Math.Numerals.{add-one}
+use Rattle.std.proofs.lemmas.Option.{slice_get-get_or, slice_get_within}
 use Rattle.service_model.proofs.Found.{find_by_position}
-use Rattle.std.proofs.lemmas.List.{map-append}
+use Rattle.std.proofs.lemmas.List.{drop_more, map-append, take-append-drop}
 use Rattle.std.proofs.lemmas.List.Quantifiers.{position-Some}
 use Rattle.script_text.specs.declared.script.Filter.{Filter}
-use Rattle.world_script.specs.Letters.{LetterFacts, first_meant, is_meant, without_first}
+use Rattle.world_script.specs.Letters.{LetterFacts, first_meant, is_meant, meant_count, without_first}
+use Rattle.world_script.specs.Parts.{IsPlace, IsTaken}
 use Rattle.world_script.specs.Stages.{at_first}
 
 pub range_push : (a n : ℕ) → range_with_len a (n + 1) ≡ range_with_len a n ++ (a + n) ∷ []
@@ -76,6 +78,81 @@ keeps_all f [] none = refl
 keeps_all f (l ∷ ls) none =
     let b = none_behind f l ls none in
     rest_then f ls l false b.0 ∙ ap (λ (xs : List LetterFacts). l ∷ xs) (keeps_all f ls b.1)
+
+-- The first letter that is meant, with those before it, of which none is, and those behind it.
+pub record IsFirstOf (f : Filter) (ls : List LetterFacts) (l : LetterFacts) : Type 0 where
+  pub before : List LetterFacts
+  pub after : List LetterFacts
+  pub splits : ls ≡ before ++ l ∷ after
+  pub meant : is_meant f l ≡ true
+  pub none_passed : filter (is_meant f) before ≡ []
+  pub rest : without_first f ls ≡ before ++ after
+
+some_same : {X : Type 0} {x y : X} → Some x ≡ Some y → x ≡ y
+some_same h = cc h
+
+none_some : {X : Type 0} {x : X} → None ≡ Some x → ⊥
+none_some h = cc h
+
+pub first_splits : (f : Filter) (ls : List LetterFacts) (l : LetterFacts) → first_meant f ls ≡ Some l → IsFirstOf f ls l
+first_splits f [] l found = absurd (none_some found)
+first_splits f (x ∷ xs) l found = by (is_meant f x) refl (first_splits f xs l) where
+  by : (b : Bool) → is_meant f x ≡ b → (first_meant f xs ≡ Some l → IsFirstOf f xs l) → IsFirstOf f (x ∷ xs) l
+  by true is later =
+      let start : IsFirstOf f (x ∷ xs) x = record { before = []; after = xs; splits = refl; meant = is; none_passed = refl; rest = rest_then f xs x true is } in
+      subst (IsFirstOf f (x ∷ xs)) (some_same (sym (none_then f xs x true is) ∙ found)) start
+  by false is later =
+      let r = later (sym (none_then f xs x false is) ∙ found) in
+      record {
+        before = x ∷ r.before;
+        after = r.after;
+        splits = ap (λ (ys : List LetterFacts). x ∷ ys) r.splits;
+        meant = r.meant;
+        none_passed = ap (λ (c : Bool). cond c (x ∷ filter (is_meant f) r.before) (filter (is_meant f) r.before)) is ∙ r.none_passed;
+        rest = rest_then f xs x false is ∙ ap (λ (ys : List LetterFacts). x ∷ ys) r.rest;
+      }
+
+-- ---- how many are meant
+
+pub none_meant : (f : Filter) (ls : List LetterFacts) → meant_count f ls ≡ 0 → first_meant f ls ≡ None
+none_meant f [] none = refl
+none_meant f (x ∷ xs) none = by (is_meant f x) refl (none_meant f xs) where
+  counted : (b : Bool) → is_meant f x ≡ b → meant_count f (x ∷ xs) ≡ length (cond b (x ∷ filter (is_meant f) xs) (filter (is_meant f) xs))
+  counted b is = ap (λ (c : Bool). length (cond c (x ∷ filter (is_meant f) xs) (filter (is_meant f) xs))) is
+
+  by : (b : Bool) → is_meant f x ≡ b → (meant_count f xs ≡ 0 → first_meant f xs ≡ None) → first_meant f (x ∷ xs) ≡ None
+  by true is later = let many = sym (counted true is) ∙ none in absurd (omega (arith, many))
+  by false is later = none_then f xs x false is ∙ later (sym (counted false is) ∙ none)
+
+pub some_meant : (f : Filter) (ls : List LetterFacts) → 0 < meant_count f ls → first_meant f ls ≡ None → ⊥
+some_meant f [] many none = absurd (omega (arith, many))
+some_meant f (x ∷ xs) many none = by (is_meant f x) refl (some_meant f xs) where
+  counted : (b : Bool) → is_meant f x ≡ b → meant_count f (x ∷ xs) ≡ length (cond b (x ∷ filter (is_meant f) xs) (filter (is_meant f) xs))
+  counted b is = ap (λ (c : Bool). length (cond c (x ∷ filter (is_meant f) xs) (filter (is_meant f) xs))) is
+
+  by : (b : Bool) → is_meant f x ≡ b → (0 < meant_count f xs → first_meant f xs ≡ None → ⊥) → ⊥
+  by true is later = some_none (sym (none_then f xs x true is) ∙ none)
+  by false is later = later (subst (λ (n : ℕ). 0 < n) (counted false is) many) (sym (none_then f xs x false is) ∙ none)
+
+-- the letter at a place is taken out
+pub taken_at : (f : Filter) (passed index : ℕ) (ls new : List LetterFacts) (found : Option LetterFacts) → IsPlace f passed ls index
+    → ((d : LetterFacts) → index < length ls → found ≡ Some (get_or ls index d)) → OnSome found (new ≡ remove ls index) → IsSomeAnd found (λ l. IsTaken f passed ls l new)
+taken_at f passed index ls new found p finds rest =
+    let below : index < length ls = slice_get_within ls index p.letter p.is_at in
+    let here : get_or ls index p.letter ≡ p.letter = some_same (sym (slice_get-get_or ls index p.letter below) ∙ p.is_at) in
+    let is : found ≡ Some p.letter = finds p.letter below ∙ ap Some here in
+    let tail : drop index ls ≡ p.letter ∷ drop (suc index) ls =
+    drop_more ls index p.letter below ∙ ap (λ (n : ℕ). get_or ls index p.letter ∷ drop n ls) (add-one index) ∙ ap (λ (l : LetterFacts). l ∷ drop (suc index) ls) here in
+    let gone : new ≡ remove ls index = subst (λ (o : Option LetterFacts). OnSome o (new ≡ remove ls index)) is rest in
+    let one : IsTaken f passed ls p.letter new = record {
+      before = take index ls;
+      after = drop (suc index) ls;
+      splits = sym (take-append-drop index ls) ∙ ap (λ (xs : List LetterFacts). take index ls ++ xs) tail;
+      is_meant_one = p.is_meant_one;
+      passed_is = p.passed_is;
+      rest = gone;
+    } in
+    subst (λ (o : Option LetterFacts). IsSomeAnd o (λ l. IsTaken f passed ls l new)) (sym is) one
 
 -- ---- the first that is changed
 

@@ -10,8 +10,10 @@ use Rattle.script_text.specs.declared.script.Script.{Script}
 use Rattle.script_text.specs.declared.script.Step.{Step}
 use Rattle.world_script.specs.Running.{Fails, PlaysInput, PlaysWhatIsRead, Reports, RunsSteps, StopsAt}
 use Rattle.world_script.specs.Scripts.{BreaksOff, Breaks, Writes, WritesBefore, WritesFault, WritesWhatIsRead, fault_line}
-use Rattle.world_script.specs.Stages.{Begins, StageFacts}
-use Rattle.world_script.specs.Starts.{start_of}
+use Rattle.world_script.specs.Expecting.{IsUnexpected, Scene, first_scene}
+use Rattle.world_script.specs.Stages.{Begins}
+use Rattle.world_script.specs.declared.played.Played.{Played}
+use Rattle.world_script.specs.declared.played.Played.TheVariants.{Whole, Unexpected}
 use Rattle.script_text.proofs.TextFaults.{IsOfText, is_of_text}
 use Rattle.world_script.specs.Writing.{AppendsFront}
 use Rattle.world_script.proofs.Written.{both, front_then, nothing}
@@ -43,12 +45,13 @@ refused (Some xs) bytes fault old same is = subst (λ (input : List ℕ). PlaysI
 
 -- ---- a script that runs
 
-breaks : (input : List ℕ) (script : Script) (number : ℕ) (Early : StageFacts → Step → List ℕ → Type 0) (text : List ℕ) → script_of input ≡ Ok script → BreaksOff (start_of script.head) script.steps number Early text → Breaks input number Early text
+breaks : (input : List ℕ) (script : Script) (number : ℕ) (Early : Scene → Step → List ℕ → Type 0) (text : List ℕ) → script_of input ≡ Ok script → BreaksOff (first_scene script.head) script.steps number Early text → Breaks input number Early text
 breaks input script number Early text is off = record { script = script; is = is; off = off }
 
-lacked : (input : List ℕ) (script : Script) (number : ℕ) (text : List ℕ) → script_of input ≡ Ok script → (text ≡ []) ⊎ BreaksOff (start_of script.head) script.steps number Begins text → (text ≡ []) ⊎ Breaks input number Begins text
+lacked : (input : List ℕ) (script : Script) (number : ℕ) (text : List ℕ) → script_of input ≡ Ok script → (text ≡ []) ⊎ BreaksOff (first_scene script.head) script.steps number (λ s. Begins s.stage) text
+    → (text ≡ []) ⊎ Breaks input number (λ s. Begins s.stage) text
 lacked input script number text is (inl none) = inl none
-lacked input script number text is (inr off) = inr (breaks input script number Begins text is off)
+lacked input script number text is (inr off) = inr (breaks input script number (λ s. Begins s.stage) text is off)
 
 stops : (k : ScriptKind) (input : List ℕ) (script : Script) (fault : ScriptFault) (old new : Option (List ℕ)) → script_of input ≡ Ok script → Fails k script fault.step old new → StopsAt k input fault old new
 stops kinds.TooManyDeliveries input script fault old new is f = (f.0, record { script = script; is = is; off = f.1 }, f.2)
@@ -62,11 +65,12 @@ stops kinds.BadConfig input script fault old new is f = absurd f
 stops kinds.TooLong input script fault old new is f = absurd f
 stops kinds.Read input script fault old new is f = absurd f
 
-runs_input : (input : List ℕ) (script : Script) (old new : Option (List ℕ)) (r : Result (Unit {0}) ScriptFault) → script_of input ≡ Ok script → RunsSteps script old new r → PlaysInput input old new r
-runs_input input script old new (Ok u) is runs = (runs.0, record { script = script; is = is; last = runs.1; plays = runs.2 }, runs.3)
+runs_input : (input : List ℕ) (script : Script) (old new : Option (List ℕ)) (r : Result Played ScriptFault) → script_of input ≡ Ok script → RunsSteps script old new r → PlaysInput input old new r
+runs_input input script old new (Ok Whole) is runs = (runs.0, record { script = script; is = is; last = runs.1; plays = runs.2 }, runs.3)
+runs_input input script old new (Ok Unexpected) is runs = (runs.0, (runs.1.0, breaks input script runs.1.0 (IsUnexpected runs.1.0) runs.0 is runs.1.1), runs.2)
 runs_input input script old new (Err fault) is runs = stops fault.kind input script fault old new is runs
 
-pub runs : (known : Option (List ℕ)) (bytes : List ℕ) (script : Script) (old new : Option (List ℕ)) (r : Result (Unit {0}) ScriptFault) → IfSome known (λ xs. bytes ≡ xs) → script_of bytes ≡ Ok script
+pub runs : (known : Option (List ℕ)) (bytes : List ℕ) (script : Script) (old new : Option (List ℕ)) (r : Result Played ScriptFault) → IfSome known (λ xs. bytes ≡ xs) → script_of bytes ≡ Ok script
     → RunsSteps script old new r → PlaysWhatIsRead known old new r
 runs None bytes script old new r same is steps = tt
 runs (Some xs) bytes script old new r same is steps = subst (λ (input : List ℕ). PlaysInput input old new r) same (runs_input bytes script old new r is steps)

@@ -1,16 +1,18 @@
 -- Statement: how a step ends, and what a writer holds then.
-use Rattle.std.specs.Prelude.{ℕ, List, Option, Result, Ok, Err}
+use Rattle.std.specs.Prelude.{ℕ, List, Option, Result, Ok, Err, String}
 use Rattle.std.specs.Io.KnownBytes.{Appends}
+use Rattle.std.specs.String.{string_bytes}
+use Rattle.std.specs.declared.alloc.Global.{Global}
 use Rattle.script_text.specs.declared.script.Step.{Step}
 use Rattle.world_script.specs.declared.fault.RunFault.{RunFault}
 use Rattle.world_script.specs.declared.fault.RunFault.TheVariants.{TooManyDeliveries, Write, Memory}
 use Rattle.world_script.specs.Stages.{Begins, Overruns, Prints, StageFacts}
 use Rattle.world_script.specs.Writing.{AppendsFront}
 
--- A step is done, or ends early: with whole lines of it where memory ran out, with the first bytes of such where a
+-- A step is done, and its text is given; or it ends early: with whole lines of it where memory ran out, with the first bytes of such where a
 -- write failed.
-abbrev pub Ends : StageFacts → Step → Option (List ℕ) → Option (List ℕ) → Result (Unit {0}) RunFault → StageFacts → Type 0
-Ends s step old new (Ok u) t = (text : List ℕ) × Prints s step text t × Appends old new text
+abbrev pub Ends : StageFacts → Step → Option (List ℕ) → Option (List ℕ) → Result (String Global) RunFault → StageFacts → Type 0
+Ends s step old new (Ok text) t = Prints s step (string_bytes text) t × Appends old new (string_bytes text)
 Ends s step old new (Err TooManyDeliveries) t = (text : List ℕ) × Overruns s step text × Appends old new text
 Ends s step old new (Err Memory) t = (text : List ℕ) × Begins s step text × Appends old new text
 Ends s step old new (Err Write) t = (text : List ℕ) × Begins s step text × AppendsFront old new text

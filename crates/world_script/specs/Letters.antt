@@ -1,5 +1,6 @@
 -- Statement: messages on their way, and which of them a step means.
-use Rattle.std.specs.Prelude.{ℕ, ◌-◌, ◌==◌, nat_le, nat_lt, Bool, true, false, ◌&&◌, List, [], ◌∷◌, length, map, find, take, slice_index, slice_set, bit_xor, Option, Some, None, if◌then◌else◌}
+use Rattle.std.proofs.Common.{zero, suc}
+use Rattle.std.specs.Prelude.{ℕ, ◌+◌, ◌*◌, ◌/◌, ◌%◌, ◌-◌, ◌==◌, nat_le, nat_lt, Bool, true, false, ◌&&◌, List, [], ◌∷◌, length, map, filter, find, take, slice_index, slice_set, bit_xor, Option, Some, None, if◌then◌else◌}
 use Rattle.std.specs.List.{list_any}
 use Rattle.pbft_codec.specs.declared.body.Body.{Body}
 use Rattle.pbft_codec.specs.declared.signed.Signed.{Signed}
@@ -79,3 +80,26 @@ first_meant f ls = find (is_meant f) ls
 abbrev pub without_first : Filter → List LetterFacts → List LetterFacts
 without_first f [] = []
 without_first f (l ∷ ls) = if is_meant f l then ls else l ∷ without_first f ls
+
+abbrev pub meant_count : Filter → List LetterFacts → ℕ
+meant_count f ls = length (filter (is_meant f) ls)
+
+-- ---- an order that is drawn
+
+-- the next state of the generator: times 6364136223846793005, plus 1442695040888963407, of 64 bits
+abbrev pub next_state : ℕ → ℕ
+next_state state = (state * 6364136223846793005 + 1442695040888963407) % 18446744073709551616
+
+-- its state behind so many deliveries
+abbrev pub state_behind : ℕ → ℕ → ℕ
+state_behind seed zero = seed
+state_behind seed (suc n) = next_state (state_behind seed n)
+
+-- which of so many letters is drawn: the state without its last 33 bits, as the rest of a division
+abbrev pub drawn : ℕ → ℕ → ℕ
+drawn state count = (state / 8589934592) % count
+
+-- how many letters that are meant are passed over behind so many deliveries: none where no order is drawn
+abbrev pub passed_over : Option ℕ → ℕ → ℕ → ℕ
+passed_over None n count = 0
+passed_over (Some seed) n count = drawn (state_behind seed (suc n)) count

@@ -1,4 +1,5 @@
 pub mod Endings
+pub mod Expecting
 pub mod Faults
 pub mod Keys
 pub mod Letters

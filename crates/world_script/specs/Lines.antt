@@ -1,5 +1,9 @@
 -- Statement: the lines that a script prints.
-use Rattle.std.specs.Prelude.{ℕ, Bool, true, false, List, ◌++◌, codes, decimal, Option, Some, None}
+use Rattle.std.specs.Prelude.{◌≡◌, ◌≢◌, ℕ, Bool, true, false, List, ◌++◌, codes, decimal, length, Option, Some, None, Result, Ok, Err}
+use Rattle.byz_world.specs.Faults.{audit_name_of, audit_number_of}
+use Rattle.byz_world.specs.declared.audit_fault.AuditFault.{AuditFault}
+use Rattle.byz_world.specs.declared.audit_fault.AuditFault.TheVariants as audits
+use Rattle.byz_world.specs.declared.history.Execution.{Execution}
 use Rattle.host_types.specs.declared.ReplicaId.{ReplicaId}
 use Rattle.host_types.specs.declared.request.Reply.{Reply}
 use Rattle.hex.specs.Hex.{encode_lower}
@@ -7,6 +11,11 @@ use Rattle.service_model.specs.TenantStates.{Service}
 use Rattle.replica_core.specs.Halts as halts
 use Rattle.replica_core.specs.declared.halt.Halt.{Halt}
 use Rattle.replica_core.specs.declared.replica.Status.{Status}
+use Rattle.script_text.specs.Kinds.{kind_text}
+use Rattle.script_text.specs.declared.kind.Kind.{Kind}
+use Rattle.script_text.specs.declared.script.Node.{Node}
+use Rattle.script_text.specs.declared.script.Node.TheVariants.{Replica, Client}
+use Rattle.world_script.specs.Letters.{LetterFacts}
 use Rattle.seal.specs.Faults as faults
 use Rattle.seal.specs.declared.fault.SealFault.{SealFault}
 use Rattle.service_model.specs.Encoding.{encoded}
@@ -58,6 +67,41 @@ upgraded_line s = codes "upgraded " ++ (encode_lower (encoded s) ++ codes "\n")
 
 abbrev pub no_state_line : List ℕ
 no_state_line = codes "refused BadState\n"
+
+-- ---- messages on their way
+
+-- a node's id; a dash where there is none
+abbrev pub node_text : Option Node → List ℕ
+node_text None = codes "-"
+node_text (Some (Replica id)) = decimal id.0
+node_text (Some (Client id)) = decimal id.0
+
+abbrev pub kind_or_dash : Option Kind → List ℕ
+kind_or_dash None = codes "-"
+kind_or_dash (Some kind) = kind_text kind
+
+-- a letter: its sender, its addressee, its kind and its bytes
+abbrev pub letter_line : LetterFacts → List ℕ
+letter_line l =
+    codes "queue " ++ (node_text l.from ++ (codes " " ++ (node_text (Some l.to) ++ (codes " " ++ (kind_or_dash l.kind
+    ++ (codes " " ++ (encode_lower l.bytes ++ codes "\n")))))))
+
+-- what an audit finds: the greatest number that was executed, or a fault
+abbrev pub agreed_line : List Execution → List ℕ
+agreed_line history = codes "audit agreed " ++ (decimal (length history) ++ codes "\n")
+
+abbrev pub audit_fault_line : AuditFault → List ℕ
+audit_fault_line fault =
+    codes "audit fault " ++ (decimal (audit_number_of fault) ++ (codes " " ++ (audit_name_of fault ++ codes "\n")))
+
+-- what is printed of an audit's answer; nothing where memory ran out
+abbrev pub IsAuditLine : Result (List Execution) AuditFault → List ℕ → Type 0
+IsAuditLine (Ok history) text = text ≡ agreed_line history
+IsAuditLine (Err fault) text = (fault ≢ audits.Memory) × (text ≡ audit_fault_line fault)
+
+-- where an `expect` finds other lines: its step, and which of its lines is the first that differs
+abbrev pub unexpected_line : ℕ → ℕ → List ℕ
+unexpected_line step line = codes "expect fault step " ++ (decimal step ++ (codes " line " ++ (decimal line ++ codes "\n")))
 
 abbrev pub nothing_queued_line : List ℕ
 nothing_queued_line = codes "nothing queued\n"

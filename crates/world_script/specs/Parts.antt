@@ -1,5 +1,5 @@
 -- Internal: what the parts of a stage do.
-use Rattle.std.specs.Prelude.{◌≡◌, ◌≢◌, ℕ, List, [], Option, Some, None, Result, Ok, Err, find, is_some, ◌++◌, ◌∷◌, Bool, true, false}
+use Rattle.std.specs.Prelude.{◌≡◌, ◌≢◌, ℕ, List, [], Option, Some, None, Result, Ok, Err, find, is_some, slice_get, take, ◌++◌, ◌∷◌, Bool, true, false}
 use Rattle.host_types.specs.Configuration.{Configuration}
 use Rattle.host_types.specs.declared.ClientId.{ClientId}
 use Rattle.host_types.specs.declared.config.ClientEntry.{ClientEntry}
@@ -19,7 +19,7 @@ use Rattle.script_text.specs.declared.script.Step.{Step}
 use Rattle.script_text.specs.declared.script.Step.TheVariants as steps
 use Rattle.script_text.specs.declared.script.Node.TheVariants.{Client}
 use Rattle.sha2.specs.Sha256.{sha256}
-use Rattle.world_script.specs.Letters.{LetterFacts, copies, first_meant, letter_of}
+use Rattle.world_script.specs.Letters.{LetterFacts, copies, first_meant, is_meant, letter_of, meant_count}
 use Rattle.world_script.specs.declared.forging.Forger.{Forger}
 use Rattle.replica_core.specs.Facts.{RowFacts}
 use Rattle.byz_world.specs.Worlds.{Gives, WorldFacts, member_of}
@@ -77,16 +77,32 @@ ahead os s = record s { queue = os ++ s.queue }
 -- The first letter that is meant is delivered, and those that were passed over are set aside; or none is meant.
 abbrev pub DeliversNext : Filter → StageFacts → Option (List ℕ) → List LetterFacts → StageFacts → Type 0
 DeliversNext f s None aside t = (first_meant f s.queue ≡ None) × (t ≡ s)
-DeliversNext f s (Some text) aside t = Delivers f s text (ahead aside t) × (first_meant f aside ≡ None)
+DeliversNext f s (Some text) aside t = Delivers f 0 s text (ahead aside t) × (first_meant f aside ≡ None)
 
 -- One more is meant; or none is, and nothing changes.
 abbrev pub HasMore : Filter → StageFacts → StageFacts → Bool → Type 0
 HasMore f s t true = first_meant f s.queue ≢ None
 HasMore f s t false = (first_meant f s.queue ≡ None) × (t ≡ s)
 
+-- The letter at an index is meant, and so many before it are.
+pub record IsPlace (f : Filter) (passed : ℕ) (ls : List LetterFacts) (index : ℕ) : Type 0 where
+  pub letter : LetterFacts
+  pub is_at : slice_get ls index ≡ Some letter
+  pub is_meant_one : is_meant f letter ≡ true
+  pub passed_is : meant_count f (take index ls) ≡ passed
+
+-- A letter is taken out that is meant, and so many before it are.
+pub record IsTaken (f : Filter) (passed : ℕ) (old : List LetterFacts) (letter : LetterFacts) (new : List LetterFacts) : Type 0 where
+  pub before : List LetterFacts
+  pub after : List LetterFacts
+  pub splits : old ≡ before ++ letter ∷ after
+  pub is_meant_one : is_meant f letter ≡ true
+  pub passed_is : meant_count f before ≡ passed
+  pub rest : new ≡ before ++ after
+
 -- A step that delivers nothing.
 abbrev pub Performs : StageFacts → Step → List ℕ → StageFacts → Type 0
-Performs s (steps.Deliver f) text t = text ≡ []
+Performs s (steps.Deliver f order) text t = text ≡ []
 Performs s other text t = Prints s other text t
 
 -- a client's session before its first request, which signs by this signer

@@ -16,14 +16,15 @@ use Rattle.script_text.specs.Heads.{HeadFacts}
 use Rattle.script_text.specs.declared.script.Script.{Script}
 use Rattle.script_text.specs.declared.script.Step.{Step}
 use Rattle.script_text.specs.declared.script.Step.TheVariants as steps
+use Rattle.world_script.specs.Expecting.{Scene, first_scene}
 use Rattle.world_script.specs.Keys.{configuration_of, correct_from, replica_signers}
 use Rattle.world_script.specs.Scripts.{Plays}
 use Rattle.world_script.specs.Stages.{AllTimeOut, Deliveries, StageFacts}
-use Rattle.world_script.specs.Starts.{is_faulty, start_of}
+use Rattle.world_script.specs.Starts.{is_faulty}
 
 -- A part of a step: some of its deliveries, or of its timeouts.
 abbrev pub DoesPart : StageFacts → Step → StageFacts → Type 0
-DoesPart s (steps.Deliver f) t = (n : ℕ) × (text : List ℕ) × Deliveries f n s text t
+DoesPart s (steps.Deliver f order) t = (n : ℕ) × (text : List ℕ) × Deliveries f order n s text t
 DoesPart s (steps.Timeout at) t = (first later : List ReplicaId) × (at ≡ first ++ later) × AllTimeOut s first t
 DoesPart s other t = t ≡ s
 
@@ -37,9 +38,9 @@ pub record Passes (script : Script) (t : StageFacts) : Type 0 where
   pub later : List Step
   pub splits : script.steps ≡ before ++ later
   pub text : List ℕ
-  pub stage : StageFacts
-  pub plays : Plays (start_of script.head) before text stage
-  pub part : DoesPartOfFirst stage later t
+  pub scene : Scene
+  pub plays : Plays (first_scene script.head) before text scene
+  pub part : DoesPartOfFirst scene.stage later t
 
 -- the signers that the correct replicas of a script begin with
 abbrev pub correct_signers : HeadFacts → List SigningState

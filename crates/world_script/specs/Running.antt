@@ -1,14 +1,20 @@
 -- Internal: a run of a script before the line of its fault is written.
-use Rattle.std.specs.Prelude.{◌≡◌, ◌≢◌, ℕ, ◌<◌, List, [], length, Option, Result, Ok, Err, IfSome, Vec, ◌⊎◌}
+use Rattle.std.specs.Prelude.{◌≡◌, ◌≢◌, ℕ, ◌<◌, List, [], length, Option, Some, None, Result, Ok, Err, IfSome, Vec, ◌⊎◌}
 use Rattle.std.specs.Io.KnownBytes.{Appends}
 use Rattle.std.specs.declared.alloc.Global.{Global}
 use Rattle.script_text.specs.declared.fault.ScriptFault.{ScriptFault}
 use Rattle.script_text.specs.declared.fault.ScriptKind.{ScriptKind}
 use Rattle.script_text.specs.declared.fault.ScriptKind.TheVariants as kinds
 use Rattle.script_text.specs.declared.script.Script.{Script}
-use Rattle.world_script.specs.Scripts.{BreaksOff, IsRun, fault_line, Plays, WritesBefore}
-use Rattle.world_script.specs.Stages.{Begins, Overruns, StageFacts}
-use Rattle.world_script.specs.Starts.{start_of}
+use Rattle.script_text.specs.declared.script.Step.{Step}
+use Rattle.world_script.specs.Expecting.{Holds, IsUnexpected, MayPrint, Scene, differing_line, first_scene, unread_behind}
+use Rattle.world_script.specs.Lines.{unexpected_line}
+use Rattle.world_script.specs.Scripts.{BreaksOff, IsPlayed, fault_line, Plays, WritesBefore}
+use Rattle.world_script.specs.Stages.{Begins, Overruns, Prints, StageFacts}
+use Rattle.world_script.specs.declared.fault.RunFault.{RunFault}
+use Rattle.world_script.specs.declared.fault.RunFault.TheVariants.{TooManyDeliveries, Write, Memory}
+use Rattle.world_script.specs.declared.played.Played.{Played}
+use Rattle.world_script.specs.declared.played.Played.TheVariants.{Whole, Unexpected}
 use Rattle.world_script.specs.Writing.{AppendsFront}
 
 -- ---- what is read
@@ -31,9 +37,11 @@ ReadsAll known (Err kinds.Write) = ⊥
 
 -- How the steps of a script end that don't all run; a failed write leaves the first bytes of their lines.
 abbrev pub Fails : ScriptKind → Script → ℕ → Option (List ℕ) → Option (List ℕ) → Type 0
-Fails kinds.TooManyDeliveries script number old new = (text : List ℕ) × BreaksOff (start_of script.head) script.steps number Overruns text × Appends old new text
-Fails kinds.Memory script number old new = (text : List ℕ) × ((text ≡ []) ⊎ BreaksOff (start_of script.head) script.steps number Begins text) × Appends old new text
-Fails kinds.Write script number old new = (text : List ℕ) × BreaksOff (start_of script.head) script.steps number Begins text × AppendsFront old new text
+Fails kinds.TooManyDeliveries script number old new =
+    (text : List ℕ) × BreaksOff (first_scene script.head) script.steps number (λ s. Overruns s.stage) text × Appends old new text
+Fails kinds.Memory script number old new =
+    (text : List ℕ) × ((text ≡ []) ⊎ BreaksOff (first_scene script.head) script.steps number (λ s. Begins s.stage) text) × Appends old new text
+Fails kinds.Write script number old new = (text : List ℕ) × BreaksOff (first_scene script.head) script.steps number (MayPrint number) text × AppendsFront old new text
 Fails kinds.Read script number old new = ⊥
 Fails kinds.TooLong script number old new = ⊥
 Fails kinds.NotToml script number old new = ⊥
@@ -42,8 +50,30 @@ Fails kinds.WrongValue script number old new = ⊥
 Fails kinds.UnknownKey script number old new = ⊥
 Fails kinds.BadConfig script number old new = ⊥
 
-abbrev pub RunsSteps : Script → Option (List ℕ) → Option (List ℕ) → Result (Unit {0}) ScriptFault → Type 0
-RunsSteps script old new (Ok u) = (text : List ℕ) × (t : StageFacts) × Plays (start_of script.head) script.steps text t × Appends old new text
+-- A step that is done, of this number, or that ends the run.
+abbrev pub StepEnds : ℕ → Scene → Step → Option (List ℕ) → Option (List ℕ) → Result Played RunFault → Scene → Type 0
+StepEnds number s step old new (Ok Whole) t =
+    (text : List ℕ) × (u : StageFacts) × Prints s.stage step text u × Holds s.unread step × (t ≡ record { stage = u; unread = unread_behind s.unread step text })
+    × Appends old new text
+StepEnds number s step old new (Ok Unexpected) t = (text : List ℕ) × IsUnexpected number s step text × Appends old new text
+StepEnds number s step old new (Err TooManyDeliveries) t = (text : List ℕ) × Overruns s.stage step text × Appends old new text
+StepEnds number s step old new (Err Memory) t = (text : List ℕ) × Begins s.stage step text × Appends old new text
+StepEnds number s step old new (Err Write) t = (text : List ℕ) × MayPrint number s step text × AppendsFront old new text
+
+-- These lines and what was printed since the last `expect` are compared; or that ends the run.
+abbrev pub Compares : ℕ → List ℕ → List ℕ → Option (List ℕ) → Option (List ℕ) → Result Played RunFault → List ℕ → Type 0
+Compares number expected unread old new (Ok Whole) later = (differing_line expected unread ≡ None) × (later ≡ []) × (new ≡ old)
+Compares number expected unread old new (Ok Unexpected) later =
+    (line : ℕ) × (differing_line expected unread ≡ Some line) × Appends old new (unexpected_line number line)
+Compares number expected unread old new (Err TooManyDeliveries) later = ⊥
+Compares number expected unread old new (Err Memory) later = new ≡ old
+Compares number expected unread old new (Err Write) later =
+    (line : ℕ) × (differing_line expected unread ≡ Some line) × AppendsFront old new (unexpected_line number line)
+
+abbrev pub RunsSteps : Script → Option (List ℕ) → Option (List ℕ) → Result Played ScriptFault → Type 0
+RunsSteps script old new (Ok Whole) = (text : List ℕ) × (t : Scene) × Plays (first_scene script.head) script.steps text t × Appends old new text
+RunsSteps script old new (Ok Unexpected) =
+    (text : List ℕ) × ((number : ℕ) × BreaksOff (first_scene script.head) script.steps number (IsUnexpected number) text) × Appends old new text
 RunsSteps script old new (Err fault) = Fails fault.kind script fault.step old new
 
 -- ---- the whole
@@ -60,11 +90,11 @@ StopsAt kinds.TooManyDeliveries input fault old new = (text : List ℕ) × Write
 StopsAt kinds.Read input fault old new = (text : List ℕ) × WritesBefore kinds.Read input fault text × Appends old new text
 StopsAt kinds.Memory input fault old new = (text : List ℕ) × WritesBefore kinds.Memory input fault text × Appends old new text
 
-abbrev pub PlaysInput : List ℕ → Option (List ℕ) → Option (List ℕ) → Result (Unit {0}) ScriptFault → Type 0
-PlaysInput input old new (Ok u) = (text : List ℕ) × IsRun input text × Appends old new text
+abbrev pub PlaysInput : List ℕ → Option (List ℕ) → Option (List ℕ) → Result Played ScriptFault → Type 0
+PlaysInput input old new (Ok played) = (text : List ℕ) × IsPlayed played input text × Appends old new text
 PlaysInput input old new (Err fault) = StopsAt fault.kind input fault old new
 
-abbrev pub PlaysWhatIsRead : Option (List ℕ) → Option (List ℕ) → Option (List ℕ) → Result (Unit {0}) ScriptFault → Type 0
+abbrev pub PlaysWhatIsRead : Option (List ℕ) → Option (List ℕ) → Option (List ℕ) → Result Played ScriptFault → Type 0
 PlaysWhatIsRead input old new result = IfSome input (λ bytes. PlaysInput bytes old new result)
 
 -- The fault is reported, with its line; or the write of this line fails, and that is the fault. A failed write has no line.

@@ -8,21 +8,25 @@ use Rattle.script_text.specs.declared.fault.ScriptKind.{ScriptKind}
 use Rattle.script_text.specs.declared.fault.ScriptKind.TheVariants as kinds
 use Rattle.script_text.specs.declared.script.Script.{Script}
 use Rattle.script_text.specs.declared.script.Step.{Step}
+use Rattle.world_script.specs.Expecting.{Holds, IsUnexpected, MayPrint, Scene, first_scene, unread_behind}
 use Rattle.world_script.specs.Stages.{Begins, Overruns, Prints, StageFacts}
-use Rattle.world_script.specs.Starts.{start_of}
+use Rattle.world_script.specs.declared.played.Played.{Played}
+use Rattle.world_script.specs.declared.played.Played.TheVariants.{Whole, Unexpected}
 use Rattle.world_script.specs.Writing.{AppendsFront}
 
--- Steps one after another: what they print, and what is held then.
-abbrev pub Plays : StageFacts → List Step → List ℕ → StageFacts → Type 0
+-- Steps one after another: what they print, and what is held then. Each `expect` finds its lines.
+abbrev pub Plays : Scene → List Step → List ℕ → Scene → Type 0
 Plays s [] text t = (text ≡ []) × (t ≡ s)
-Plays s (step ∷ steps) text t = (line more : List ℕ) × (u : StageFacts) × Prints s step line u × Plays u steps more t × (text ≡ line ++ more)
+Plays s (step ∷ steps) text t =
+    (line more : List ℕ) × (u : StageFacts) × Prints s.stage step line u × Holds s.unread step
+    × Plays (record { stage = u; unread = unread_behind s.unread step line }) steps more t × (text ≡ line ++ more)
 
 -- the number of the step behind so many
 abbrev pub step_number : ℕ → ℕ
 step_number n = min (n + 1) 4_294_967_295
 
 -- A step breaks off, after those before it were done.
-pub record BreaksOff (start : StageFacts) (steps : List Step) (number : ℕ) (Early : StageFacts → Step → List ℕ → Type 0) (text : List ℕ) : Type 0 where
+pub record BreaksOff (start : Scene) (steps : List Step) (number : ℕ) (Early : Scene → Step → List ℕ → Type 0) (text : List ℕ) : Type 0 where
   pub before : List Step
   pub step : Step
   pub after : List Step
@@ -30,16 +34,16 @@ pub record BreaksOff (start : StageFacts) (steps : List Step) (number : ℕ) (Ea
   pub number_is : number ≡ step_number (length before)
   pub front : List ℕ
   pub last : List ℕ
-  pub stage : StageFacts
-  pub plays : Plays start before front stage
-  pub early : Early stage step last
+  pub scene : Scene
+  pub plays : Plays start before front scene
+  pub early : Early scene step last
   pub text_is : text ≡ front ++ last
 
 -- The text is a script, of which a step breaks off.
-pub record Breaks (input : List ℕ) (number : ℕ) (Early : StageFacts → Step → List ℕ → Type 0) (text : List ℕ) : Type 0 where
+pub record Breaks (input : List ℕ) (number : ℕ) (Early : Scene → Step → List ℕ → Type 0) (text : List ℕ) : Type 0 where
   pub script : Script
   pub is : script_of input ≡ Ok script
-  pub off : BreaksOff (start_of script.head) script.steps number Early text
+  pub off : BreaksOff (first_scene script.head) script.steps number Early text
 
 abbrev pub IsRefused : List ℕ → ScriptFault → List ℕ → Type 0
 IsRefused input fault text = (script_of input ≡ Err fault) × (text ≡ [])
@@ -52,17 +56,22 @@ WritesBefore kinds.WrongValue input fault text = IsRefused input fault text
 WritesBefore kinds.UnknownKey input fault text = IsRefused input fault text
 WritesBefore kinds.BadConfig input fault text = IsRefused input fault text
 WritesBefore kinds.TooLong input fault text = IsRefused input fault text
-WritesBefore kinds.TooManyDeliveries input fault text = Breaks input fault.step Overruns text
+WritesBefore kinds.TooManyDeliveries input fault text = Breaks input fault.step (λ s. Overruns s.stage) text
 WritesBefore kinds.Read input fault text = (fault.step ≡ 0) × (text ≡ [])
-WritesBefore kinds.Write input fault text = Breaks input fault.step Begins text
-WritesBefore kinds.Memory input fault text = (text ≡ []) ⊎ Breaks input fault.step Begins text
+WritesBefore kinds.Write input fault text = Breaks input fault.step (MayPrint fault.step) text
+WritesBefore kinds.Memory input fault text = (text ≡ []) ⊎ Breaks input fault.step (λ s. Begins s.stage) text
 
 -- the whole run of a script
 pub record IsRun (input text : List ℕ) : Type 0 where
   pub script : Script
   pub is : script_of input ≡ Ok script
-  pub last : StageFacts
-  pub plays : Plays (start_of script.head) script.steps text last
+  pub last : Scene
+  pub plays : Plays (first_scene script.head) script.steps text last
+
+-- A run without a fault: the whole one, or one that ends at an `expect` that finds other lines.
+abbrev pub IsPlayed : Played → List ℕ → List ℕ → Type 0
+IsPlayed Whole input text = IsRun input text
+IsPlayed Unexpected input text = (number : ℕ) × Breaks input number (IsUnexpected number) text
 
 abbrev pub fault_line : ScriptFault → List ℕ
 fault_line fault = text_of fault ++ codes "\n"
@@ -93,12 +102,12 @@ WritesFault kinds.TooManyDeliveries input fault old new = (text : List ℕ) × W
 WritesFault kinds.Read input fault old new = (text : List ℕ) × WritesBefore kinds.Read input fault text × Appends old new (text ++ fault_line fault)
 WritesFault kinds.Memory input fault old new = (text : List ℕ) × WritesBefore kinds.Memory input fault text × Appends old new (text ++ fault_line fault)
 
--- What a run of this input wrote: what its script prints; what a part of it prints and then the line of its fault; or the
--- first bytes of such a text, where a write failed.
-abbrev pub Writes : List ℕ → Option (List ℕ) → Option (List ℕ) → Result (Unit {0}) ScriptFault → Type 0
-Writes input old new (Ok u) = (text : List ℕ) × IsRun input text × Appends old new text
+-- What a run of this input wrote: what its script prints; what a part of it prints and then the line of an `expect` or of its
+-- fault; or the first bytes of such a text, where a write failed.
+abbrev pub Writes : List ℕ → Option (List ℕ) → Option (List ℕ) → Result Played ScriptFault → Type 0
+Writes input old new (Ok played) = (text : List ℕ) × IsPlayed played input text × Appends old new text
 Writes input old new (Err fault) = WritesFault fault.kind input fault old new
 
 -- The same, where the bytes of the reader are known.
-abbrev pub WritesWhatIsRead : Option (List ℕ) → Option (List ℕ) → Option (List ℕ) → Result (Unit {0}) ScriptFault → Type 0
+abbrev pub WritesWhatIsRead : Option (List ℕ) → Option (List ℕ) → Option (List ℕ) → Result Played ScriptFault → Type 0
 WritesWhatIsRead input old new result = IfSome input (λ bytes. Writes bytes old new result)

@@ -30,6 +30,9 @@ use Rattle.replica_core.specs.declared.halt.Halt.TheVariants as halts
 use Rattle.replica_core.specs.declared.row.Dest.{Dest}
 use Rattle.replica_core.specs.declared.row.Dest.TheVariants as dests
 use Rattle.replica_core.specs.declared.row.Output.{Output}
+use Rattle.byz_world.specs.Audits.{IsAudit}
+use Rattle.byz_world.specs.declared.audit_fault.AuditFault.{AuditFault}
+use Rattle.byz_world.specs.declared.history.Execution.{Execution}
 use Rattle.byz_world.specs.Worlds.{Gives, MemberFacts, Where, WorldFacts, member_of}
 use Rattle.byz_world.specs.declared.event.Event.{Event}
 use Rattle.byz_world.specs.declared.event.Event.TheVariants as events
@@ -47,8 +50,8 @@ use Rattle.script_text.specs.declared.script.Step.{Step}
 use Rattle.script_text.specs.declared.script.Step.TheVariants as steps
 use Rattle.world_script.specs.declared.forging.Forger.{Forger}
 use Rattle.world_script.specs.declared.made.Made.{Made}
-use Rattle.world_script.specs.Letters.{LetterFacts, copies, first_meant, is_meant, letter_of, mangled, same_node, without_first}
-use Rattle.world_script.specs.Lines.{digest_line, no_state_line, nothing_queued_line, refusal_line, reply_line, state_line, status_line, upgraded_line}
+use Rattle.world_script.specs.Letters.{LetterFacts, copies, first_meant, is_meant, letter_of, mangled, meant_count, passed_over, same_node}
+use Rattle.world_script.specs.Lines.{IsAuditLine, digest_line, letter_line, no_state_line, nothing_queued_line, refusal_line, reply_line, state_line, status_line, upgraded_line}
 
 -- What a running script holds.
 pub record StageFacts : Type 0 where
@@ -282,16 +285,22 @@ abbrev pub HandsTo : Node → StageFacts → List ℕ → List ℕ → StageFact
 HandsTo (Replica id) s bytes text t = AtReplica s id bytes text t
 HandsTo (Client client) s bytes text t = (text, t) ≡ at_client s client (opening s.world.config bytes)
 
--- The first letter that is meant is handed to its addressee.
-pub record Delivers (f : Filter) (s : StageFacts) (text : List ℕ) (t : StageFacts) : Type 0 where
+-- A letter that is meant, behind so many others that are, is taken from the queue and handed to its addressee.
+pub record Delivers (f : Filter) (passed : ℕ) (s : StageFacts) (text : List ℕ) (t : StageFacts) : Type 0 where
+  pub before : List LetterFacts
   pub letter : LetterFacts
-  pub is_first : first_meant f s.queue ≡ Some letter
-  pub handed : HandsTo letter.to (record s { queue = without_first f s.queue }) letter.bytes text t
+  pub after : List LetterFacts
+  pub splits : s.queue ≡ before ++ letter ∷ after
+  pub is_meant_one : is_meant f letter ≡ true
+  pub passed_is : meant_count f before ≡ passed
+  pub handed : HandsTo letter.to (record s { queue = before ++ after }) letter.bytes text t
 
--- so many deliveries
-abbrev pub Deliveries : Filter → ℕ → StageFacts → List ℕ → StageFacts → Type 0
-Deliveries f zero s text t = (text ≡ []) × (t ≡ s)
-Deliveries f (suc n) s text t = (before line : List ℕ) × (u : StageFacts) × Deliveries f n s before u × Delivers f u line t × (text ≡ before ++ line)
+-- so many deliveries, in a drawn order or the oldest letter first
+abbrev pub Deliveries : Filter → Option ℕ → ℕ → StageFacts → List ℕ → StageFacts → Type 0
+Deliveries f order zero s text t = (text ≡ []) × (t ≡ s)
+Deliveries f order (suc n) s text t =
+    (before line : List ℕ) × (u : StageFacts) × Deliveries f order n s before u × Delivers f (passed_over order n (meant_count f u.queue)) u line t
+    × (text ≡ before ++ line)
 
 abbrev pub max_deliveries : ℕ
 max_deliveries = 1_000_000
@@ -332,6 +341,16 @@ Upgrades c bytes text =
     ((state : Service) × Decodes c bytes state × (text ≡ upgraded_line state))
     ⊎ (((state : Service) → Decodes c bytes state → ⊥) × (text ≡ no_state_line))
 
+-- ---- what `audit` prints
+
+-- the rows of the correct replicas so far
+abbrev pub records_of : WorldFacts → List (List RowFacts)
+records_of w = map (λ (m : MemberFacts). m.rows) w.members
+
+-- What an audit of them answers is printed.
+abbrev pub Audits : WorldFacts → List ℕ → Type 0
+Audits w text = (answer : Result (List Execution) AuditFault) × IsAudit (records_of w) answer × IsAuditLine answer text
+
 -- ---- steps
 
 -- The letters that are meant are removed, or queued once more.
@@ -348,24 +367,32 @@ mangled_by s f damage = queued s (map (mangled damage) (filter (is_meant f) s.qu
 abbrev pub raw_letter : List ℕ → LetterFacts
 raw_letter bytes = record { to = Replica (record { 0 = 0 }); from = None; kind = None; bytes = bytes }
 
+-- What a step prints that changes nothing.
+abbrev pub Shows : StageFacts → Step → List ℕ → Type 0
+Shows s (steps.Queue f) text = text ≡ flat_map letter_line (filter (is_meant f) s.queue)
+Shows s steps.Show text = text ≡ flat_map (status_printed s.world) (ids_of s.world.config)
+Shows s steps.Digest text = text ≡ flat_map (digest_printed s.world) (ids_of s.world.config)
+Shows s (steps.State id) text = text ≡ state_printed s.world id
+Shows s (steps.Upgrade bytes) text = Upgrades s.world.config bytes text
+Shows s (steps.Expect expected) text = text ≡ []
+Shows s steps.Audit text = Audits s.world text
+Shows s other text = ⊥
+
 -- What a step prints, and what is held after it.
 abbrev pub Prints : StageFacts → Step → List ℕ → StageFacts → Type 0
 Prints s (steps.Request o) text t = (text, t) ≡ requested s o
-Prints s (steps.Deliver f) text t = (n : ℕ) × (n ≤ max_deliveries) × Deliveries f n s text t × (first_meant f t.queue ≡ None)
+Prints s (steps.Deliver f order) text t = (n : ℕ) × (n ≤ max_deliveries) × Deliveries f order n s text t × (first_meant f t.queue ≡ None)
 Prints s (steps.Drop f) text t = (text, t) ≡ quiet (dropped s f)
 Prints s (steps.Repeat f) text t = (text, t) ≡ quiet (repeated s f)
 Prints s (steps.Timeout at) text t = (text ≡ []) × AllTimeOut s at t
 Prints s (steps.Forge f) text t = (text, t) ≡ forges s f
 Prints s (steps.Mangle f damage) text t = (text, t) ≡ quiet (mangled_by s f damage)
 Prints s (steps.Raw to bytes) text t = (text, t) ≡ quiet (queued s (copies (raw_letter bytes) to))
-Prints s steps.Show text t = (text ≡ flat_map (status_printed s.world) (ids_of s.world.config)) × (t ≡ s)
-Prints s steps.Digest text t = (text ≡ flat_map (digest_printed s.world) (ids_of s.world.config)) × (t ≡ s)
-Prints s (steps.State id) text t = (text ≡ state_printed s.world id) × (t ≡ s)
-Prints s (steps.Upgrade bytes) text t = Upgrades s.world.config bytes text × (t ≡ s)
+Prints s other text t = Shows s other text × (t ≡ s)
 
 -- More messages are meant than a step delivers.
 abbrev pub Overruns : StageFacts → Step → List ℕ → Type 0
-Overruns s (steps.Deliver f) text = (t : StageFacts) × Deliveries f max_deliveries s text t × (first_meant f t.queue ≢ None)
+Overruns s (steps.Deliver f order) text = (t : StageFacts) × Deliveries f order max_deliveries s text t × (first_meant f t.queue ≢ None)
 Overruns s other text = ⊥
 
 -- nothing, or all that a step prints
@@ -374,5 +401,5 @@ IsAllOrNothing s step text = (text ≡ []) ⊎ ((t : StageFacts) × Prints s ste
 
 -- What a step may have printed before it ended: the lines of some deliveries, else all lines or none.
 abbrev pub Begins : StageFacts → Step → List ℕ → Type 0
-Begins s (steps.Deliver f) text = (n : ℕ) × (t : StageFacts) × (n ≤ max_deliveries) × Deliveries f n s text t
+Begins s (steps.Deliver f order) text = (n : ℕ) × (t : StageFacts) × (n ≤ max_deliveries) × Deliveries f order n s text t
 Begins s other text = IsAllOrNothing s other text

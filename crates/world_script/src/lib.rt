@@ -2,11 +2,14 @@
 //! a TOML document.
 //!
 //!     let status = match run_script(alloc, &mut reader, &mut writer) {
-//!         Ok(()) => 0,
+//!         Ok(Played::Whole) => 0,
+//!         Ok(Played::Unexpected) => 1,
 //!         Err(fault) => fault.kind.number(),
 //!     };
 #![tactic(auto)]
 
+mod drawing;
+mod expecting;
 mod fault;
 mod forging;
 mod input;
@@ -15,6 +18,7 @@ mod laws;
 mod lines;
 mod made;
 mod play;
+mod played;
 mod queue;
 mod sessions;
 mod stage;
@@ -24,8 +28,9 @@ pub use fault::RunFault;
 pub use input::read_input;
 pub use keys::{Keys, make_keys};
 pub use laws::scripts_run_sound_worlds;
-pub use lines::line_of_reply;
+pub use lines::{line_of_audit, line_of_reply};
 pub use play::{report, run_script};
+pub use played::Played;
 pub use script_text::{Script, ScriptFault, ScriptKind, read_script};
 pub use sessions::open_sessions;
 pub use writing::write_text;

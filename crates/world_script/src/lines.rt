@@ -1,8 +1,9 @@
 //! The lines that a script prints.
 
 ghost use Rattle.std.specs.Prelude.{◌≡◌, IfOk, string_bytes};
-ghost use Rattle.world_script.specs.Lines.{digest_line, no_state_line, refusal_line, reply_line, state_line, status_line, upgraded_line};
+ghost use Rattle.world_script.specs.Lines.{IsAuditLine, digest_line, no_state_line, refusal_line, reply_line, state_line, status_line, upgraded_line};
 
+use byz_world::{AuditFault, History};
 use host_types::{ReplicaId, Reply};
 use replica_core::Status;
 use seal::SealFault;
@@ -94,4 +95,25 @@ pub(crate) fn line_of_no_state(alloc: Global) -> Result<String, AllocError>
     ensures { IfOk result (λ line. string_bytes line ≡ no_state_line) }
 {
     String::from_str(alloc, "refused BadState\n")
+}
+
+/// What an audit found: the greatest number that was executed, or a fault. The error is that memory ran out, here or at
+/// the audit.
+pub fn line_of_audit(
+    alloc: Global,
+    audited: &Result<History, AuditFault>,
+) -> Result<String, AllocError>
+    ensures { IfOk result (λ line. IsAuditLine audited.now (string_bytes line)) }
+{
+    match audited {
+        Ok(history) => {
+            let greatest = history.greatest().0;
+            format!(in alloc; "audit agreed {greatest}\n")
+        }
+        Err(AuditFault::Memory) => Err(AllocError),
+        Err(fault) => {
+            let number = fault.number();
+            format!(in alloc; "audit fault {number} {fault}\n")
+        }
+    }
 }

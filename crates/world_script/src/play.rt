@@ -1,36 +1,44 @@
 //! A script from a reader to a writer.
 
-ghost use Rattle.std.specs.Prelude.{◌≡◌, ◌≢◌, ◌⊎◌, ◌++◌, OnOk, IfErr, IsOk};
+ghost use Rattle.std.specs.Prelude.{◌≡◌, ◌≢◌, ◌⊎◌, ◌++◌, OnOk, IfErr, IsOk, string_bytes};
 ghost use Rattle.std.specs.Io.KnownBytes.{Appends};
 ghost use Rattle.script_text.specs.declared.fault.ScriptKind.TheVariants as kinds;
-ghost use Rattle.world_script.specs.Running.{PlaysWhatIsRead, Reports, RunsSteps};
+ghost use Rattle.world_script.specs.Running.{Compares, PlaysWhatIsRead, Reports, RunsSteps, StepEnds};
 ghost use Rattle.world_script.specs.Scripts.{WritesWhatIsRead};
 
+use crate::expecting::{differing_line, line_of_unexpected};
+use crate::fault::RunFault;
 use crate::input::read_input;
+use crate::played::Played;
 use crate::stage::Stage;
-use crate::writing::write_fault;
-use script_text::{Script, ScriptFault, ScriptKind, read_script};
+use crate::writing::{write_fault, write_text};
+use script_text::{Script, ScriptFault, ScriptKind, Step, read_script};
 use std::alloc::Global;
 use std::io::{Read, Write};
 
 /// Reads a script to the end of the reader, runs its steps, and writes what they print. The line of a
 /// fault is written too, but for that of a failed write: `script fault 2 MissingKey step 3`. After a
-/// failed write the writer has the first bytes of what was to be written.
+/// failed write the writer has the first bytes of what was to be written. An `expect` that finds other lines ends
+/// the run; its line is written.
 pub fn run_script<I: Read, O: Write>(
     alloc: Global,
     reader: &mut I,
     writer: &mut O,
-) -> Result<(), ScriptFault>
+) -> Result<Played, ScriptFault>
     ensures { WritesWhatIsRead (I.remaining reader.old) (O.contents writer.old) (O.contents writer.new) result }
 {
     match play(alloc, reader, writer) {
-        Ok(()) => Ok(()),
+        Ok(played) => Ok(played),
         Err(fault) => Err(report(fault, writer)),
     }
 }
 
 /// Reads a script and runs its steps.
-fn play<I: Read, O: Write>(alloc: Global, reader: &mut I, writer: &mut O) -> Result<(), ScriptFault>
+fn play<I: Read, O: Write>(
+    alloc: Global,
+    reader: &mut I,
+    writer: &mut O,
+) -> Result<Played, ScriptFault>
     ensures { PlaysWhatIsRead (I.remaining reader.old) (O.contents writer.old) (O.contents writer.new) result }
 {
     let bytes = match read_input(alloc, reader) {
@@ -44,22 +52,74 @@ fn play<I: Read, O: Write>(alloc: Global, reader: &mut I, writer: &mut O) -> Res
 }
 
 /// Runs the steps of a script, one after another.
-fn run_steps<O: Write>(alloc: Global, script: &Script, writer: &mut O) -> Result<(), ScriptFault>
+fn run_steps<O: Write>(
+    alloc: Global,
+    script: &Script,
+    writer: &mut O,
+) -> Result<Played, ScriptFault>
     ensures { RunsSteps script.now (O.contents writer.old) (O.contents writer.new) result }
 {
     let mut stage = match Stage::new(alloc, &script.head) {
         Ok(stage) => stage,
         Err(_) => return Err(ScriptFault::at_head(ScriptKind::Memory)),
     };
+    let mut unread = String::new(alloc);
     let mut number: u32 = 0;
     for step in script.steps.as_slice() {
         number = number.saturating_add(1);
-        if let Err(fault) = stage.run(step, writer) {
-            let kind = fault.into();
-            return Err(ScriptFault { kind, step: number });
+        match run_step(alloc, &mut stage, &mut unread, number, step, writer) {
+            Ok(Played::Whole) => {}
+            Ok(Played::Unexpected) => return Ok(Played::Unexpected),
+            Err(fault) => {
+                let kind = fault.into();
+                return Err(ScriptFault { kind, step: number });
+            }
         }
     }
-    Ok(())
+    Ok(Played::Whole)
+}
+
+/// Runs the step of this number. `unread` is what was printed since the last `expect`.
+fn run_step<O: Write>(
+    alloc: Global,
+    stage: &mut Stage,
+    unread: &mut String,
+    number: u32,
+    step: &Step,
+    writer: &mut O,
+) -> Result<Played, RunFault>
+    ensures { StepEnds number (record { stage = stage.old; unread = string_bytes unread.old }) step.now (O.contents writer.old) (O.contents writer.new) result (record { stage = stage.new; unread = string_bytes unread.new }) }
+{
+    if let Step::Expect(expected) = step {
+        return compare(alloc, unread, number, expected.as_slice(), writer);
+    }
+    let text = match stage.run(step, writer) {
+        Ok(text) => text,
+        Err(fault) => return Err(fault),
+    };
+    match unread.push_str(&text) {
+        Ok(()) => Ok(Played::Whole),
+        Err(_) => Err(RunFault::Memory),
+    }
+}
+
+/// Compares what was printed since the last `expect` with the lines of this one.
+fn compare<O: Write>(
+    alloc: Global,
+    unread: &mut String,
+    number: u32,
+    expected: &[u8],
+    writer: &mut O,
+) -> Result<Played, RunFault>
+    ensures { Compares number expected.now (string_bytes unread.old) (O.contents writer.old) (O.contents writer.new) result (string_bytes unread.new) }
+{
+    let Some(line) = differing_line(expected, unread.as_bytes()) else {
+        unread.clear();
+        return Ok(Played::Whole);
+    };
+    let text = line_of_unexpected(alloc, number, line)?;
+    write_text(writer, &text)?;
+    Ok(Played::Unexpected)
 }
 
 /// Writes the line of a fault, without memory. Where that write fails, this is the fault.

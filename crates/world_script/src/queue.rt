@@ -1,11 +1,13 @@
 //! Messages on their way.
 
-ghost use Rattle.std.specs.Prelude.{◌≡◌, ◌++◌, ◌∷◌, [], Some, None, IfNone, IfOk, OnOk, MatchOption, filter as kept, map, not};
+ghost use Rattle.std.specs.Prelude.{◌≡◌, ◌<◌, ◌++◌, ◌∷◌, [], Some, None, IfNone, IsSomeAnd, IfOk, OnOk, MatchOption, filter as kept, flat_map, map, not, string_bytes};
 ghost use Rattle.std.specs.List.{list_any};
 ghost use Rattle.script_text.specs.declared.kind.Kind.{Kind};
 ghost use Rattle.script_text.specs.declared.script.Node.{Node};
 ghost use Rattle.world_script.specs.Stages.{all_but};
-ghost use Rattle.world_script.specs.Letters.{LetterFacts, addressed, copies, cut, damaged, first_meant, flipped, is_among, is_meant, mangled, same_kind, same_node, without_first};
+ghost use Rattle.world_script.specs.Letters.{LetterFacts, addressed, copies, cut, damaged, first_meant, flipped, is_among, is_meant, mangled, meant_count, same_kind, same_node, without_first};
+ghost use Rattle.world_script.specs.Lines.{kind_or_dash, letter_line, node_text};
+ghost use Rattle.world_script.specs.Parts.{IsPlace, IsTaken};
 
 use host_types::Bytes;
 use pbft_codec::Sequence;
@@ -92,6 +94,17 @@ impl Letter {
         })
     }
 
+    /// Its line: the sender, the addressee, the kind and the bytes.
+    fn line(&self, alloc: Global) -> Result<String, AllocError>
+        ensures { IfOk result (λ line. string_bytes line ≡ letter_line self.now) }
+    {
+        let from = node_text(alloc, self.from)?;
+        let to = node_text(alloc, Some(self.to))?;
+        let kind = kind_or_dash(self.kind);
+        let bytes = hex::encode(alloc, self.bytes())?;
+        format!(in alloc; "queue {from} {to} {kind} {bytes}\n")
+    }
+
     /// Whether a filter means it.
     fn is_meant_by(&self, filter: &Filter) -> bool
         ensures { result ≡ is_meant filter.now self.now }
@@ -99,6 +112,33 @@ impl Letter {
         names_node(&filter.to, Some(self.to))
             && names_node(&filter.from, self.from)
             && names_kind(&filter.kinds, self.kind)
+    }
+}
+
+/// A node's id, or a dash where there is none.
+fn node_text(alloc: Global, node: Option<Node>) -> Result<String, AllocError>
+    ensures { IfOk result (λ text. string_bytes text ≡ node_text node) }
+{
+    match node {
+        Some(Node::Replica(id)) => {
+            let id = id.0;
+            format!(in alloc; "{id}")
+        }
+        Some(Node::Client(id)) => {
+            let id = id.0;
+            format!(in alloc; "{id}")
+        }
+        None => String::from_str(alloc, "-"),
+    }
+}
+
+/// The name of a kind, or a dash where there is none.
+fn kind_or_dash(kind: Option<Kind>) -> &'static str
+    ensures { result.now ≡ kind_or_dash kind }
+{
+    match kind {
+        Some(kind) => kind.name(),
+        None => "-",
     }
 }
 
@@ -313,5 +353,63 @@ impl Queue {
             others.push(letter)?;
         }
         Ok(None)
+    }
+
+    /// The lines of the letters that are meant, the oldest first.
+    pub(crate) fn lines(&self, filter: &Filter) -> Result<String, AllocError>
+        ensures { IfOk result (λ text. string_bytes text ≡ flat_map letter_line (kept (is_meant filter.now) self.now)) }
+    {
+        let mut text = String::new(self.alloc);
+        for index in 0..self.letters.len() {
+            if let Some(letter) = self.letters.get(index) {
+                if letter.is_meant_by(filter) {
+                    text.push_str(&letter.line(self.alloc)?)?;
+                }
+            }
+        }
+        Ok(text)
+    }
+
+    /// How many letters are meant.
+    pub(crate) fn count_meant(&self, filter: &Filter) -> usize
+        ensures { result ≡ meant_count filter.now self.now }
+    {
+        let mut count = 0;
+        for index in 0..self.letters.len() {
+            if let Some(letter) = self.letters.get(index) {
+                if letter.is_meant_by(filter) {
+                    count += 1;
+                }
+            }
+        }
+        count
+    }
+
+    /// Takes out the letter that is meant and has so many before it that are.
+    pub(crate) fn take_meant(&mut self, filter: &Filter, passed: usize) -> Option<Letter>
+        requires { passed < meant_count filter.now self.old }
+        ensures { IsSomeAnd result (λ l. IsTaken filter.now passed self.old l self.new) }
+    {
+        let index = self.place_of(filter, passed)?;
+        self.letters.remove(index)
+    }
+
+    /// Where the letter stands that is meant and has so many before it that are.
+    fn place_of(&self, filter: &Filter, passed: usize) -> Option<usize>
+        requires { passed < meant_count filter.now self.now }
+        ensures { IsSomeAnd result (λ i. IsPlace filter.now passed self.now i) }
+    {
+        let mut left = passed;
+        for index in 0..self.letters.len() {
+            if let Some(letter) = self.letters.get(index) {
+                if letter.is_meant_by(filter) {
+                    if left == 0 {
+                        return Some(index);
+                    }
+                    left -= 1;
+                }
+            }
+        }
+        None
     }
 }

@@ -1,28 +1,29 @@
 //! A running script: the replicas, the clients, and the messages between them.
 
-ghost use Rattle.std.specs.Prelude.{◌≡◌, ◌++◌, None, IfOk, IfSome, OnOk, find, flat_map, length, map, option_copied, option_map, string_bytes};
+ghost use Rattle.std.specs.Prelude.{◌≡◌, ◌<◌, ◌++◌, None, Some, IfOk, IfSome, OnOk, filter as kept, find, flat_map, length, map, option_copied, option_map, string_bytes};
 ghost use Rattle.std.specs.FinSet as set;
 ghost use Rattle.byz_world.specs.Worlds.{first_world, member_of};
 ghost use Rattle.world_script.specs.Starts.{forgers_from, numbers_of, start_of};
 ghost use Rattle.script_text.specs.declared.script.Step.TheVariants as steps;
 ghost use Rattle.script_text.specs.declared.script.Node.TheVariants as nodes;
 ghost use Rattle.world_script.specs.Endings.{Ends};
-ghost use Rattle.world_script.specs.Lines.{nothing_queued_line};
+ghost use Rattle.world_script.specs.Lines.{letter_line, nothing_queued_line};
 ghost use Rattle.world_script.specs.Keys.{correct_from, key_of};
-ghost use Rattle.world_script.specs.Letters.{copies, first_meant, letter_of};
+ghost use Rattle.world_script.specs.Letters.{copies, first_meant, is_meant, letter_of, meant_count};
 ghost use Rattle.world_script.specs.Parts.{DeliversNext, Performs, Happened, HasMore, ahead, with_message};
 ghost use Rattle.pbft_codec.specs.declared.body.Body.TheVariants as bodies;
 ghost use Rattle.pbft_codec.specs.declared.body.request.RequestBody.{RequestBody};
 ghost use Rattle.pbft_codec.specs.WellFormed.{BodyWellFormed};
-ghost use Rattle.world_script.specs.Stages.{AllTimeOut, HandsTo, TimesOut, AtReplica, Upgrades, at_client, digest_named, forged_body, forges, ids_of, is_request, is_running, letters_in, letters_of, lacked_memory, halt_in, refusal_of, all_replicas, raw_letter, queued, requested, digest_printed, state_printed, status_printed};
+ghost use Rattle.world_script.specs.Stages.{AllTimeOut, Delivers, HandsTo, TimesOut, AtReplica, Audits, Upgrades, at_client, digest_named, forged_body, forges, ids_of, is_request, is_running, letters_in, letters_of, lacked_memory, halt_in, refusal_of, all_replicas, raw_letter, queued, requested, digest_printed, state_printed, status_printed};
 ghost use Rattle.seal.specs.Opening.{opening};
 
+use crate::drawing::{drawn, next_state};
 use crate::fault::RunFault;
 use crate::forging::{Forger, checkpoint_body, forge, view_change_body, vote_body};
 use crate::keys::make_keys;
 use crate::lines::{
-    line_of_digest, line_of_no_state, line_of_refusal, line_of_state, line_of_status,
-    line_of_upgrade,
+    line_of_audit, line_of_digest, line_of_no_state, line_of_refusal, line_of_state,
+    line_of_status, line_of_upgrade,
 };
 use crate::made::Made;
 use crate::queue::{Letter, Queue};
@@ -97,17 +98,23 @@ impl Stage {
         })
     }
 
-    /// Runs a step, and writes what it prints.
-    pub(crate) fn run<O: Write>(&mut self, step: &Step, writer: &mut O) -> Result<(), RunFault>
+    /// Runs a step, writes what it prints, and returns that. An `expect` is not looked at.
+    pub(crate) fn run<O: Write>(&mut self, step: &Step, writer: &mut O) -> Result<String, RunFault>
         ensures { Ends self.old step.now (O.contents writer.old) (O.contents writer.new) result self.new }
     {
-        if let Step::Deliver(filter) = step {
-            return self.deliver(filter, writer);
+        if let Step::Deliver { filter, order } = step {
+            return match order {
+                None => self.deliver(filter, writer),
+                Some(seed) => self.deliver_drawn(filter, *seed, writer),
+            };
         }
         let Ok(text) = self.perform(step) else {
             return Err(RunFault::Memory);
         };
-        write_text(writer, &text)
+        match write_text(writer, &text) {
+            Ok(()) => Ok(text),
+            Err(fault) => Err(fault),
+        }
     }
 
     /// Runs a step that delivers nothing. What is printed.
@@ -130,6 +137,7 @@ impl Stage {
                 self.queue.mangle(filter, *damage)?;
                 Ok(nothing)
             }
+            Step::Queue(filter) => self.queue_text(filter),
             Step::Timeout(at) => {
                 self.time_out(at.as_slice())?;
                 Ok(nothing)
@@ -142,7 +150,8 @@ impl Stage {
             Step::Digest => self.digests(),
             Step::State(id) => self.state_text(*id),
             Step::Upgrade(bytes) => self.upgrade_text(bytes.as_slice()),
-            Step::Deliver(_) => Ok(nothing),
+            Step::Audit => self.audit_text(),
+            Step::Deliver { .. } | Step::Expect(_) => Ok(nothing),
         }
     }
 
@@ -236,22 +245,25 @@ impl Stage {
     // ---- deliveries
 
     /// Delivers the first letter that is meant, until none is. What comes of it is queued last.
-    fn deliver<O: Write>(&mut self, filter: &Filter, writer: &mut O) -> Result<(), RunFault>
-        ensures { Ends self.old (steps.Deliver filter.now) (O.contents writer.old) (O.contents writer.new) result self.new }
+    fn deliver<O: Write>(&mut self, filter: &Filter, writer: &mut O) -> Result<String, RunFault>
+        ensures { Ends self.old (steps.Deliver filter.now None) (O.contents writer.old) (O.contents writer.new) result self.new }
     {
+        let mut lines = String::new(self.alloc);
         let mut others = Queue::new(self.alloc);
         for _ in 0..MAX_DELIVERIES {
             let Some(text) = self.deliver_next(filter, &mut others)? else {
-                return Ok(());
+                return Ok(lines);
             };
-            if let Err(_) = write_text(writer, &text) {
+            let line = text.as_str();
+            lines.push_str(line)?;
+            if let Err(_) = write_text(writer, line) {
                 return Err(RunFault::Write);
             }
         }
         if self.has_more(filter, others)? {
             return Err(RunFault::TooManyDeliveries);
         }
-        Ok(())
+        Ok(lines)
     }
 
     /// Delivers the first letter that is meant; those before it go to `others`. What is printed. Where none
@@ -283,6 +295,54 @@ impl Stage {
         }
         swap(&mut self.queue, &mut others);
         Ok(false)
+    }
+
+    /// Delivers letters that are meant in an order that a seed draws, until none is. What comes of it is queued last.
+    fn deliver_drawn<O: Write>(
+        &mut self,
+        filter: &Filter,
+        seed: u64,
+        writer: &mut O,
+    ) -> Result<String, RunFault>
+        ensures { Ends self.old (steps.Deliver filter.now (Some seed)) (O.contents writer.old) (O.contents writer.new) result self.new }
+    {
+        let mut lines = String::new(self.alloc);
+        let mut state = seed;
+        for _ in 0..MAX_DELIVERIES {
+            let count = self.count_meant(filter);
+            if count == 0 {
+                return Ok(lines);
+            }
+            state = next_state(state);
+            let text = self.deliver_at(filter, drawn(state, count))?;
+            let line = text.as_str();
+            lines.push_str(line)?;
+            if let Err(_) = write_text(writer, line) {
+                return Err(RunFault::Write);
+            }
+        }
+        if self.count_meant(filter) > 0 {
+            return Err(RunFault::TooManyDeliveries);
+        }
+        Ok(lines)
+    }
+
+    /// How many letters are meant.
+    fn count_meant(&self, filter: &Filter) -> usize
+        ensures { result ≡ meant_count filter.now self.now.queue }
+    {
+        self.queue.count_meant(filter)
+    }
+
+    /// Delivers the letter that is meant and has so many before it that are. What is printed.
+    fn deliver_at(&mut self, filter: &Filter, passed: usize) -> Result<String, AllocError>
+        requires { passed < meant_count filter.now self.old.queue }
+        ensures { IfOk result (λ text. Delivers filter.now passed self.old (string_bytes text) self.new) }
+    {
+        let Some(letter) = self.queue.take_meant(filter, passed) else {
+            unreachable!()
+        };
+        self.hand_over(&letter)
     }
 
     /// Hands a letter to its addressee. What is printed.
@@ -403,7 +463,14 @@ impl Stage {
         }
     }
 
-    // ---- what `show` prints
+    // ---- what `queue` and `show` print
+
+    /// The letters that are meant.
+    fn queue_text(&self, filter: &Filter) -> Result<String, AllocError>
+        ensures { IfOk result (λ text. string_bytes text ≡ flat_map letter_line (kept (is_meant filter.now) self.now.queue)) }
+    {
+        self.queue.lines(filter)
+    }
 
     /// Where each correct replica stands.
     fn statuses(&self) -> Result<String, AllocError>
@@ -464,6 +531,13 @@ impl Stage {
             Err(StateFault::BadState) => line_of_no_state(self.alloc),
             Err(StateFault::Memory) => Err(AllocError),
         }
+    }
+
+    /// Whether the correct replicas' rows agree so far.
+    fn audit_text(&self) -> Result<String, AllocError>
+        ensures { IfOk result (λ text. Audits self.now.world (string_bytes text)) }
+    {
+        line_of_audit(self.alloc, &self.world.audit())
     }
 }
 

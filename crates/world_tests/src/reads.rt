@@ -3,7 +3,7 @@
 use std::alloc::Global;
 use std::io::{self, Read, Write};
 use std::test::Fail;
-use world_script::{ScriptFault, run_script};
+use world_script::{Played, ScriptFault, run_script};
 
 /// Gives line ends, one at each read, until none is left, or one read fails; and counts the reads.
 #[derive(Drop)]
@@ -99,7 +99,7 @@ step = [{ do = \"show\" }, { do = \"show\" }]
 /// The number of the fault of a script whose writer fails behind so many writes, 0 if it is run.
 fn fault_of(alloc: Global, script: &str, writes: u32) -> u8 {
     let mut reader = script.as_bytes();
-    let ended: Result<(), ScriptFault> = run_script(alloc, &mut reader, &mut Fills { writes });
+    let ended: Result<Played, ScriptFault> = run_script(alloc, &mut reader, &mut Fills { writes });
     ended.err().map_or(0, |fault| fault.kind.number())
 }
 

@@ -99,7 +99,7 @@ impl Gate for NoGate {
 }
 
 /// Starts a host and its clients, of which the first has installed the procedure that puts.
-fn start<R: Threads + Wait + Copy + Send + Drop + 'static>(
+fn start<R: Threads + Wait + Copy + Send + Sync + Drop + 'static>(
     rt: &R,
     alloc: Global,
     setup: Setup,
@@ -123,7 +123,7 @@ fn start<R: Threads + Wait + Copy + Send + Drop + 'static>(
 }
 
 /// Lets all clients call at the same time, each in a thread of its own.
-fn call_at_once<R: Threads + Wait + Copy + Send + Drop + 'static>(
+fn call_at_once<R: Threads + Wait + Copy + Send + Sync + Drop + 'static>(
     rt: &R,
     alloc: Global,
     callers: Vec<Caller>,
@@ -150,7 +150,7 @@ fn call_at_once<R: Threads + Wait + Copy + Send + Drop + 'static>(
 }
 
 /// Runs a host until its clients' calls are answered.
-pub(crate) fn measure<R: Threads + Wait + Copy + Send + Drop + 'static>(
+pub(crate) fn measure<R: Threads + Wait + Copy + Send + Sync + Drop + 'static>(
     rt: &HostRuntime,
     threads: &R,
     setup: Setup,

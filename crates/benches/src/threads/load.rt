@@ -93,7 +93,7 @@ fn loads_of(alloc: Global, setup: Setup, run: &Run) -> Result<Vec<Load>> {
 }
 
 /// The time in which all signatures of a run are made and verified alone, each replica's in a thread.
-pub(crate) fn nanoseconds_alone<R: Threads + Wait + Copy + Send + Drop + 'static>(
+pub(crate) fn nanoseconds_alone<R: Threads + Wait + Copy + Send + Sync + Drop + 'static>(
     rt: &HostRuntime,
     threads: &R,
     setup: Setup,

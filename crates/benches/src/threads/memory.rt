@@ -14,7 +14,7 @@ const REQUESTS: u32 = 300;
 const LIMIT: u64 = 256 * 1024;
 
 /// Prints what a host and its client have taken at most after 300 requests.
-pub(crate) fn print_memory<R: Threads + Wait + Copy + Send + Drop + 'static>(
+pub(crate) fn print_memory<R: Threads + Wait + Copy + Send + Sync + Drop + 'static>(
     rt: &HostRuntime,
     threads: &R,
 ) -> Result<()> {

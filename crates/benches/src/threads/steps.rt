@@ -19,6 +19,7 @@ use std::alloc::Global;
 use std::marker::Brand;
 use std::sync::ledger::Blank;
 use std::sync::{Arc, Wait};
+use std::thread::Threads;
 
 /// The backup whose steps are made again.
 const BACKUP: ReplicaId = ReplicaId(1);
@@ -84,7 +85,7 @@ fn take(replica: &mut Replica, config: &Arc<Config>, message: &Checked) -> Resul
 }
 
 /// The same at a station.
-pub(crate) fn nanoseconds_at_station<R: Wait>(
+pub(crate) fn nanoseconds_at_station<R: Wait + Threads + Sync>(
     rt: &HostRuntime,
     threads: &R,
     setup: Setup,
@@ -99,7 +100,7 @@ pub(crate) fn nanoseconds_at_station<R: Wait>(
     nanoseconds_at::<Brand, R>(rt, threads, blank, config, signer, messages)
 }
 
-fn nanoseconds_at<K: Named, R: Wait>(
+fn nanoseconds_at<K: Named, R: Wait + Threads + Sync>(
     rt: &HostRuntime,
     threads: &R,
     blank: Blank,

@@ -33,7 +33,7 @@ fn host_of(clients: u8, openers: u8) -> Setup {
 }
 
 /// Prints what the calls of a host take, and returns whether that is within the limit.
-fn print_calls<R: Threads + Wait + Copy + Send + Drop + 'static>(
+fn print_calls<R: Threads + Wait + Copy + Send + Sync + Drop + 'static>(
     rt: &HostRuntime,
     threads: &R,
     setup: Setup,
@@ -61,7 +61,7 @@ fn print_calls<R: Threads + Wait + Copy + Send + Drop + 'static>(
 }
 
 /// Prints what the steps of a replica take at a station, and returns whether that is within the limit.
-fn print_steps<R: Threads + Wait + Copy + Send + Drop + 'static>(
+fn print_steps<R: Threads + Wait + Copy + Send + Sync + Drop + 'static>(
     rt: &HostRuntime,
     threads: &R,
 ) -> Result<bool> {
@@ -91,7 +91,7 @@ fn print_steps<R: Threads + Wait + Copy + Send + Drop + 'static>(
 }
 
 /// Prints all ratios; an error where one passes its limit.
-pub(crate) fn print_times<R: Threads + Wait + Copy + Send + Drop + 'static>(
+pub(crate) fn print_times<R: Threads + Wait + Copy + Send + Sync + Drop + 'static>(
     rt: &HostRuntime,
     threads: &R,
 ) -> Result<()> {
@@ -103,7 +103,7 @@ pub(crate) fn print_times<R: Threads + Wait + Copy + Send + Drop + 'static>(
 }
 
 /// Prints how many replicas gave a journal after two calls.
-pub(crate) fn print_small<R: Threads + Wait + Copy + Send + Drop + 'static>(
+pub(crate) fn print_small<R: Threads + Wait + Copy + Send + Sync + Drop + 'static>(
     rt: &HostRuntime,
     threads: &R,
 ) -> Result<()> {

@@ -3,7 +3,7 @@
 use crate::common::processor_time::ProcessorTime;
 use anyhow::{Result, anyhow};
 use std::alloc::{AllocError, Global};
-use world_script::run_script;
+use world_script::{Played, run_script};
 
 /// Four replicas, of which replica 3 is faulty, and a client. Each key has 32 leaves, and the secret is zeros.
 const HEAD: &str = "\
@@ -104,7 +104,8 @@ pub(crate) fn output_of(alloc: Global, script: &str) -> Result<Vec<u8>> {
     let mut output = Vec::new(alloc);
     let mut reader = script.as_bytes();
     match run_script(alloc, &mut reader, &mut output) {
-        Ok(()) => Ok(output),
+        Ok(Played::Whole) => Ok(output),
+        Ok(Played::Unexpected) => Err(anyhow!("other lines were expected")),
         Err(fault) => Err(anyhow!("{fault}")),
     }
 }

@@ -1,5 +1,5 @@
 use Rattle.quorum_log.specs.Ballots.{AreUnder, AreListed}
 use Rattle.replica_tests.proofs.votes.commits.Given as goal
 
-abbrev pub invariant-loop-id : goal.invariant-loop-id
-invariant-loop-id l = AreUnder l.fn.config.value l.votes × AreListed l.fn.config.value l.votes
+abbrev pub invariant-loop-word : goal.invariant-loop-word
+invariant-loop-word l = AreUnder l.fn.config.value l.votes × AreListed l.fn.config.value l.votes

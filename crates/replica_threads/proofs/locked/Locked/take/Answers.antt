@@ -8,5 +8,5 @@ returns-clause-answered g c =
     let j = c.self.inside.journal in
     let kept = c.self.invariant in
     let counted : c.args.seat.now.rows ≤ length j.rows = search rules in
-    answered j c.take.new.self g.K.Named.config g.K.Named.id c.args.seat.now.rows (inputs.Message c.args.message.now) c.in_ok-row.row c.take.ensures.kept c.in_ok-row.ensures.step
+    answered j c.take_lanes.new.self g.K.Named.config g.K.Named.id c.args.seat.now.rows (inputs.Message c.args.message.now) c.in_ok-row.row c.take_lanes.ensures.kept c.in_ok-row.ensures.step
     kept.0 kept.1 counted

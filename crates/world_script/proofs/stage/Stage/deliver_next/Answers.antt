@@ -20,7 +20,7 @@ returns c =
     let kept : StageFacts = record { world = c.self.inside.world; forgers = c.self.inside.forgers.items; sessions = c.self.inside.sessions.sessions.items; made = c.self.inside.made.items; queue = c.self.inside.queue } in
     let view : kept ≡ c.args.self.now = c.self.view_is in
     let m = c.in_ok-letter.ensures in (
-      subst (λ (s : StageFacts). Delivers c.args.filter.now (ahead c.args.others.now s) (string_bytes c.in_ok-text.text) (ahead c.next_meant.new.others c.hand_over.new.self)) view
+      subst (λ (s : StageFacts). Delivers c.args.filter.now 0 (ahead c.args.others.now s) (string_bytes c.in_ok-text.text) (ahead c.next_meant.new.others c.hand_over.new.self)) view
           (delivered c.args.filter.now kept c.hand_over.new.self c.in-Some.letter (c.args.others.now ++ c.self.inside.queue) c.next_meant.new.others c.next_meant.new.self _
           (sym m.found ∙ c.in-Some.is) m.rest c.in_ok-text.ensures),
       m.passed,
