@@ -1,6 +1,6 @@
 //! Streams that fail, for tests of scripts.
 
-ghost use Rattle.std.specs.Prelude.{◌≡◌, ◌+◌, ◌↔◌, Some, IsErr, OnOk};
+ghost use Rattle.std.specs.Prelude.{◌≡◌, ◌+◌, ◌↔◌, Some, IsErr, OnErr, OnOk};
 ghost use Rattle.std.specs.Io.{ReadsAtMost, WritesAtMost};
 ghost use Rattle.std.specs.Io.KnownBytes.{ReadConsumes, WriteAppends, Keeps};
 
@@ -23,6 +23,7 @@ impl Read for BrokenReader<'_> {
         ensures bytes { ReadConsumes (Some self.old.bytes.now) (Some self.new.bytes.now) result buf.new }
         ensures fails { IsErr result ↔ (self.old.reads ≡ 0) }
         ensures counted { OnOk result (self.new.reads + 1 ≡ self.old.reads) }
+        ensures stays { OnErr result (self.new.reads ≡ self.old.reads) }
     {
         if self.reads == 0 {
             return Err(Error::from(ErrorKind::Other));
@@ -49,6 +50,7 @@ impl Write for BrokenWriter {
         ensures bytes { WriteAppends (Some self.old.written.items) (Some self.new.written.items) result buf.now }
         ensures fails { self.old.writes ≡ 0 → IsErr result }
         ensures counted { OnOk result (self.new.writes + 1 ≡ self.old.writes) }
+        ensures stays { self.old.writes ≡ 0 → self.new.writes ≡ 0 }
     {
         if self.writes == 0 {
             return Err(Error::from(ErrorKind::BrokenPipe));
