@@ -4,7 +4,7 @@
 use anyhow::{Result, anyhow};
 use std::thread::Threads;
 
-mod batches;
+pub(crate) mod batches;
 mod times;
 
 /// Calls procedures in lanes, or does what a word names.

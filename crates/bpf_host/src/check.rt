@@ -1,5 +1,6 @@
 //! `check`: the runs of a folder, each compared with what is to come of it. A script `NAME.toml` is to print what
-//! `NAME.out` has; each row of `NAME.rows` names its words, input, status and output.
+//! `NAME.out` has, with `--trace` what `NAME.trace` has, and with `--chart` what `NAME.mmd` and `NAME.svg` have, where they
+//! are there; each row of `NAME.rows` names its words, input, status and output.
 
 use crate::command::run_alone;
 use crate::failure::Failure;
@@ -55,8 +56,8 @@ pub(crate) fn check<R: Files + AllocGlobal + Clone + Drop, O: Write>(
 ) -> Result<(), Failure> {
     let mut counts = Counts::default();
     for name in &names_in(rt, folder)? {
-        if let Some(stem) = name.strip_suffix(".toml") {
-            check_script(rt, folder, stem, &mut counts, writer)?;
+        if let Some((stem, words)) = shown_by(name.as_str()) {
+            check_script(rt, folder, stem, name.as_str(), words, &mut counts, writer)?;
         } else if name.ends_with(".rows") {
             check_rows(rt, folder, name.as_str(), &mut counts, writer)?;
         }
@@ -93,7 +94,11 @@ fn listed<R: Files + AllocGlobal + Clone + Drop>(rt: &R, folder: &str) -> io::Re
 }
 
 /// What a failed read of a folder or file is.
-fn unreadable(alloc: Global, path: &str, error: &io::Error) -> Result<Failure, AllocError> {
+pub(crate) fn unreadable(
+    alloc: Global,
+    path: &str,
+    error: &io::Error,
+) -> Result<Failure, AllocError> {
     if error.kind() == io::ErrorKind::OutOfMemory {
         return Ok(Failure::Memory);
     }
@@ -119,22 +124,49 @@ fn text_of<R: Files + AllocGlobal>(rt: &R, folder: &str, name: &str) -> Result<S
     }
 }
 
+/// Whose run a file is, by its name's end, and with which words: that of the script `NAME.toml`, whose lines stand in
+/// `NAME.out`, whose trace in `NAME.trace`, and whose chart in `NAME.mmd` and `NAME.svg`.
+fn shown_by(name: &str) -> Option<(&str, &'static [&'static str])> {
+    let (stem, end) = name.rsplit_once('.')?;
+    match end {
+        "toml" => Some((stem, &["bpf_host", "world"])),
+        "trace" => Some((stem, &["bpf_host", "world", "--trace"])),
+        "mmd" => Some((stem, &["bpf_host", "world", "--chart"])),
+        "svg" => Some((stem, &["bpf_host", "world", "--chart", "svg"])),
+        _ => None,
+    }
+}
+
 /// Runs a script and compares what it prints.
 fn check_script<R: Files + AllocGlobal, O: Write>(
     rt: &R,
     folder: &str,
     stem: &str,
+    name: &str,
+    words: &[&str],
     counts: &mut Counts,
     writer: &mut O,
 ) -> Result<(), Failure> {
     let alloc = rt.alloc();
     let script = bytes_of(rt, folder, format!(in alloc; "{stem}.toml")?.as_str())?;
-    let wanted = text_of(rt, folder, format!(in alloc; "{stem}.out")?.as_str())?;
-    let ending = ending_of(alloc, &["bpf_host", "world"], &script);
-    let name = format!(in alloc; "{stem}.toml")?;
-    let is_same = compare(name.as_str(), wanted.as_str(), &ending, writer)?;
+    let wanted = wanted_of(rt, folder, stem, name)?;
+    let ending = ending_of(alloc, words, &script);
+    let is_same = compare(name, wanted.as_str(), &ending, writer)?;
     counts.add(is_same);
     Ok(())
+}
+
+/// What a run of a script is to print: the script's lines, or the file itself.
+fn wanted_of<R: Files + AllocGlobal>(
+    rt: &R,
+    folder: &str,
+    stem: &str,
+    name: &str,
+) -> Result<String, Failure> {
+    if name.ends_with(".toml") {
+        return text_of(rt, folder, format!(in rt.alloc(); "{stem}.out")?.as_str());
+    }
+    text_of(rt, folder, name)
 }
 
 /// Runs the rows of a file, one after another, and compares what they print and their status.

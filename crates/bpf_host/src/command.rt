@@ -4,9 +4,10 @@ ghost use Rattle.std.specs.Prelude.{◌≤◌};
 
 use crate::check::check;
 use crate::failure::Failure;
+use crate::worlds::{explore, explore_alone, explore_command, play, world_command};
 use clap::{Arg, ArgAction, ArgMatches, Command, value_parser};
 use code_commands::{Profile, asm, disasm, exec, verify};
-use host_script::{Audited, Played, run_script, run_threads};
+use host_script::{Audited, run_threads};
 use host_types::ClientId;
 use std::alloc::{AllocError, Global};
 use std::io::{Read, Write};
@@ -21,9 +22,9 @@ const DEFAULT_CLIENT: u32 = 16;
 const EXAMPLES: &str = "\
 Code and --args are hex, of either case; spaces, tabs and line ends are skipped. asm reads a text,
 one instruction or one label (`name:`) a line, and prints its code; disasm prints such a text.
-No command means exec. world and run read a script (docs/SCRIPTS.md); its faults name their step. run has
-requests and timeouts alone, and its replicas are threads. check runs each NAME.toml of a folder and each
-row of its NAME.rows, and says where one prints something else.
+No command means exec. world, explore and run read a script (docs/SCRIPTS.md); its faults name their step. explore
+runs it under each seed as the order of its deliveries. run has requests and timeouts alone, and its replicas are
+threads. check runs each NAME.toml of a folder and each row of its NAME.rows, and says where one prints something else.
 
 Examples:
   echo 'b700000007000000 9500000000000000' | bpf_host exec
@@ -33,6 +34,8 @@ Examples:
   printf 'mov64 r0, 7\\nexit\\n' | bpf_host asm
   echo 'b700000007000000 9500000000000000' | bpf_host disasm
   bpf_host world < script.toml
+  bpf_host world --trace < script.toml
+  bpf_host explore script.toml --seeds 0..1000 --workers 4
   bpf_host run < requests.toml
   bpf_host check examples/worlds
 
@@ -96,9 +99,8 @@ fn command_line<'a>(alloc: Global) -> Result<Command<'a>, AllocError> {
         .subcommand(verify_command(alloc)?)?
         .subcommand(exec_command(alloc)?)?
         .subcommand(check_command(alloc)?)?
-        .subcommand(Command::new(alloc, "world").about(
-            "Runs a script of replicas, some of them faulty",
-        ))?
+        .subcommand(world_command(alloc)?)?
+        .subcommand(explore_command(alloc)?)?
         .subcommand(Command::new(alloc, "run").about(
             "Runs a script of requests and timeouts on replicas in threads",
         ))
@@ -172,6 +174,7 @@ fn dispatch<
     match matches.subcommand() {
         Some(("check", options)) => check(rt, options.get_str("folder").unwrap_or("."), writer),
         Some(("run", _)) => run(rt, reader, writer),
+        Some(("explore", options)) => explore(rt, options, reader, writer),
         _ => run_parsed(rt.alloc(), &matches, reader, writer),
     }
 }
@@ -203,18 +206,11 @@ fn run_parsed<I: Read, O: Write>(
             reader,
             writer,
         )?),
-        Some(("world", _)) => play(alloc, reader, writer),
+        Some(("world", options)) => play(alloc, options, reader, writer),
+        Some(("explore", options)) => explore_alone(alloc, options, reader, writer),
         Some(("exec", options)) => call(alloc, options, reader, writer),
         Some(_) => Err(Failure::Nested),
         None => call(alloc, matches, reader, writer),
-    }
-}
-
-/// Runs a script of a world.
-fn play<I: Read, O: Write>(alloc: Global, reader: &mut I, writer: &mut O) -> Result<(), Failure> {
-    match run_script(alloc, reader, writer)? {
-        Played::Whole => Ok(()),
-        Played::Unexpected => Err(Failure::Refused),
     }
 }
 

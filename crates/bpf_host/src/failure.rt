@@ -32,6 +32,9 @@ pub enum Failure {
     /// The words of the command line are wrong, or ask for help.
     #[error("{0}")]
     CommandLine(clap::Error),
+    /// `--seeds` has no such range of numbers.
+    #[error("--seeds takes A..B, numbers of at most 63 bits with A below B")]
+    BadSeeds,
     /// A word of the command line isn't UTF-8.
     #[error("a word of the command line is not UTF-8")]
     WordNotUtf8,
@@ -58,7 +61,8 @@ impl Failure {
                 _ => 1,
             },
             Failure::Check(_) | Failure::Differs | Failure::Refused => 1,
-            Failure::Nested | Failure::CommandLine(_) | Failure::WordNotUtf8 => 2,
+            Failure::Nested | Failure::BadSeeds | Failure::CommandLine(_) | Failure::WordNotUtf8 =>
+                2,
             Failure::Memory => 3,
             Failure::Stream(_) => 4,
         }

@@ -9,6 +9,7 @@ mod check;
 mod command;
 mod failure;
 mod row;
+mod worlds;
 
 use command::{report, run_command};
 use failure::Failure;

@@ -51,7 +51,7 @@ fn run_steps<R: Wait, O: Write>(
     let mut number: u32 = 0;
     for step in script.steps.as_slice() {
         number = number.saturating_add(1);
-        let kind = match group.run(rt, step) {
+        let kind = match group.run(rt, &step.step) {
             Ok(line) => write_line(writer, &line),
             Err(_) => Err(ScriptKind::Memory),
         };

@@ -14,7 +14,7 @@ use Rattle.script_text.specs.declared.fault.ScriptKind.{ScriptKind}
 use Rattle.script_text.specs.declared.fault.ScriptKind.TheVariants as kinds
 use Rattle.script_text.specs.declared.fault.TableFault.{TableFault}
 use Rattle.script_text.specs.declared.fault.TableFault.TheVariants as faults
-use Rattle.script_text.specs.declared.script.Step.{Step}
+use Rattle.script_text.specs.declared.script.NamedStep.{NamedStep}
 
 -- It is no fault of a run.
 abbrev pub IsOfText : ScriptKind → Type 0
@@ -40,22 +40,22 @@ of_table faults.WrongValue = tt
 of_table faults.UnknownKey = tt
 of_table faults.BadConfig = tt
 
-of_step : (steps : List Step) (number : ℕ) (r : Result Step TableFault) → AreOfText (with_step steps number r)
+of_step : (steps : List NamedStep) (number : ℕ) (r : Result NamedStep TableFault) → AreOfText (with_step steps number r)
 of_step steps number (Ok s) = tt
 of_step steps number (Err fault) = of_table fault
 
-of_steps : (dialect : Dialect) (h : HeadFacts) (number : ℕ) (r : Result (List Step) ScriptFault) (ds : Items) → AreOfText r → AreOfText (steps_from dialect h number r ds)
+of_steps : (dialect : Dialect) (h : HeadFacts) (number : ℕ) (r : Result (List NamedStep) ScriptFault) (ds : Items) → AreOfText r → AreOfText (steps_from dialect h number r ds)
 of_steps dialect h number (Err fault) ds are = are
 of_steps dialect h number (Ok steps) no_items are = tt
 of_steps dialect h number (Ok steps) (item d ds) are =
-    let read = step dialect (replicas_for h.f) h.faulty h.clients d in
+    let read = step dialect (replicas_for h.f) h.faulty h.clients steps d in
     of_steps dialect h (next_step number) (with_step steps (next_step number) read) ds (of_step steps (next_step number) read)
 
 of_list : (dialect : Dialect) (h : HeadFacts) (o : Option Items) → AreOfText (steps_in dialect h o)
 of_list dialect h None = tt
 of_list dialect h (Some ds) = of_steps dialect h 0 (Ok []) ds tt
 
-of_parts : (h : HeadFacts) (r : Result (List Step) ScriptFault) → AreOfText r → AreOfText (script_from h r)
+of_parts : (h : HeadFacts) (r : Result (List NamedStep) ScriptFault) → AreOfText r → AreOfText (script_from h r)
 of_parts h (Ok steps) are = tt
 of_parts h (Err fault) are = are
 

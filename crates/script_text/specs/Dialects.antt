@@ -1,5 +1,5 @@
 -- Statement: what the scripts of a dialect may say. Those of running threads have requests for all replicas and timeouts
--- alone, no faulty replica and no leaf used.
+-- alone, no faulty replica, no leaf used and no named message.
 use Rattle.std.specs.Prelude.{ℕ, codes, List, Bool, true, false, Option, Some, None, Result, Ok, Err, is_some, bytes_eq, option_and_then, if◌then◌else◌}
 use Rattle.toml.specs.Data.{Data, Items, Members, no_items, item, as_array, as_str, as_table, get_member}
 use Rattle.host_types.specs.declared.ReplicaId.{ReplicaId}
@@ -8,10 +8,12 @@ use Rattle.script_text.specs.declared.dialect.Dialect.TheVariants.{World, Thread
 use Rattle.script_text.specs.declared.fault.TableFault.{TableFault}
 use Rattle.script_text.specs.declared.fault.TableFault.TheVariants.{MissingKey, UnknownKey, WrongValue}
 use Rattle.script_text.specs.declared.script.Client.{Client}
+use Rattle.script_text.specs.declared.script.NamedStep.{NamedStep}
 use Rattle.script_text.specs.declared.script.Step.{Step}
 use Rattle.script_text.specs.Faults.{least}
 use Rattle.script_text.specs.Forms.{if_found}
 use Rattle.script_text.specs.Heads.{HeadFacts, head_in}
+use Rattle.script_text.specs.Naming.{name_in, named}
 use Rattle.script_text.specs.Steps.{step_named}
 
 -- A reading where this is wrong, besides what is wrong with it.
@@ -41,23 +43,27 @@ head_for World members = head_in members
 head_for Threads members = unknown_where (is_some (get_member (codes "spent") members)) (wrong_where (names_faulty members) (head_in members))
 
 -- A step of running threads.
-abbrev pub thread_step : List ℕ → ℕ → List ReplicaId → List Client → Members → Result Step TableFault
-thread_step t count faulty clients members =
-    if bytes_eq t (codes "request") then wrong_where (is_some (get_member (codes "to") members)) (step_named t count faulty clients members)
-    else if bytes_eq t (codes "timeout") then step_named t count faulty clients members
+abbrev pub thread_step : List ℕ → ℕ → List ReplicaId → List Client → List NamedStep → Members → Result Step TableFault
+thread_step t count faulty clients earlier members =
+    if bytes_eq t (codes "request") then wrong_where (is_some (get_member (codes "to") members)) (step_named t count faulty clients earlier members)
+    else if bytes_eq t (codes "timeout") then step_named t count faulty clients earlier members
     else Err WrongValue
 
--- a step of this name in a dialect
-abbrev pub step_named_for : Dialect → List ℕ → ℕ → List ReplicaId → List Client → Members → Result Step TableFault
-step_named_for World t count faulty clients members = step_named t count faulty clients members
-step_named_for Threads t count faulty clients members = thread_step t count faulty clients members
+-- a step of this name in a dialect, behind these steps
+abbrev pub step_named_for : Dialect → List ℕ → ℕ → List ReplicaId → List Client → List NamedStep → Members → Result NamedStep TableFault
+step_named_for World t count faulty clients earlier members =
+    named (step_named t count faulty clients earlier members) (name_in earlier t members)
+step_named_for Threads t count faulty clients earlier members =
+    named (unknown_where (is_some (get_member (codes "as") members)) (thread_step t count faulty clients earlier members)) (Ok None)
 
-abbrev pub step_with : Dialect → ℕ → List ReplicaId → List Client → Members → Option Data → Result Step TableFault
-step_with dialect count faulty clients ms None = Err MissingKey
-step_with dialect count faulty clients ms (Some d) = if_found (λ t. step_named_for dialect t count faulty clients ms) (as_str d)
+abbrev pub step_with : Dialect → ℕ → List ReplicaId → List Client → List NamedStep → Members → Option Data → Result NamedStep TableFault
+step_with dialect count faulty clients earlier ms None = Err MissingKey
+step_with dialect count faulty clients earlier ms (Some d) =
+    if_found (λ t. step_named_for dialect t count faulty clients earlier ms) (as_str d)
 
-abbrev pub step_in : Dialect → ℕ → List ReplicaId → List Client → Members → Result Step TableFault
-step_in dialect count faulty clients members = step_with dialect count faulty clients members (get_member (codes "do") members)
+abbrev pub step_in : Dialect → ℕ → List ReplicaId → List Client → List NamedStep → Members → Result NamedStep TableFault
+step_in dialect count faulty clients earlier members =
+    step_with dialect count faulty clients earlier members (get_member (codes "do") members)
 
-abbrev pub step : Dialect → ℕ → List ReplicaId → List Client → Data → Result Step TableFault
-step dialect count faulty clients d = if_found (step_in dialect count faulty clients) (as_table d)
+abbrev pub step : Dialect → ℕ → List ReplicaId → List Client → List NamedStep → Data → Result NamedStep TableFault
+step dialect count faulty clients earlier d = if_found (step_in dialect count faulty clients earlier) (as_table d)

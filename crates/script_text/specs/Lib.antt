@@ -3,6 +3,7 @@ pub mod Forms
 pub mod KeyShapes
 pub mod Heads
 pub mod Kinds
+pub mod Naming
 pub mod Scripts
 pub mod Steps
 pub mod Dialects

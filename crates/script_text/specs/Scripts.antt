@@ -9,7 +9,7 @@ use Rattle.script_text.specs.declared.fault.ScriptFault.{ScriptFault}
 use Rattle.script_text.specs.declared.fault.ScriptKind.TheVariants.{NotToml, TooLong, Memory}
 use Rattle.script_text.specs.declared.fault.TableFault.{TableFault}
 use Rattle.script_text.specs.declared.script.Script.{Script}
-use Rattle.script_text.specs.declared.script.Step.{Step}
+use Rattle.script_text.specs.declared.script.NamedStep.{NamedStep}
 use Rattle.script_text.specs.Faults.{at_head, kind_of}
 use Rattle.script_text.specs.declared.dialect.Dialect.{Dialect}
 use Rattle.script_text.specs.declared.dialect.Dialect.TheVariants.{World, Threads}
@@ -25,30 +25,30 @@ IsScriptUnlessMemory (Err fault) is = (fault.kind ≡ Memory) ⊎ (is ≡ Err fa
 abbrev pub next_step : ℕ → ℕ
 next_step n = if nat_lt n 4294967295 then n + 1 else n
 
-abbrev pub with_step : List Step → ℕ → Result Step TableFault → Result (List Step) ScriptFault
+abbrev pub with_step : List NamedStep → ℕ → Result NamedStep TableFault → Result (List NamedStep) ScriptFault
 with_step steps number (Ok s) = Ok (steps ++ s ∷ [])
 with_step steps number (Err fault) = Err (record { kind = kind_of fault; step = number })
 
 -- The steps of a document behind these, of which the last has this number, or the first that has a fault.
-abbrev pub steps_from : Dialect → HeadFacts → ℕ → Result (List Step) ScriptFault → Items → Result (List Step) ScriptFault
+abbrev pub steps_from : Dialect → HeadFacts → ℕ → Result (List NamedStep) ScriptFault → Items → Result (List NamedStep) ScriptFault
 steps_from dialect h number (Err fault) ds = Err fault
 steps_from dialect h number (Ok steps) no_items = Ok steps
 steps_from dialect h number (Ok steps) (item d ds) =
-    steps_from dialect h (next_step number) (with_step steps (next_step number) (step dialect (replicas_for h.f) h.faulty h.clients d)) ds
+    steps_from dialect h (next_step number) (with_step steps (next_step number) (step dialect (replicas_for h.f) h.faulty h.clients steps d)) ds
 
 -- a vector that was read, as a list
-abbrev pub items_in : Result (Vec Step Global) ScriptFault → Result (List Step) ScriptFault
+abbrev pub items_in : Result (Vec NamedStep Global) ScriptFault → Result (List NamedStep) ScriptFault
 items_in (Ok v) = Ok v.items
 items_in (Err fault) = Err fault
 
 abbrev pub listed_steps : Members → Option Items
 listed_steps members = option_and_then as_array (get_member (codes "step") members)
 
-abbrev pub steps_in : Dialect → HeadFacts → Option Items → Result (List Step) ScriptFault
+abbrev pub steps_in : Dialect → HeadFacts → Option Items → Result (List NamedStep) ScriptFault
 steps_in dialect h None = Ok []
 steps_in dialect h (Some ds) = steps_from dialect h 0 (Ok []) ds
 
-abbrev pub script_from : HeadFacts → Result (List Step) ScriptFault → Result Script ScriptFault
+abbrev pub script_from : HeadFacts → Result (List NamedStep) ScriptFault → Result Script ScriptFault
 script_from h (Ok steps) = Ok (record { head = h; steps = steps })
 script_from h (Err fault) = Err fault
 
@@ -63,6 +63,19 @@ script_in dialect (Some members) = script_with dialect members (head_for dialect
 -- the document that a text is
 abbrev pub document : List ℕ → Option Members
 document bytes = if is_utf8 bytes then parse_document bytes else None
+
+-- how many steps a document lists
+abbrev pub count_in : Items → ℕ
+count_in no_items = 0
+count_in (item d ds) = count_in ds + 1
+
+abbrev pub count_of : Option Items → ℕ
+count_of None = 0
+count_of (Some ds) = count_in ds
+
+abbrev pub steps_listed : Option Members → ℕ
+steps_listed None = 0
+steps_listed (Some members) = count_of (listed_steps members)
 
 -- The script that a text is in a dialect. A text of over 1,048,576 bytes is none, whatever is in it; of several faults
 -- that of the least step is reported, the head being step 0.

@@ -14,15 +14,20 @@ use Rattle.script_text.specs.declared.script.Forgery.{Forgery}
 use Rattle.script_text.specs.declared.values.ForgedKind.{ForgedKind}
 use Rattle.script_text.specs.declared.values.ForgedKind.TheVariants as forged
 use Rattle.std.specs.Int.{to_be_bytes, w32}
+use Rattle.std.specs.Option.{option_map}
 use Rattle.host_types.specs.declared.ClientId.{ClientId}
 use Rattle.host_types.specs.declared.Digest.{Digest}
 use Rattle.host_types.specs.declared.ReplicaId.{ReplicaId}
 use Rattle.host_types.specs.declared.SeqNo.{SeqNo}
+use Rattle.script_text.specs.declared.script.NamedStep.{NamedStep}
 use Rattle.script_text.specs.declared.script.Order.{Order}
+use Rattle.script_text.specs.declared.script.Payload.{Payload}
+use Rattle.script_text.specs.declared.script.Payload.TheVariants.{Bytes, Message}
 use Rattle.script_text.specs.declared.script.Node.{Node}
 use Rattle.script_text.specs.declared.script.Step.{Step}
 use Rattle.script_text.specs.declared.script.Step.TheVariants as steps
 use Rattle.script_text.specs.declared.kind.Kind.{Kind}
+use Rattle.script_text.specs.Naming.{given_name}
 use Rattle.script_text.specs.Forms.{assembler_text, pair_of, client_name, faulty_index, hex_bytes, digest, forged_kind, kind_name, lines, list_of, needed_key, only_keys, optional_key, node, replica, sequence_number, up_to, yes}
 
 -- whose messages of the queue, for whom and of which kinds
@@ -41,10 +46,16 @@ abbrev pub filter_from : Result Selection TableFault → Result Filter TableFaul
 filter_from (Ok r) = Ok (filter_of r)
 filter_from (Err fault) = Err fault
 
--- which messages of the queue are meant
-abbrev pub filter_in : ℕ → List Client → Members → Result Filter TableFault
-filter_in count clients members =
-    filter_from (only_keys (selection_in count clients members) (codes "do" ∷ codes "from" ∷ codes "to" ∷ codes "kinds" ∷ []) members)
+-- which messages of the queue are meant, in a table of these keys
+abbrev pub filter_in : List (List ℕ) → ℕ → List Client → Members → Result Filter TableFault
+filter_in keys count clients members = filter_from (only_keys (selection_in count clients members) keys members)
+
+-- of a step that names no message, and of one that may
+abbrev pub filter_keys : List (List ℕ)
+filter_keys = codes "do" ∷ codes "from" ∷ codes "to" ∷ codes "kinds" ∷ []
+
+abbrev pub named_filter_keys : List (List ℕ)
+named_filter_keys = codes "do" ∷ codes "from" ∷ codes "to" ∷ codes "kinds" ∷ codes "as" ∷ []
 
 -- what is delivered, and the seed of a drawn order
 abbrev pub deliver_from : Result (Option ℕ × Selection) TableFault → Result Step TableFault
@@ -79,8 +90,8 @@ damage_at damage key members = damage_from damage (needed_key (up_to 92233720368
 abbrev pub mangle_in : ℕ → List Client → Members → Result Step TableFault
 mangle_in count clients members =
     if is_some (get_member (codes "cut") members)
-    then mangle_with (damage_at Cut (codes "cut") members) (codes "do" ∷ codes "from" ∷ codes "to" ∷ codes "kinds" ∷ codes "cut" ∷ []) count clients members
-    else mangle_with (damage_at Flip (codes "flip") members) (codes "do" ∷ codes "from" ∷ codes "to" ∷ codes "kinds" ∷ codes "flip" ∷ []) count clients members
+    then mangle_with (damage_at Cut (codes "cut") members) (codes "do" ∷ codes "from" ∷ codes "to" ∷ codes "kinds" ∷ codes "cut" ∷ codes "as" ∷ []) count clients members
+    else mangle_with (damage_at Flip (codes "flip") members) (codes "do" ∷ codes "from" ∷ codes "to" ∷ codes "kinds" ∷ codes "flip" ∷ codes "as" ∷ []) count clients members
 
 -- where timeouts come
 abbrev pub timeout_from : Result (List ReplicaId) TableFault → Result Step TableFault
@@ -118,16 +129,52 @@ abbrev pub expect_in : Members → Result Step TableFault
 expect_in members =
     expect_from (only_keys (needed_key lines (codes "lines") members) (codes "do" ∷ codes "lines" ∷ []) members)
 
+-- ---- raw bytes
+
 -- bytes, and for whom they are queued
-abbrev pub raw_from : Result (List Node × List ℕ) TableFault → Result Step TableFault
-raw_from (Ok r) = Ok (steps.Raw r.0 r.1)
+abbrev pub raw_from : Result (Payload × List Node) TableFault → Result Step TableFault
+raw_from (Ok r) = Ok (steps.Raw r.1 r.0)
 raw_from (Err fault) = Err fault
 
-abbrev pub raw_in : ℕ → List Client → Members → Result Step TableFault
-raw_in count clients members =
-    raw_from (only_keys
-    (pair_of (needed_key (list_of (node count clients)) (codes "to") members) (needed_key hex_bytes (codes "bytes") members))
-    (codes "do" ∷ codes "to" ∷ codes "bytes" ∷ []) members)
+abbrev pub raw_with : Result Payload TableFault → List (List ℕ) → ℕ → List Client → Members → Result Step TableFault
+raw_with payload keys count clients members =
+    raw_from (only_keys (pair_of payload (needed_key (list_of (node count clients)) (codes "to") members)) keys members)
+
+-- bytes that are given
+abbrev pub bytes_from : Result (List ℕ) TableFault → Result Payload TableFault
+bytes_from (Ok bytes) = Ok (Bytes bytes)
+bytes_from (Err fault) = Err fault
+
+abbrev pub bytes_in : Members → Result Payload TableFault
+bytes_in members = bytes_from (needed_key hex_bytes (codes "bytes") members)
+
+-- how they are changed, if there is such a key
+abbrev pub change_from : (ℕ → Damage) → Result (Option ℕ) TableFault → Result (Option Damage) TableFault
+change_from damage (Ok n) = Ok (option_map damage n)
+change_from damage (Err fault) = Err fault
+
+abbrev pub change_at : (ℕ → Damage) → List ℕ → Members → Result (Option Damage) TableFault
+change_at damage key members = change_from damage (optional_key (up_to 9223372036854775807) key members)
+
+-- those of a message that has a name
+abbrev pub message_from : Result (List ℕ × Option Damage) TableFault → Result Payload TableFault
+message_from (Ok r) = Ok (Message r.0 r.1)
+message_from (Err fault) = Err fault
+
+abbrev pub message_with : Result (Option Damage) TableFault → List NamedStep → Members → Result Payload TableFault
+message_with change earlier members = message_from (pair_of (needed_key (given_name earlier) (codes "message") members) change)
+
+-- Bytes where there is such a key, else those of a message: without the last ones where there is a key for that, else
+-- perhaps with a bit flipped.
+abbrev pub raw_in : ℕ → List Client → List NamedStep → Members → Result Step TableFault
+raw_in count clients earlier members =
+    if is_some (get_member (codes "bytes") members)
+    then raw_with (bytes_in members) (codes "do" ∷ codes "to" ∷ codes "bytes" ∷ codes "as" ∷ []) count clients members
+    else if is_some (get_member (codes "cut") members)
+    then raw_with (message_with (change_at Cut (codes "cut") members) earlier members)
+    (codes "do" ∷ codes "to" ∷ codes "message" ∷ codes "cut" ∷ codes "as" ∷ []) count clients members
+    else raw_with (message_with (change_at Flip (codes "flip") members) earlier members)
+    (codes "do" ∷ codes "to" ∷ codes "message" ∷ codes "flip" ∷ codes "as" ∷ []) count clients members
 
 -- who signs a forged message, and for whom it is queued
 abbrev pub route_in : ℕ → List ReplicaId → List Client → Members → Result (ReplicaId × List Node) TableFault
@@ -187,10 +234,10 @@ order_with op keys count clients members =
 abbrev pub order_in : ℕ → List Client → Members → Result Order TableFault
 order_in count clients members =
     if is_some (get_member (codes "install") members)
-    then order_with (install_in members) (codes "do" ∷ codes "client" ∷ codes "install" ∷ codes "to" ∷ []) count clients members
+    then order_with (install_in members) (codes "do" ∷ codes "client" ∷ codes "install" ∷ codes "to" ∷ codes "as" ∷ []) count clients members
     else if is_some (get_member (codes "asm") members)
-    then order_with (asm_in members) (codes "do" ∷ codes "client" ∷ codes "asm" ∷ codes "to" ∷ []) count clients members
-    else order_with (call_in members) (codes "do" ∷ codes "client" ∷ codes "call" ∷ codes "args" ∷ codes "to" ∷ []) count clients members
+    then order_with (asm_in members) (codes "do" ∷ codes "client" ∷ codes "asm" ∷ codes "to" ∷ codes "as" ∷ []) count clients members
+    else order_with (call_in members) (codes "do" ∷ codes "client" ∷ codes "call" ∷ codes "args" ∷ codes "to" ∷ codes "as" ∷ []) count clients members
 
 -- ---- a forged message
 
@@ -225,10 +272,10 @@ abbrev pub forged_vote_in : VoteKind → ℕ → List ReplicaId → List Client 
 forged_vote_in kind count faulty clients members =
     if is_some (get_member (codes "null") members)
     then forgery_with (vote_for kind (null_in members) members)
-    (codes "do" ∷ codes "from" ∷ codes "to" ∷ codes "kind" ∷ codes "view" ∷ codes "number" ∷ codes "null" ∷ [])
+    (codes "do" ∷ codes "from" ∷ codes "to" ∷ codes "kind" ∷ codes "view" ∷ codes "number" ∷ codes "null" ∷ codes "as" ∷ [])
     count faulty clients members
     else forgery_with (vote_for kind (named_in clients members) members)
-    (codes "do" ∷ codes "from" ∷ codes "to" ∷ codes "kind" ∷ codes "view" ∷ codes "number" ∷ codes "client" ∷ codes "time" ∷ [])
+    (codes "do" ∷ codes "from" ∷ codes "to" ∷ codes "kind" ∷ codes "view" ∷ codes "number" ∷ codes "client" ∷ codes "time" ∷ codes "as" ∷ [])
     count faulty clients members
 
 abbrev pub checkpoint_from : Result (SeqNo × Digest) TableFault → Result ForgedMessage TableFault
@@ -251,10 +298,10 @@ abbrev pub forgery_of : Result ForgedKind TableFault → ℕ → List ReplicaId 
 forgery_of (Ok (forged.Vote kind)) count faulty clients members = forged_vote_in kind count faulty clients members
 forgery_of (Ok forged.Checkpoint) count faulty clients members =
     forgery_with (checkpoint_in members)
-    (codes "do" ∷ codes "from" ∷ codes "to" ∷ codes "kind" ∷ codes "number" ∷ codes "digest" ∷ [])
+    (codes "do" ∷ codes "from" ∷ codes "to" ∷ codes "kind" ∷ codes "number" ∷ codes "digest" ∷ codes "as" ∷ [])
     count faulty clients members
 forgery_of (Ok forged.ViewChange) count faulty clients members =
-    forgery_with (view_change_in members) (codes "do" ∷ codes "from" ∷ codes "to" ∷ codes "kind" ∷ codes "view" ∷ [])
+    forgery_with (view_change_in members) (codes "do" ∷ codes "from" ∷ codes "to" ∷ codes "kind" ∷ codes "view" ∷ codes "as" ∷ [])
     count faulty clients members
 forgery_of (Err fault) count faulty clients members = forgery_from (pair_of (Err fault) (route_in count faulty clients members))
 
@@ -272,18 +319,18 @@ as_step step_of (Err fault) = Err fault
 abbrev pub bare : Step → Members → Result Step TableFault
 bare said members = only_keys (Ok said) (codes "do" ∷ []) members
 
--- a step of this name, under so many replicas, these faulty ones and these clients
-abbrev pub step_named : List ℕ → ℕ → List ReplicaId → List Client → Members → Result Step TableFault
-step_named t count faulty clients members =
+-- a step of this name, under so many replicas, these faulty ones and these clients, behind these steps
+abbrev pub step_named : List ℕ → ℕ → List ReplicaId → List Client → List NamedStep → Members → Result Step TableFault
+step_named t count faulty clients earlier members =
     if bytes_eq t (codes "request") then as_step steps.Request (order_in count clients members)
     else if bytes_eq t (codes "deliver") then deliver_in count clients members
-    else if bytes_eq t (codes "drop") then as_step steps.Drop (filter_in count clients members)
-    else if bytes_eq t (codes "repeat") then as_step steps.Repeat (filter_in count clients members)
-    else if bytes_eq t (codes "queue") then as_step steps.Queue (filter_in count clients members)
+    else if bytes_eq t (codes "drop") then as_step steps.Drop (filter_in filter_keys count clients members)
+    else if bytes_eq t (codes "repeat") then as_step steps.Repeat (filter_in named_filter_keys count clients members)
+    else if bytes_eq t (codes "queue") then as_step steps.Queue (filter_in named_filter_keys count clients members)
     else if bytes_eq t (codes "timeout") then timeout_in count members
     else if bytes_eq t (codes "forge") then as_step steps.Forge (forgery_in count faulty clients members)
     else if bytes_eq t (codes "mangle") then mangle_in count clients members
-    else if bytes_eq t (codes "raw") then raw_in count clients members
+    else if bytes_eq t (codes "raw") then raw_in count clients earlier members
     else if bytes_eq t (codes "show") then bare steps.Show members
     else if bytes_eq t (codes "digest") then bare steps.Digest members
     else if bytes_eq t (codes "state") then state_in count members

@@ -1,21 +1,21 @@
 //! A script from its text.
 
-ghost use Rattle.std.specs.Prelude.{◌≡◌, ◌⊎◌, [], None, Ok, Some, MatchResult, Result};
+ghost use Rattle.std.specs.Prelude.{◌≡◌, ◌≤◌, ◌⊎◌, [], None, Ok, Some, IfErr, MatchResult, Result};
 ghost use Rattle.std.specs.Option.{option_map};
 ghost use Rattle.toml.specs.Parse.{parse_document};
 ghost use Rattle.toml.specs.View.{items_view, table_view};
 ghost use Rattle.script_text.specs.Faults.{IsUnlessMemory, at_head};
 ghost use Rattle.script_text.specs.declared.fault.TableFault.{TableFault};
 ghost use Rattle.script_text.specs.declared.fault.ScriptKind.TheVariants.{Memory, NotToml};
-ghost use Rattle.script_text.specs.declared.script.Step.{Step as StepSaid};
-ghost use Rattle.script_text.specs.Scripts.{IsScriptUnlessMemory, document, items_in, listed_steps, next_step, script_for, script_in, script_of, steps_from, steps_in, thread_script_of, with_step};
+ghost use Rattle.script_text.specs.declared.script.NamedStep.{NamedStep as StepSaid};
+ghost use Rattle.script_text.specs.Scripts.{IsScriptUnlessMemory, count_in, document, items_in, listed_steps, next_step, script_for, script_in, script_of, steps_from, steps_in, steps_listed, thread_script_of, with_step};
 
 use crate::dialect::Dialect;
 use crate::fault::{ScriptFault, ScriptKind, TableFault};
 use crate::form::value_at;
 use crate::head::Head;
 use crate::head_keys::read_head;
-use crate::script::{Script, Step};
+use crate::script::{NamedStep, Script};
 use crate::step_keys::read_step;
 use pbft_codec::Sequence;
 use std::alloc::Global;
@@ -26,9 +26,10 @@ pub const MAX_SCRIPT: usize = 1_048_576;
 
 /// The script that a text is. Of several faults that of the least step is reported, the head being step
 /// 0, and of those of one step the one of least number; a text of more than 1,048,576 bytes is
-/// `TooLong`, whatever is in it. `Memory` may come instead of any of these.
+/// `TooLong`, whatever is in it. `Memory` may come instead of any of these, at step 0 or at a step that is listed.
 pub fn read_script(alloc: Global, bytes: &[u8]) -> Result<Script, ScriptFault>
-    ensures { IsScriptUnlessMemory result (script_of bytes.now) }
+    ensures value { IsScriptUnlessMemory result (script_of bytes.now) }
+    ensures listed { IfErr result (λ fault. fault.step ≤ steps_listed (document bytes.now)) }
 {
     read_text(alloc, Dialect::World, bytes)
 }
@@ -36,14 +37,16 @@ pub fn read_script(alloc: Global, bytes: &[u8]) -> Result<Script, ScriptFault>
 /// The script for running threads that a text is: its steps are requests without `to` and timeouts, and
 /// `faulty` is left out or empty; all else is `WrongValue`. The faults are otherwise those of `read_script`.
 pub fn read_thread_script(alloc: Global, bytes: &[u8]) -> Result<Script, ScriptFault>
-    ensures { IsScriptUnlessMemory result (thread_script_of bytes.now) }
+    ensures value { IsScriptUnlessMemory result (thread_script_of bytes.now) }
+    ensures listed { IfErr result (λ fault. fault.step ≤ steps_listed (document bytes.now)) }
 {
     read_text(alloc, Dialect::Threads, bytes)
 }
 
 /// The script that a text is in a dialect.
 fn read_text(alloc: Global, dialect: Dialect, bytes: &[u8]) -> Result<Script, ScriptFault>
-    ensures { IsScriptUnlessMemory result (script_for dialect bytes.now) }
+    ensures value { IsScriptUnlessMemory result (script_for dialect bytes.now) }
+    ensures listed { IfErr result (λ fault. fault.step ≤ steps_listed (document bytes.now)) }
 {
     if bytes.len() > MAX_SCRIPT {
         return Err(ScriptFault::at_head(ScriptKind::TooLong));
@@ -54,7 +57,8 @@ fn read_text(alloc: Global, dialect: Dialect, bytes: &[u8]) -> Result<Script, Sc
 
 /// The script that a document is.
 fn read_table(alloc: Global, dialect: Dialect, table: &Table) -> Result<Script, ScriptFault>
-    ensures { IsScriptUnlessMemory result (script_in dialect (Some (table_view table.now))) }
+    ensures value { IsScriptUnlessMemory result (script_in dialect (Some (table_view table.now))) }
+    ensures listed { IfErr result (λ fault. fault.step ≤ steps_listed (Some (table_view table.now))) }
 {
     let head = match read_head(alloc, dialect, table) {
         Ok(head) => head,
@@ -70,7 +74,8 @@ fn read_table(alloc: Global, dialect: Dialect, table: &Table) -> Result<Script, 
 /// The document that a text is.
 #[tactic(auto, using(crate::proofs::Documents::document_of_text, crate::proofs::Documents::document_of_others))]
 fn read_document(alloc: Global, bytes: &[u8]) -> Result<Table, ScriptFault>
-    ensures { MatchResult result (λ table. document bytes.now ≡ Some (table_view table)) (λ fault. (fault.kind ≡ Memory) ⊎ ((document bytes.now ≡ None) × (fault ≡ at_head NotToml))) }
+    ensures head { IfErr result (λ fault. fault.step ≡ 0) }
+    ensures value { MatchResult result (λ table. document bytes.now ≡ Some (table_view table)) (λ fault. (fault.kind ≡ Memory) ⊎ ((document bytes.now ≡ None) × (fault ≡ at_head NotToml))) }
 {
     match str::from_utf8(bytes) {
         Ok(text) => parsed(alloc, text),
@@ -79,7 +84,8 @@ fn read_document(alloc: Global, bytes: &[u8]) -> Result<Table, ScriptFault>
 }
 
 fn parsed(alloc: Global, text: &str) -> Result<Table, ScriptFault>
-    ensures { MatchResult result (λ table. parse_document text.now ≡ Some (table_view table)) (λ fault. (fault.kind ≡ Memory) ⊎ ((parse_document text.now ≡ None) × (fault ≡ at_head NotToml))) }
+    ensures head { IfErr result (λ fault. fault.step ≡ 0) }
+    ensures value { MatchResult result (λ table. parse_document text.now ≡ Some (table_view table)) (λ fault. (fault.kind ≡ Memory) ⊎ ((parse_document text.now ≡ None) × (fault ≡ at_head NotToml))) }
 {
     match toml::table_from_str(alloc, text) {
         Ok(table) => Ok(table),
@@ -94,8 +100,9 @@ fn read_steps(
     dialect: Dialect,
     head: &Head,
     table: &Table,
-) -> Result<Vec<Step>, ScriptFault>
-    ensures { IsScriptUnlessMemory (items_in result) (steps_in dialect head.now (listed_steps (table_view table.now))) }
+) -> Result<Vec<NamedStep>, ScriptFault>
+    ensures value { IsScriptUnlessMemory (items_in result) (steps_in dialect head.now (listed_steps (table_view table.now))) }
+    ensures listed { IfErr result (λ fault. fault.step ≤ steps_listed (Some (table_view table.now))) }
 {
     match listed_steps(table) {
         Some(values) => read_each_step(alloc, dialect, head, values),
@@ -110,19 +117,22 @@ fn listed_steps(table: &Table) -> Option<&Vec<Value>>
     value_at(table, "step")?.as_array()
 }
 
+#[tactic(auto, using(crate::proofs::Counting::counted, crate::proofs::Counting::next_within))]
 fn read_each_step(
     alloc: Global,
     dialect: Dialect,
     head: &Head,
     values: &[Value],
-) -> Result<Vec<Step>, ScriptFault>
-    ensures { IsScriptUnlessMemory (items_in result) (steps_from dialect head.now 0 (Ok []) (items_view values.now)) }
+) -> Result<Vec<NamedStep>, ScriptFault>
+    ensures value { IsScriptUnlessMemory (items_in result) (steps_from dialect head.now 0 (Ok []) (items_view values.now)) }
+    ensures listed { IfErr result (λ fault. fault.step ≤ count_in (items_view values.now)) }
 {
     let mut steps = Vec::new(alloc);
     let mut number = 0;
     for value in values {
         number = next_step(number);
-        steps = with_step(steps, number, read_step(alloc, dialect, head, value))?;
+        let step = read_step(alloc, dialect, head, &steps, value);
+        steps = with_step(steps, number, step)?;
     }
     Ok(steps)
 }
@@ -136,11 +146,12 @@ fn next_step(number: u32) -> u32
 
 /// Steps with one more, of this number.
 fn with_step(
-    mut steps: Vec<Step>,
+    mut steps: Vec<NamedStep>,
     number: u32,
-    step: Result<Step, TableFault>,
-) -> Result<Vec<Step>, ScriptFault>
-    ensures { (s : Result StepSaid TableFault) → IsUnlessMemory step s → IsScriptUnlessMemory (items_in result) (with_step steps.items number s) }
+    step: Result<NamedStep, TableFault>,
+) -> Result<Vec<NamedStep>, ScriptFault>
+    ensures value { (s : Result StepSaid TableFault) → IsUnlessMemory step s → IsScriptUnlessMemory (items_in result) (with_step steps.items number s) }
+    ensures at { IfErr result (λ fault. fault.step ≡ number) }
 {
     match step {
         Ok(step) => match steps.push(step) {

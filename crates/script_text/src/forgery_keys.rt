@@ -23,15 +23,15 @@ use seal::VoteKind;
 use std::alloc::Global;
 use toml::Table;
 
-const VOTE_KEYS: [&str; 8] = [
-    "do", "from", "to", "kind", "view", "number", "client", "time",
+const VOTE_KEYS: [&str; 9] = [
+    "do", "from", "to", "kind", "view", "number", "client", "time", "as",
 ];
 
-const NULL_VOTE_KEYS: [&str; 7] = ["do", "from", "to", "kind", "view", "number", "null"];
+const NULL_VOTE_KEYS: [&str; 8] = ["do", "from", "to", "kind", "view", "number", "null", "as"];
 
-const CHECKPOINT_KEYS: [&str; 6] = ["do", "from", "to", "kind", "number", "digest"];
+const CHECKPOINT_KEYS: [&str; 7] = ["do", "from", "to", "kind", "number", "digest", "as"];
 
-const VIEW_CHANGE_KEYS: [&str; 5] = ["do", "from", "to", "kind", "view"];
+const VIEW_CHANGE_KEYS: [&str; 6] = ["do", "from", "to", "kind", "view", "as"];
 
 /// Who signs a message, and for whom it is queued.
 type Route = (ReplicaId, Sequence<Node>);

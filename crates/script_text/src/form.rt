@@ -136,7 +136,7 @@ fn all_among(table: &Table, keys: &[&str]) -> bool
 }
 
 /// Whether a key is one of these.
-fn is_among(keys: &[&str], key: &str) -> bool
+pub(crate) fn is_among(keys: &[&str], key: &str) -> bool
     ensures { result ≡ list_any (λ k. bytes_eq key.now k.now) keys.now }
 {
     keys.iter().any(|other| key == *other)

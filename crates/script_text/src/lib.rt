@@ -2,8 +2,8 @@
 //! checked before the first one runs.
 //!
 //!     let script = read_script(alloc, &bytes)?;
-//!     for step in script.steps.as_slice() {
-//!         run(step)?;
+//!     for named in script.steps.as_slice() {
+//!         run(&named.step)?;
 //!     }
 #![tactic(auto)]
 
@@ -17,6 +17,8 @@ mod head;
 mod head_keys;
 mod kind;
 mod lines;
+mod naming;
+mod raw_keys;
 mod replica_keys;
 mod script;
 mod step_keys;
@@ -29,6 +31,6 @@ pub use head::Head;
 pub use kind::Kind;
 pub use replica_keys::KeyShape;
 pub use script::{
-    Client, Damage, Filter, ForgedMessage, ForgedVote, Forgery, Node, Number, Operation, Order,
-    Script, ScriptBytes, Secret, Step,
+    Client, Damage, Filter, ForgedMessage, ForgedVote, Forgery, MessageName, NamedStep, Node,
+    Number, Operation, Order, Payload, Script, ScriptBytes, Secret, Step,
 };

@@ -1,19 +1,20 @@
 //! What a script says.
 
-ghost use Rattle.std.specs.Prelude.{◌≡◌, ◌≤◌, ◌<◌, ◌^◌, length};
+ghost use Rattle.std.specs.Prelude.{◌≡◌, ◌≤◌, ◌<◌, ◌^◌, IfOk, length};
 
 use crate::head::Head;
 use crate::kind::Kind;
 use host_types::{Bytes, ClientId, Digest, ReplicaId, SeqNo, TenantId, View};
 use pbft_codec::Sequence;
 use seal::VoteKind;
+use std::alloc::{AllocError, Global};
 use std::marker::Model;
 
 /// A script that was read: its head, and its steps in order.
 #[derive(Drop)]
 pub struct Script {
     pub head: Head,
-    pub steps: Sequence<Step>,
+    pub steps: Sequence<NamedStep>,
 }
 
 /// What all keys of a script are made of.
@@ -180,6 +181,58 @@ impl Operation {
     }
 }
 
+/// What a script calls a message: any text.
+#[derive(Drop)]
+pub struct MessageName {
+    bytes: Bytes,
+}
+
+impl Model for MessageName {
+    ghost use Rattle.std.specs.Prelude.{ℕ, List};
+
+    ghost Value = { List ℕ };
+
+    ghost view = { λ n. n.bytes };
+}
+
+impl MessageName {
+    pub(crate) fn new(alloc: Global, text: &str) -> Result<MessageName, AllocError>
+        ensures { IfOk result (λ n. n ≡ text.now) }
+    {
+        Ok(MessageName {
+            bytes: Bytes::from_vec(Vec::from_slice(alloc, text.as_bytes())?),
+        })
+    }
+
+    /// Another one that is the same.
+    pub fn try_clone(&self, alloc: Global) -> Result<MessageName, AllocError>
+        ensures { IfOk result (λ n. n ≡ self.now) }
+    {
+        Ok(MessageName {
+            bytes: Bytes::from_vec(Vec::from_slice(alloc, self.bytes.as_slice())?),
+        })
+    }
+
+    /// The text as bytes.
+    pub fn as_slice(&self) -> &[u8]
+        ensures { result.now ≡ self.now }
+    {
+        self.bytes.as_slice()
+    }
+}
+
+/// What raw bytes are.
+#[derive(Drop)]
+pub enum Payload {
+    /// These bytes.
+    Bytes(ScriptBytes),
+    /// Those of the message that has a name, or how they are changed.
+    Message {
+        name: MessageName,
+        change: Option<Damage>,
+    },
+}
+
 /// A client's request.
 #[derive(Drop)]
 pub struct Order {
@@ -187,6 +240,14 @@ pub struct Order {
     pub op: Operation,
     /// Whom it is queued for; all replicas where it is left out.
     pub to: Option<Sequence<Node>>,
+}
+
+/// A step of a script, and the name that it gives to a message: the first that it queues, or the first that a
+/// `queue` lists.
+#[derive(Drop)]
+pub struct NamedStep {
+    pub step: Step,
+    pub name: Option<MessageName>,
 }
 
 /// A step of a script.
@@ -215,10 +276,10 @@ pub enum Step {
         filter: Filter,
         damage: Damage,
     },
-    /// Queues these bytes, which have no sender or kind.
+    /// Queues bytes, which have no sender or kind.
     Raw {
         to: Sequence<Node>,
-        bytes: ScriptBytes,
+        payload: Payload,
     },
     /// Prints where each correct replica stands.
     Show,

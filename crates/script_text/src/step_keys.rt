@@ -1,24 +1,32 @@
 //! The keys of a script's steps.
 
-ghost use Rattle.std.specs.Prelude.{◌≡◌, ◌∷◌, ℕ, IfOk, List, Result, codes, map};
+ghost use Rattle.std.specs.Prelude.{◌≡◌, ◌∷◌, ℕ, IfOk, List, Option, Result, codes, map};
 ghost use Rattle.host_types.specs.Configuration.{replicas_for};
 ghost use Rattle.toml.specs.View.{table_view, view};
 ghost use Rattle.script_text.specs.declared.fault.TableFault.{TableFault};
 ghost use Rattle.script_text.specs.declared.script.Damage.{Damage as DamageSaid};
 ghost use Rattle.script_text.specs.declared.script.Damage.TheVariants as damages;
+ghost use Rattle.script_text.specs.declared.script.Step.{Step as StepSaid};
 ghost use Rattle.script_text.specs.Faults.{IsUnlessMemory};
-ghost use Rattle.script_text.specs.Steps.{Selection as SelectionSaid, asm_in, bare, call_in, damage_at, deliver_in, expect_in, filter_in, filter_of, install_in, mangle_from, mangle_in, mangle_with, order_in, order_with, raw_in, selection_in, state_in, step_named, timeout_in, upgrade_in};
+ghost use Rattle.script_text.specs.Naming.{name_in, named};
+ghost use Rattle.script_text.specs.Steps.{Selection as SelectionSaid, asm_in, bare, call_in, damage_at, deliver_in, expect_in, filter_in, filter_of, install_in, mangle_from, mangle_in, mangle_with, order_in, order_with, selection_in, state_in, step_named, timeout_in, upgrade_in};
 ghost use Rattle.script_text.specs.Dialects.{step, step_named_for, thread_step};
 
 use crate::assembly::AssemblerText;
 use crate::dialect::Dialect;
 use crate::fault::TableFault;
 use crate::forgery_keys::read_forgery;
-use crate::form::{needed, optional, pair, value_at, with_only, wrong_where};
+use crate::form::{
+    is_among, needed, optional, pair, unknown_where, value_at, with_only, wrong_where,
+};
 use crate::head::Head;
 use crate::kind::Kind;
 use crate::lines::Lines;
-use crate::script::{Client, Damage, Filter, Node, Operation, Order, ScriptBytes, Step};
+use crate::naming::NewName;
+use crate::raw_keys::read_raw;
+use crate::script::{
+    Client, Damage, Filter, MessageName, NamedStep, Node, Operation, Order, ScriptBytes, Step,
+};
 use crate::values::{
     ClientName, HexBytes, KindName, ListOf, NodeName, ReplicaIndex, UpTo, Word, table_of,
 };
@@ -28,23 +36,23 @@ use pbft_codec::Sequence;
 use std::alloc::{AllocError, Global};
 use toml::{Table, Value};
 
-const INSTALL_KEYS: [&str; 4] = ["do", "client", "install", "to"];
+const INSTALL_KEYS: [&str; 5] = ["do", "client", "install", "to", "as"];
 
-const ASM_KEYS: [&str; 4] = ["do", "client", "asm", "to"];
+const ASM_KEYS: [&str; 5] = ["do", "client", "asm", "to", "as"];
 
-const CALL_KEYS: [&str; 5] = ["do", "client", "call", "args", "to"];
+const CALL_KEYS: [&str; 6] = ["do", "client", "call", "args", "to", "as"];
 
 const FILTER_KEYS: [&str; 4] = ["do", "from", "to", "kinds"];
+
+const NAMED_FILTER_KEYS: [&str; 5] = ["do", "from", "to", "kinds", "as"];
 
 const DELIVER_KEYS: [&str; 5] = ["do", "from", "to", "kinds", "order"];
 
 const TIMEOUT_KEYS: [&str; 2] = ["do", "at"];
 
-const CUT_KEYS: [&str; 5] = ["do", "from", "to", "kinds", "cut"];
+const CUT_KEYS: [&str; 6] = ["do", "from", "to", "kinds", "cut", "as"];
 
-const FLIP_KEYS: [&str; 5] = ["do", "from", "to", "kinds", "flip"];
-
-const RAW_KEYS: [&str; 3] = ["do", "to", "bytes"];
+const FLIP_KEYS: [&str; 6] = ["do", "from", "to", "kinds", "flip", "as"];
 
 const BARE_KEYS: [&str; 1] = ["do"];
 
@@ -53,6 +61,9 @@ const STATE_KEYS: [&str; 2] = ["do", "at"];
 const UPGRADE_KEYS: [&str; 2] = ["do", "bytes"];
 
 const EXPECT_KEYS: [&str; 2] = ["do", "lines"];
+
+/// The steps that may name a message: those that queue messages of their own, and `queue`.
+const NAMING_STEPS: [&str; 6] = ["request", "repeat", "queue", "forge", "mangle", "raw"];
 
 /// The greatest integer of a document.
 pub(crate) const MAX_INTEGER: u64 = 9_223_372_036_854_775_807;
@@ -70,22 +81,26 @@ pub(crate) struct Names<'a> {
     pub count: u8,
     pub faulty: &'a [ReplicaId],
     pub clients: &'a [Client],
+    /// The steps before this one.
+    pub earlier: &'a [NamedStep],
 }
 
-/// A step under a head. Its first fault is reported.
+/// A step under a head, behind these steps. Its first fault is reported.
 pub(crate) fn read_step(
     alloc: Global,
     dialect: Dialect,
     head: &Head,
+    earlier: &[NamedStep],
     value: &Value,
-) -> Result<Step, TableFault>
-    ensures { IsUnlessMemory result (step dialect (replicas_for head.now.f) head.now.faulty head.now.clients (view value.now)) }
+) -> Result<NamedStep, TableFault>
+    ensures { IsUnlessMemory result (step dialect (replicas_for head.now.f) head.now.faulty head.now.clients earlier.now (view value.now)) }
 {
     let table = table_of(value)?;
     let names = Names {
         count: head.replica_count(),
         faulty: head.faulty(),
         clients: head.clients(),
+        earlier,
     };
     match value_at(table, "do") {
         Some(value) => match value.as_str() {
@@ -96,19 +111,57 @@ pub(crate) fn read_step(
     }
 }
 
-/// A step of this name in a dialect.
+/// A step of this name in a dialect, and the name that it gives to a message.
 fn read_step_for(
     alloc: Global,
     dialect: Dialect,
     names: &Names<'_>,
     table: &Table,
     name: &str,
-) -> Result<Step, TableFault>
-    ensures { IsUnlessMemory result (step_named_for dialect name.now names.now.count names.now.faulty.now names.now.clients.now (table_view table.now)) }
+) -> Result<NamedStep, TableFault>
+    ensures { IsUnlessMemory result (step_named_for dialect name.now names.now.count names.now.faulty.now names.now.clients.now names.now.earlier.now (table_view table.now)) }
 {
     match dialect {
-        Dialect::World => read_named_step(alloc, names, table, name),
-        Dialect::Threads => read_thread_step(alloc, names, table, name),
+        Dialect::World => {
+            let step = read_named_step(alloc, names, table, name);
+            named(step, read_name(alloc, names, table, name))
+        }
+        Dialect::Threads => {
+            let step = read_thread_step(alloc, names, table, name);
+            let is_named = value_at(table, "as").is_some();
+            named(unknown_where(is_named, step), Ok(None))
+        }
+    }
+}
+
+/// The name that a step of this kind gives to a message.
+fn read_name(
+    alloc: Global,
+    names: &Names<'_>,
+    table: &Table,
+    name: &str,
+) -> Result<Option<MessageName>, TableFault>
+    ensures { IsUnlessMemory result (name_in names.now.earlier.now name.now (table_view table.now)) }
+{
+    if !is_among(&NAMING_STEPS, name) {
+        return Ok(None);
+    }
+    let form = NewName {
+        earlier: names.earlier,
+    };
+    optional(alloc, table, "as", &form)
+}
+
+/// A step and the name that it gives, as one.
+fn named(
+    step: Result<Step, TableFault>,
+    name: Result<Option<MessageName>, TableFault>,
+) -> Result<NamedStep, TableFault>
+    ensures { (s : Result StepSaid TableFault) (n : Result (Option (List ℕ)) TableFault) → IsUnlessMemory step s → IsUnlessMemory name n → IsUnlessMemory result (named s n) }
+{
+    match pair(step, name) {
+        Ok((step, name)) => Ok(NamedStep { step, name }),
+        Err(fault) => Err(fault),
     }
 }
 
@@ -119,7 +172,7 @@ fn read_thread_step(
     table: &Table,
     name: &str,
 ) -> Result<Step, TableFault>
-    ensures { IsUnlessMemory result (thread_step name.now names.now.count names.now.faulty.now names.now.clients.now (table_view table.now)) }
+    ensures { IsUnlessMemory result (thread_step name.now names.now.count names.now.faulty.now names.now.clients.now names.now.earlier.now (table_view table.now)) }
 {
     match name {
         "request" => wrong_where(
@@ -138,14 +191,14 @@ fn read_named_step(
     table: &Table,
     name: &str,
 ) -> Result<Step, TableFault>
-    ensures { IsUnlessMemory result (step_named name.now names.now.count names.now.faulty.now names.now.clients.now (table_view table.now)) }
+    ensures { IsUnlessMemory result (step_named name.now names.now.count names.now.faulty.now names.now.clients.now names.now.earlier.now (table_view table.now)) }
 {
     match name {
         "request" => Ok(Step::Request(read_request(alloc, names, table)?)),
         "deliver" => read_deliver(alloc, names, table),
-        "drop" => Ok(Step::Drop(read_filter(alloc, names, table)?)),
-        "repeat" => Ok(Step::Repeat(read_filter(alloc, names, table)?)),
-        "queue" => Ok(Step::Queue(read_filter(alloc, names, table)?)),
+        "drop" => Ok(Step::Drop(read_filter(alloc, names, table, &FILTER_KEYS)?)),
+        "repeat" => Ok(Step::Repeat(read_filter(alloc, names, table, &NAMED_FILTER_KEYS)?)),
+        "queue" => Ok(Step::Queue(read_filter(alloc, names, table, &NAMED_FILTER_KEYS)?)),
         "timeout" => read_timeout(alloc, names, table),
         "forge" => Ok(Step::Forge(read_forgery(alloc, names, table)?)),
         "mangle" => read_mangle(alloc, names, table),
@@ -268,12 +321,17 @@ fn read_deliver(alloc: Global, names: &Names<'_>, table: &Table) -> Result<Step,
     })
 }
 
-/// Which messages of the queue are meant.
-fn read_filter(alloc: Global, names: &Names<'_>, table: &Table) -> Result<Filter, TableFault>
-    ensures { IsUnlessMemory result (filter_in names.now.count names.now.clients.now (table_view table.now)) }
+/// Which messages of the queue are meant, in a table of these keys.
+fn read_filter(
+    alloc: Global,
+    names: &Names<'_>,
+    table: &Table,
+    keys: &[&str],
+) -> Result<Filter, TableFault>
+    ensures { IsUnlessMemory result (filter_in (map (λ k. k.now) keys.now) names.now.count names.now.clients.now (table_view table.now)) }
 {
     let selection = read_selection(alloc, names, table);
-    Ok(filter_of(with_only(selection, table, &FILTER_KEYS)?))
+    Ok(filter_of(with_only(selection, table, keys)?))
 }
 
 fn filter_of(selection: Selection) -> Filter
@@ -358,21 +416,6 @@ fn read_timeout(alloc: Global, names: &Names<'_>, table: &Table) -> Result<Step,
     let replica = ReplicaIndex { count: names.count };
     let named = needed(alloc, table, "at", &ListOf(replica));
     Ok(Step::Timeout(with_only(named, table, &TIMEOUT_KEYS)?))
-}
-
-fn read_raw(alloc: Global, names: &Names<'_>, table: &Table) -> Result<Step, TableFault>
-    ensures { IsUnlessMemory result (raw_in names.now.count names.now.clients.now (table_view table.now)) }
-{
-    let nodes = ListOf(NodeName {
-        count: names.count,
-        clients: names.clients,
-    });
-    let named = pair(
-        needed(alloc, table, "to", &nodes),
-        needed(alloc, table, "bytes", &HexBytes),
-    );
-    let (to, bytes) = with_only(named, table, &RAW_KEYS)?;
-    Ok(Step::Raw { to, bytes })
 }
 
 fn read_state(alloc: Global, names: &Names<'_>, table: &Table) -> Result<Step, TableFault>

@@ -8,23 +8,28 @@ use std::time::{Clock, Duration};
 /// How often a gate or a test looks before it gives up.
 pub const TURNS: u64 = 10_000;
 
-/// Counts the steps and the openings of replicas 0 to 3, and holds the first step of replica 0 until a
-/// replica has stepped, or bytes of replica 0 were opened, so often.
+/// What a gate is called with as the first lane of replica 1 begins; the second's is one more.
+pub const FIRST_LANE: u32 = 256 + 16;
+
+/// Counts the steps of replicas 0 to 3, how often the two lanes of replica 1 began, and the openings of
+/// replica 0. It holds the first step of replica 0, or of the first lane, as it is told to.
 #[derive(Drop)]
 pub struct Watch<R: Clock + Drop> {
     rt: R,
     steps: [AtomicU64; 4],
+    lanes: [AtomicU64; 2],
     openings: AtomicU64,
     held: Held,
     gave_up: AtomicU64,
 }
 
-/// What the first step of replica 0 waits for.
+/// What the first step of replica 0 waits for, or that of the first lane of replica 1.
 #[derive(Clone, Copy, Debug, PartialEq, Eq)]
 pub enum Held {
     No,
     UntilOneSteps,
     UntilTwoAreOpened,
+    LaneUntilTheOther,
 }
 
 impl<R: Clock + Drop> Watch<R> {
@@ -37,15 +42,23 @@ impl<R: Clock + Drop> Watch<R> {
                 AtomicU64::new(0),
                 AtomicU64::new(0),
             ],
+            lanes: [AtomicU64::new(0), AtomicU64::new(0)],
             openings: AtomicU64::new(0),
             held,
             gave_up: AtomicU64::new(0),
         }
     }
 
-    /// How often a replica was about to step.
-    pub fn steps(&self, id: u32) -> u64 {
-        match self.steps.get(id as usize) {
+    fn count(&self, who: u32) -> Option<&AtomicU64> {
+        match who.checked_sub(FIRST_LANE) {
+            Some(lane) => self.lanes.get(lane as usize),
+            None => self.steps.get(who as usize),
+        }
+    }
+
+    /// How often a replica was about to step, or a lane to begin.
+    pub fn steps(&self, who: u32) -> u64 {
+        match self.count(who) {
             Some(count) => count.load(Ordering::SeqCst),
             None => 0,
         }
@@ -61,6 +74,14 @@ impl<R: Clock + Drop> Watch<R> {
             Held::No => true,
             Held::UntilOneSteps => self.steps(1) > 0,
             Held::UntilTwoAreOpened => self.openings.load(Ordering::SeqCst) > 1,
+            Held::LaneUntilTheOther => self.steps(FIRST_LANE + 1) > 0,
+        }
+    }
+
+    fn is_held(&self, who: u32) -> bool {
+        match self.held {
+            Held::LaneUntilTheOther => who == FIRST_LANE,
+            _ => who == 0,
         }
     }
 
@@ -77,9 +98,9 @@ impl<R: Clock + Drop> Watch<R> {
 
 impl<R: Clock + Drop> Gate for Watch<R> {
     fn step(&self, who: u32) {
-        if let Some(count) = self.steps.get(who as usize) {
+        if let Some(count) = self.count(who) {
             let before = count.fetch_add(1, Ordering::SeqCst);
-            if who == 0 && before == 0 {
+            if before == 0 && self.is_held(who) {
                 self.hold();
             }
         }

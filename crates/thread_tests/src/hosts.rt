@@ -1,10 +1,10 @@
 //! Hosts: what is posted reaches the journals, and threads run beside one another.
 
 use crate::gates::{Held, Watch, wait_for_steps};
-use crate::place::{Place, four_replicas, install, session};
-use host_types::{Bytes, Config, ReplicaId};
+use crate::place::{CLIENT, Place, four_replicas, install, session};
+use host_types::{Bytes, ClientId, Config, ReplicaId};
 use lms_tree::Signer;
-use replica_core::{Input, Row};
+use replica_core::{Done, Input, Row};
 use replica_threads::{Host, HostFault};
 use std::alloc::Global;
 use std::sync::{Arc, Wait};
@@ -189,6 +189,72 @@ fn a_replica_steps_while_another_is_held(rt: HostRuntime) -> Result<(), Fail> {
 #[test]
 fn posts_are_opened_while_the_replica_is_held(rt: HostRuntime) -> Result<(), Fail> {
     held(&rt, rt.alloc(), Held::UntilTwoAreOpened)
+}
+
+// How many requests the replicas executed.
+fn executions(journals: &[(ReplicaId, Vec<Row>)]) -> usize {
+    let mut count: usize = 0;
+    for (_, rows) in journals {
+        for row in rows {
+            for done in row.done() {
+                if let Done::Executed { .. } = done {
+                    count = count.saturating_add(1);
+                }
+            }
+        }
+    }
+    count
+}
+
+// How many messages a closed host has left for the client: at most so many, and then `Closed`.
+fn replies_left<R: Wait>(rt: &R, host: &Host, most: usize) -> Result<usize, Fail> {
+    for count in 0..=most {
+        match host.receive(rt, CLIENT) {
+            Ok(_) => {}
+            Err(HostFault::Closed) => return Ok(count),
+            Err(_) => return Err(Fail::new("another fault than Closed")),
+        }
+    }
+    Err(Fail::new("more replies than executions"))
+}
+
+#[test]
+fn a_closed_host_gives_the_replies_that_are_left(rt: HostRuntime) -> Result<(), Fail> {
+    let alloc = rt.alloc();
+    let Place {
+        config,
+        signers,
+        client,
+    } = four_replicas(alloc)?;
+    let requests = requests(alloc, client, &config, 1)?;
+    let gate = Arc::new(alloc, Watch::new(rt, Held::No))?;
+    let host = Host::start(
+        &rt,
+        alloc,
+        &config,
+        signers,
+        LIMIT,
+        1,
+        Arc::try_clone(&gate)?,
+    )?;
+    let [request] = requests.as_slice() else {
+        return fail("not one request");
+    };
+    for id in 0..4u8 {
+        post_to(&rt, alloc, &host, id, request)?;
+    }
+    let _ = wait_for_steps(&rt, &*gate, 0, 7);
+    let executions = executions(&host.close(&rt)?);
+    if replies_left(&rt, &host, executions)? != executions {
+        return fail("not a reply for each execution");
+    }
+    if !matches!(host.receive(&rt, ClientId(17)), Err(HostFault::Closed)) {
+        return fail("a client that isn't listed gets a message");
+    }
+    if !matches!(host.close(&rt), Err(HostFault::Closed)) {
+        return fail("a closed host is closed again");
+    }
+    Ok(())
 }
 
 #[test]

@@ -9,6 +9,8 @@ mod gates;
 #[cfg(test)]
 mod hosts;
 #[cfg(test)]
+mod lanes;
+#[cfg(test)]
 mod levels;
 #[cfg(test)]
 mod place;

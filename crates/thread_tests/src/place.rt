@@ -23,7 +23,8 @@ pub struct Place {
     pub client: Signer,
 }
 
-fn signer(alloc: Global, number: u8) -> Result<Signer, AllocError> {
+/// A fresh signer of this number, whose key is of one tree.
+pub fn signer(alloc: Global, number: u8) -> Result<Signer, AllocError> {
     Signer::from_seed(alloc, Height::H5, [number; 16], [7; 32])
 }
 

@@ -1,5 +1,5 @@
 -- The events that lead to a stage's world.
-use Rattle.std.proofs.Common.{◌≡◌, ℕ, zero, suc, Bool, true, false, List, [], ◌∷◌, ◌++◌, Option, Some, None, Ok, Err, refl, ap, subst, ◌∙◌}
+use Rattle.std.proofs.Common.{◌≡◌, ℕ, zero, suc, Bool, true, false, List, [], ◌∷◌, ◌++◌, length, Option, Some, None, Ok, Err, refl, sym, ap, subst, ◌∙◌}
 use Rattle.std.specs.Prelude.{Result}
 use Rattle.host_types.specs.declared.ReplicaId.{ReplicaId}
 use Rattle.seal.specs.Opening.{CheckedMessage, opening}
@@ -16,16 +16,17 @@ use Rattle.script_text.specs.declared.script.Forgery.{Forgery}
 use Rattle.script_text.specs.declared.script.Node.{Node}
 use Rattle.script_text.specs.declared.script.Node.TheVariants.{Replica, Client}
 use Rattle.script_text.specs.declared.script.Order.{Order}
+use Rattle.script_text.specs.declared.script.NamedStep.{NamedStep}
 use Rattle.script_text.specs.declared.script.Script.{Script}
 use Rattle.script_text.specs.declared.script.Step.{Step}
 use Rattle.script_text.specs.declared.script.Step.TheVariants as steps
 use Rattle.world_script.specs.declared.forging.Forger.{Forger}
-use Rattle.world_script.specs.Expecting.{Scene, first_scene, unread_behind}
+use Rattle.world_script.specs.Expecting.{Scene, behind, first_scene}
 use Rattle.world_script.specs.Keys.{configuration_of}
 use Rattle.world_script.specs.Passing.{DoesPart, DoesPartOfFirst, IsOnRun, Passes, correct_signers}
 use Rattle.world_script.specs.Scripts.{Plays}
-use Rattle.world_script.specs.Stages.{AllTimeOut, Deliveries, Delivers, HandsTo, Occurs, Prints, Receives, StageFacts, TimesOut, Turn, at_client, forged_body, forged_by, forged_for, is_running, quiet, requested_by, signing_forger, signing_session}
-use Rattle.world_script.specs.Letters.{meant_count, passed_over}
+use Rattle.world_script.specs.Stages.{AllTimeOut, Deliveries, Delivers, HandsTo, Occurs, Prints, Receives, StageFacts, TimesOut, Turn, at_client, forged_body, forged_by, forged_for, is_running, message_of, payload_bytes, quiet, raw_by, requested_by, signing_forger, signing_session, with_named}
+use Rattle.world_script.specs.Letters.{LetterFacts, meant_count, passed_over}
 use Rattle.world_script.specs.Starts.{is_faulty, start_of}
 use Rattle.world_script.proofs.Hearing.{passed_hears}
 use Rattle.world_script.proofs.LegalHeads.{head_configuration, head_listed, script_legal}
@@ -99,6 +100,10 @@ forged_for_world : (s : StageFacts) (f : Forgery) (body : Option Body) → (forg
 forged_for_world s f None = refl
 forged_for_world s f (Some body) = forged_world s f body (signing_forger s.forgers f.from)
 
+raw_world : (s : StageFacts) (to : List Node) (bytes : Option (List ℕ)) → (raw_by s to bytes).1.world ≡ s.world
+raw_world s to None = refl
+raw_world s to (Some bytes) = refl
+
 prints_leads : (s : StageFacts) (step : Step) (text : List ℕ) (t : StageFacts) → Prints s step text t → Leads s.world t.world
 prints_leads s (steps.Request o) text t h = turned s t text (requested_by s o (signing_session s.sessions o.client)) (requested_world s o (signing_session s.sessions o.client)) h
 prints_leads s (steps.Deliver f order) text t h = deliveries_lead f order h.0 s text t h.2
@@ -107,22 +112,28 @@ prints_leads s (steps.Repeat f) text t h = turned s t text _ refl h
 prints_leads s (steps.Timeout at) text t h = all_time_leads s at t h.1
 prints_leads s (steps.Forge f) text t h = turned s t text (forged_for s f (forged_body s f.message)) (forged_for_world s f (forged_body s f.message)) h
 prints_leads s (steps.Mangle f damage) text t h = turned s t text _ refl h
-prints_leads s (steps.Raw to bytes) text t h = turned s t text _ refl h
+prints_leads s (steps.Raw to payload) text t h = turned s t text (raw_by s to (payload_bytes s.named payload)) (raw_world s to (payload_bytes s.named payload)) h
 prints_leads s other text t h = stays s.world t.world (ap (λ (x : StageFacts). x.world) h.1)
 
-plays_lead : (s : Scene) (xs : List Step) (text : List ℕ) (t : Scene) → Plays s xs text t → Leads s.stage.world t.stage.world
+named_world : (t : StageFacts) (name : Option (List ℕ)) (letter : Option LetterFacts) → t.world ≡ (with_named t name letter).world
+named_world t None letter = refl
+named_world t (Some name) None = refl
+named_world t (Some name) (Some letter) = refl
+
+plays_lead : (s : Scene) (xs : List NamedStep) (text : List ℕ) (t : Scene) → Plays s xs text t → Leads s.stage.world t.stage.world
 plays_lead s [] text t h = stays s.stage.world t.stage.world (ap (λ (x : Scene). x.stage.world) h.1)
 plays_lead s (x ∷ xs) text t (line, more, u, first, holds, rest, is) =
-    on s.stage.world u.world t.stage.world (prints_leads s.stage x line u first) (plays_lead (record { stage = u; unread = unread_behind s.unread x line }) xs more t rest)
+    on s.stage.world u.world t.stage.world (prints_leads s.stage x.step line u first)
+    (subst (λ (w : WorldFacts). Leads w t.stage.world) (sym (named_world u x.name (message_of (length s.stage.queue) x.step u))) (plays_lead (behind s x line u) xs more t rest))
 
 part_leads : (s : StageFacts) (step : Step) (t : StageFacts) → DoesPart s step t → Leads s.world t.world
 part_leads s (steps.Deliver f order) t (n, text, h) = deliveries_lead f order n s text t h
 part_leads s (steps.Timeout at) t (first, later, splits, h) = all_time_leads s first t h
 part_leads s other t h = stays s.world t.world (ap (λ (x : StageFacts). x.world) h)
 
-first_part_leads : (s : StageFacts) (xs : List Step) (t : StageFacts) → DoesPartOfFirst s xs t → Leads s.world t.world
+first_part_leads : (s : StageFacts) (xs : List NamedStep) (t : StageFacts) → DoesPartOfFirst s xs t → Leads s.world t.world
 first_part_leads s [] t h = stays s.world t.world (ap (λ (x : StageFacts). x.world) h)
-first_part_leads s (x ∷ xs) t h = part_leads s x t h
+first_part_leads s (x ∷ xs) t h = part_leads s x.step t h
 
 pub passed_leads : (script : Script) (t : StageFacts) → Passes script t → Leads (start_of script.head).world t.world
 passed_leads script t p =

@@ -1,5 +1,5 @@
 -- What the clients of a script have heard.
-use Rattle.std.proofs.Common.{◌≡◌, ℕ, zero, suc, Bool, true, false, cond, inl, inr, List, [], ◌∷◌, ◌++◌, map, Option, Some, None, Ok, Err, refl, sym, ap, subst, ◌∙◌}
+use Rattle.std.proofs.Common.{◌≡◌, ℕ, zero, suc, Bool, true, false, cond, inl, inr, List, [], ◌∷◌, ◌++◌, length, map, Option, Some, None, Ok, Err, refl, sym, ap, subst, ◌∙◌}
 use Rattle.std.specs.Prelude.{MatchOption, Result, nat_lt}
 use Rattle.std.specs.List.{AllByRecursion}
 use Rattle.host_types.specs.Configuration.{Configuration, replicas_for}
@@ -31,17 +31,18 @@ use Rattle.script_text.specs.declared.script.Forgery.{Forgery}
 use Rattle.script_text.specs.declared.script.Node.{Node}
 use Rattle.script_text.specs.declared.script.Node.TheVariants as nodes
 use Rattle.script_text.specs.declared.script.Order.{Order}
+use Rattle.script_text.specs.declared.script.NamedStep.{NamedStep}
 use Rattle.script_text.specs.declared.script.Script.{Script}
 use Rattle.script_text.specs.declared.script.Step.{Step}
 use Rattle.script_text.specs.declared.script.Step.TheVariants as steps
 use Rattle.script_text.specs.Heads.{HeadFacts}
 use Rattle.world_script.specs.declared.forging.Forger.{Forger}
-use Rattle.world_script.specs.Expecting.{Scene, first_scene, unread_behind}
+use Rattle.world_script.specs.Expecting.{Scene, behind, first_scene}
 use Rattle.world_script.specs.Keys.{configuration_of}
-use Rattle.world_script.specs.Letters.{meant_count, passed_over}
+use Rattle.world_script.specs.Letters.{LetterFacts, meant_count, passed_over}
 use Rattle.world_script.specs.Passing.{DoesPart, DoesPartOfFirst, HasHeard, Passes}
 use Rattle.world_script.specs.Scripts.{Plays}
-use Rattle.world_script.specs.Stages.{AllTimeOut, Deliveries, Delivers, HandsTo, Occurs, Prints, Receives, StageFacts, TimesOut, Turn, after_asking, at_client, at_first, forged_body, forged_by, forged_for, is_of, is_running, quiet, requested_by, signing_forger, signing_session}
+use Rattle.world_script.specs.Stages.{AllTimeOut, Deliveries, Delivers, HandsTo, Occurs, Prints, Receives, StageFacts, TimesOut, Turn, after_asking, at_client, at_first, forged_body, forged_by, forged_for, is_of, is_running, message_of, payload_bytes, quiet, raw_by, requested_by, signing_forger, signing_session, with_named}
 use Rattle.world_script.specs.Starts.{session_for, start_of}
 
 -- ---- an event keeps the configuration
@@ -215,6 +216,10 @@ forged_for_hears : (c : Configuration) (s : StageFacts) (f : Forgery) (body : Op
 forged_for_hears c s f None h = h
 forged_for_hears c s f (Some body) h = forged_hears c s f body (signing_forger s.forgers f.from) h
 
+raw_hears : (c : Configuration) (s : StageFacts) (to : List Node) (bytes : Option (List ℕ)) → Hears c s → Hears c (raw_by s to bytes).1
+raw_hears c s to None h = h
+raw_hears c s to (Some bytes) h = record { config = h.config; heard = h.heard }
+
 prints_hears : (c : Configuration) (s : StageFacts) (step : Step) (text : List ℕ) (t : StageFacts) → Prints s step text t → Hears c s → Hears c t
 prints_hears c s (steps.Request o) text t p h = turn_hears c t text (requested_by s o (signing_session s.sessions o.client)) (requested_hears c s o (signing_session s.sessions o.client) h) p
 prints_hears c s (steps.Deliver f order) text t p h = deliveries_hear c f order p.0 s text t p.2 h
@@ -223,22 +228,27 @@ prints_hears c s (steps.Repeat f) text t p h = turn_hears c t text _ (record { c
 prints_hears c s (steps.Timeout at) text t p h = all_time_hears c s at t p.1 h
 prints_hears c s (steps.Forge f) text t p h = turn_hears c t text (forged_for s f (forged_body s f.message)) (forged_for_hears c s f (forged_body s f.message) h) p
 prints_hears c s (steps.Mangle f damage) text t p h = turn_hears c t text _ (record { config = h.config; heard = h.heard }) p
-prints_hears c s (steps.Raw to bytes) text t p h = turn_hears c t text _ (record { config = h.config; heard = h.heard }) p
+prints_hears c s (steps.Raw to payload) text t p h = turn_hears c t text (raw_by s to (payload_bytes s.named payload)) (raw_hears c s to (payload_bytes s.named payload) h) p
 prints_hears c s other text t p h = subst (Hears c) (sym p.1) h
 
-plays_hear : (c : Configuration) (s : Scene) (xs : List Step) (text : List ℕ) (t : Scene) → Plays s xs text t → Hears c s.stage → Hears c t.stage
+named_hears : (c : Configuration) (t : StageFacts) (name : Option (List ℕ)) (letter : Option LetterFacts) → Hears c t → Hears c (with_named t name letter)
+named_hears c t None letter h = h
+named_hears c t (Some name) None h = h
+named_hears c t (Some name) (Some letter) h = record { config = h.config; heard = h.heard }
+
+plays_hear : (c : Configuration) (s : Scene) (xs : List NamedStep) (text : List ℕ) (t : Scene) → Plays s xs text t → Hears c s.stage → Hears c t.stage
 plays_hear c s [] text t p h = subst (λ (x : Scene). Hears c x.stage) (sym p.1) h
 plays_hear c s (x ∷ xs) text t (line, more, u, first, holds, rest, is) h =
-    plays_hear c (record { stage = u; unread = unread_behind s.unread x line }) xs more t rest (prints_hears c s.stage x line u first h)
+    plays_hear c (behind s x line u) xs more t rest (named_hears c u x.name (message_of (length s.stage.queue) x.step u) (prints_hears c s.stage x.step line u first h))
 
 part_hears : (c : Configuration) (s : StageFacts) (step : Step) (t : StageFacts) → DoesPart s step t → Hears c s → Hears c t
 part_hears c s (steps.Deliver f order) t (n, text, p) h = deliveries_hear c f order n s text t p h
 part_hears c s (steps.Timeout at) t (first, later, splits, p) h = all_time_hears c s first t p h
 part_hears c s other t same h = subst (Hears c) (sym same) h
 
-first_part_hears : (c : Configuration) (s : StageFacts) (xs : List Step) (t : StageFacts) → DoesPartOfFirst s xs t → Hears c s → Hears c t
+first_part_hears : (c : Configuration) (s : StageFacts) (xs : List NamedStep) (t : StageFacts) → DoesPartOfFirst s xs t → Hears c s → Hears c t
 first_part_hears c s [] t same h = subst (Hears c) (sym same) h
-first_part_hears c s (x ∷ xs) t p h = part_hears c s x t p h
+first_part_hears c s (x ∷ xs) t p h = part_hears c s x.step t p h
 
 fresh_heard : (h : HeadFacts) (cs : List Client) → AllByRecursion (HasHeard (configuration_of h)) (map (session_for h) cs)
 fresh_heard h [] = tt

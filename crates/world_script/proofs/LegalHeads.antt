@@ -18,7 +18,7 @@ use Rattle.script_text.specs.declared.dialect.Dialect.TheVariants.{World}
 use Rattle.script_text.specs.declared.fault.ScriptFault.{ScriptFault}
 use Rattle.script_text.specs.declared.script.Client.{Client}
 use Rattle.script_text.specs.declared.script.Script.{Script}
-use Rattle.script_text.specs.declared.script.Step.{Step}
+use Rattle.script_text.specs.declared.script.NamedStep.{NamedStep}
 use Rattle.world_script.specs.Keys.{configuration_of, entry_of, key_of, replica_signer, replica_signers, unkeyed}
 use Rattle.world_script.specs.Passing.{correct_signers}
 use Rattle.world_script.specs.Starts.{is_faulty}
@@ -92,7 +92,7 @@ head_legal members h =
     (λ is. absurd (err_ok is)))
     (λ fault is. absurd (err_ok is))
 
-from_steps : (h : HeadFacts) (r : Result (List Step) ScriptFault) (script : Script) → IsLegalHead h → script_from h r ≡ Ok script → IsLegalHead script.head
+from_steps : (h : HeadFacts) (r : Result (List NamedStep) ScriptFault) (script : Script) → IsLegalHead h → script_from h r ≡ Ok script → IsLegalHead script.head
 from_steps h (Ok xs) script known is = subst (λ (x : Script). IsLegalHead x.head) (ok_is _ script is) known
 from_steps h (Err fault) script known is = absurd (err_ok is)
 

@@ -7,6 +7,7 @@ mod Hearing
 mod Legal
 mod LegalHeads
 mod Listed
+mod Naming
 mod Lists
 mod Parties
 mod Playing

@@ -134,6 +134,17 @@ some_meant f (x ∷ xs) many none = by (is_meant f x) refl (some_meant f xs) whe
   by true is later = some_none (sym (none_then f xs x true is) ∙ none)
   by false is later = later (subst (λ (n : ℕ). 0 < n) (counted false is) many) (sym (none_then f xs x false is) ∙ none)
 
+-- the letter at a place behind none that are meant is the first
+pub place_first : (f : Filter) (ls : List LetterFacts) (index : ℕ) → IsPlace f 0 ls index → slice_get ls index ≡ first_meant f ls
+place_first f ls index p =
+    let below : index < length ls = slice_get_within ls index p.letter p.is_at in
+    let here : get_or ls index p.letter ≡ p.letter = some_same (sym (slice_get-get_or ls index p.letter below) ∙ p.is_at) in
+    let splits : ls ≡ take index ls ++ p.letter ∷ drop (index + 1) ls =
+    sym (take-append-drop index ls)
+    ∙ ap (λ (xs : List LetterFacts). take index ls ++ xs) (drop_more ls index p.letter below ∙ ap (λ (l : LetterFacts). l ∷ drop (index + 1) ls) here) in
+    p.is_at
+    ∙ sym (ap (first_meant f) splits ∙ is_first f (take index ls) p.letter (drop (index + 1) ls) (none_meant f (take index ls) p.passed_is) p.is_meant_one)
+
 -- the letter at a place is taken out
 pub taken_at : (f : Filter) (passed index : ℕ) (ls new : List LetterFacts) (found : Option LetterFacts) → IsPlace f passed ls index
     → ((d : LetterFacts) → index < length ls → found ≡ Some (get_or ls index d)) → OnSome found (new ≡ remove ls index) → IsSomeAnd found (λ l. IsTaken f passed ls l new)

@@ -1,22 +1,25 @@
 -- The steps of a script, one after another.
-use Rattle.std.proofs.Common.{◌≡◌, ℕ, ◌+◌, ◌<◌, ◌≤◌, List, [], ◌∷◌, ◌++◌, length, get_or, take, drop, Option, Ok, Err, refl, sym, ap, subst, ◌∙◌, inl, inr, arith}
+use Rattle.std.proofs.Common.{◌≡◌, ℕ, ◌+◌, ◌<◌, ◌≤◌, List, [], ◌∷◌, ◌++◌, length, get_or, take, drop, Option, Some, None, Ok, Err, refl, sym, ap, subst, ◌∙◌, inl, inr, arith}
 use Rattle.std.specs.Prelude.{Result, String, min}
 use Rattle.std.specs.Io.KnownBytes.{Appends}
 use Rattle.std.specs.String.{string_bytes}
 use Rattle.std.specs.declared.alloc.Global.{Global}
+use Rattle.std.proofs.lemmas.Option.{slice_get_past}
 use Rattle.std.proofs.lemmas.List.{append-nil, append_assoc, drop_more, length-take-le, take-append-drop, take_more}
 use Rattle.script_text.specs.declared.script.Filter.{Filter}
+use Rattle.script_text.specs.declared.script.NamedStep.{NamedStep}
 use Rattle.script_text.specs.declared.script.Script.{Script}
 use Rattle.script_text.specs.declared.script.Step.{Step}
 use Rattle.script_text.specs.declared.script.Step.TheVariants as steps
 use Rattle.world_script.specs.Endings.{Ends}
 use Rattle.world_script.specs.Faults.{kind_of}
-use Rattle.world_script.specs.Expecting.{Holds, IsUnexpected, MayPrint, Scene, first_scene, unread_behind}
+use Rattle.world_script.specs.Expecting.{Holds, IsUnexpected, MayPrint, Scene, behind, first_scene, unread_behind}
 use Rattle.world_script.specs.Lines.{unexpected_line}
 use Rattle.world_script.specs.Running.{Compares, Fails, RunsSteps, StepEnds}
 use Rattle.world_script.specs.Scripts.{BreaksOff, Plays}
 use Rattle.world_script.specs.Parts.{Performs}
-use Rattle.world_script.specs.Stages.{Begins, Overruns, Prints, StageFacts, Upgrades}
+use Rattle.world_script.specs.Letters.{LetterFacts}
+use Rattle.world_script.specs.Stages.{Begins, Overruns, Prints, StageFacts, Upgrades, after_naming, with_named}
 use Rattle.world_script.specs.Writing.{AppendsFront}
 use Rattle.world_script.specs.declared.fault.RunFault.{RunFault}
 use Rattle.world_script.specs.declared.fault.RunFault.TheVariants.{TooManyDeliveries, Write, Memory}
@@ -24,18 +27,14 @@ use Rattle.world_script.specs.declared.played.Played.{Played}
 use Rattle.world_script.specs.declared.played.Played.TheVariants.{Whole, Unexpected}
 use Rattle.world_script.proofs.Written.{both, front_then, nothing}
 
--- what is held behind a step
-abbrev behind : Scene → Step → List ℕ → StageFacts → Scene
-behind s step line t = record { stage = t; unread = unread_behind s.unread step line }
-
-pub plays_more : (steps : List Step) (step : Step) (s u : Scene) (t : StageFacts) (text line : List ℕ) → Plays s steps text u → Prints u.stage step line t → Holds u.unread step
+pub plays_more : (steps : List NamedStep) (step : NamedStep) (s u : Scene) (t : StageFacts) (text line : List ℕ) → Plays s steps text u → Prints u.stage step.step line t → Holds u.unread step.step
     → Plays s (steps ++ step ∷ []) (text ++ line) (behind u step line t)
 plays_more [] step s u t text line p one holds = (
   line,
   [],
   t,
-  subst (λ (v : Scene). Prints v.stage step line t) p.1 one,
-  subst (λ (v : Scene). Holds v.unread step) p.1 holds,
+  subst (λ (v : Scene). Prints v.stage step.step line t) p.1 one,
+  subst (λ (v : Scene). Holds v.unread step.step) p.1 holds,
   (refl, ap (λ (v : Scene). behind v step line t) p.1),
   ap (λ (bs : List ℕ). bs ++ line) p.0 ∙ sym (append-nil line),
 )
@@ -43,13 +42,13 @@ plays_more (x ∷ xs) step s u t text line p one holds =
     (p.0, p.1 ++ line, p.2, p.3, p.4, plays_more xs step (behind s x p.0 p.2) u t p.1 line p.5 one holds, ap (λ (bs : List ℕ). bs ++ line) p.6 ∙ append_assoc p.0 p.1 line)
 
 -- the step at this index breaks off
-breaks_at : (steps : List Step) (i : ℕ) (x : Step) (start scene : Scene) (number : ℕ) (Early : Scene → Step → List ℕ → Type 0) (front last : List ℕ) → i < length steps → x ≡ get_or steps i x
-    → number ≡ min (i + 1) 4294967295 → Plays start (take i steps) front scene → Early scene x last → BreaksOff start steps number Early (front ++ last)
+breaks_at : (steps : List NamedStep) (i : ℕ) (x : NamedStep) (start scene : Scene) (number : ℕ) (Early : Scene → Step → List ℕ → Type 0) (front last : List ℕ) → i < length steps → x ≡ get_or steps i x
+    → number ≡ min (i + 1) 4294967295 → Plays start (take i steps) front scene → Early scene x.step last → BreaksOff start steps number Early (front ++ last)
 breaks_at steps i x start scene number Early front last below read numbered plays early = record {
   before = take i steps;
   step = x;
   after = drop (i + 1) steps;
-  splits = sym (take-append-drop i steps) ∙ ap (λ (xs : List Step). take i steps ++ xs) (drop_more steps i x below) ∙ ap (λ (y : Step). take i steps ++ y ∷ drop (i + 1) steps) (sym read);
+  splits = sym (take-append-drop i steps) ∙ ap (λ (xs : List NamedStep). take i steps ++ xs) (drop_more steps i x below) ∙ ap (λ (y : NamedStep). take i steps ++ y ∷ drop (i + 1) steps) (sym read);
   number_is = numbered ∙ ap (λ (n : ℕ). min (n + 1) 4294967295) (sym (length-take-le i steps (within i (length steps) below)));
   front = front;
   last = last;
@@ -65,7 +64,7 @@ breaks_at steps i x start scene number Early front last below read numbered play
 abbrev pub AreDone : Script → ℕ → Option (List ℕ) → Option (List ℕ) → Scene → Type 0
 AreDone script i old new t = (text : List ℕ) × Plays (first_scene script.head) (take i script.steps) text t × Appends old new text
 
-pub fails : (fault : RunFault) (script : Script) (i : ℕ) (x : Step) (number : ℕ) (s t : Scene) (old mid new : Option (List ℕ)) → i < length script.steps → x ≡ get_or script.steps i x
+pub fails : (fault : RunFault) (script : Script) (i : ℕ) (x : NamedStep) (number : ℕ) (s t : Scene) (old mid new : Option (List ℕ)) → i < length script.steps → x ≡ get_or script.steps i x
     → number ≡ min (i + 1) 4294967295 → AreDone script i old mid s → StepEnds number s x mid new (Err fault) t → Fails (kind_of fault) script number old new
 fails TooManyDeliveries script i x number s t old mid new below read numbered is e =
     (is.0 ++ e.0, breaks_at script.steps i x (first_scene script.head) s number (λ s. Overruns s.stage) is.0 e.0 below read numbered is.1 e.1, both old mid new is.0 e.0 is.2 e.2)
@@ -74,7 +73,7 @@ fails Memory script i x number s t old mid new below read numbered is e =
 fails Write script i x number s t old mid new below read numbered is e =
     (is.0 ++ e.0, breaks_at script.steps i x (first_scene script.head) s number (MayPrint number) is.0 e.0 below read numbered is.1 e.1, front_then old mid new is.0 e.0 is.2 e.2)
 
-pub stops_unexpected : (script : Script) (i : ℕ) (x : Step) (number : ℕ) (s t : Scene) (old mid new : Option (List ℕ)) → i < length script.steps → x ≡ get_or script.steps i x
+pub stops_unexpected : (script : Script) (i : ℕ) (x : NamedStep) (number : ℕ) (s t : Scene) (old mid new : Option (List ℕ)) → i < length script.steps → x ≡ get_or script.steps i x
     → number ≡ min (i + 1) 4294967295 → AreDone script i old mid s → StepEnds number s x mid new (Ok Unexpected) t → RunsSteps script old new (Ok Unexpected)
 stops_unexpected script i x number s t old mid new below read numbered is e = (
   is.0 ++ e.0,
@@ -82,12 +81,12 @@ stops_unexpected script i x number s t old mid new below read numbered is e = (
   both old mid new is.0 e.0 is.2 e.2,
 )
 
-pub one_more_done : (script : Script) (i : ℕ) (x : Step) (number : ℕ) (s t : Scene) (old mid new : Option (List ℕ)) → i < length script.steps → x ≡ get_or script.steps i x
+pub one_more_done : (script : Script) (i : ℕ) (x : NamedStep) (number : ℕ) (s t : Scene) (old mid new : Option (List ℕ)) → i < length script.steps → x ≡ get_or script.steps i x
     → AreDone script i old mid s → StepEnds number s x mid new (Ok Whole) t → AreDone script (i + 1) old new t
 one_more_done script i x number s t old mid new below read is e = (
   is.0 ++ e.0,
   subst (λ (v : Scene). Plays (first_scene script.head) (take (i + 1) script.steps) (is.0 ++ e.0) v) (sym e.4)
-      (subst (λ (xs : List Step). Plays (first_scene script.head) xs (is.0 ++ e.0) (behind s x e.0 e.1)) (sym (take_more script.steps i x below ∙ ap (λ (y : Step). take i script.steps ++ y ∷ []) (sym read)))
+      (subst (λ (xs : List NamedStep). Plays (first_scene script.head) xs (is.0 ++ e.0) (behind s x e.0 e.1)) (sym (take_more script.steps i x below ∙ ap (λ (y : NamedStep). take i script.steps ++ y ∷ []) (sym read)))
       (plays_more (take i script.steps) x (first_scene script.head) s e.1 is.0 e.0 is.1 e.2 e.3)),
   both old mid new is.0 e.0 is.2 e.5,
 )
@@ -97,20 +96,35 @@ one_more_done script i x number s t old mid new below read is e = (
 nothing_more : (old new : Option (List ℕ)) → new ≡ old → Appends old new []
 nothing_more old new same = subst (λ (x : Option (List ℕ)). Appends old x []) (sym same) (nothing old)
 
-compares : (number : ℕ) (s : Scene) (expected : List ℕ) (old new : Option (List ℕ)) (r : Result Played RunFault) (later : List ℕ) → Compares number expected s.unread old new r later
-    → StepEnds number s (steps.Expect expected) old new r (record { stage = s.stage; unread = later })
-compares number s expected old new (Ok Whole) later c =
-    ([], s.stage, (refl, refl), c.0, ap (λ (x : List ℕ). record { stage = s.stage; unread = x }) c.1, nothing_more old new c.2)
-compares number s expected old new (Ok Unexpected) later c = (unexpected_line number c.0, (c.0, c.1, refl), c.2)
-compares number s expected old new (Err TooManyDeliveries) later c = absurd c
-compares number s expected old new (Err Memory) later c = ([], inl refl, nothing_more old new c)
-compares number s expected old new (Err Write) later c = (unexpected_line number c.0, inr (c.0, c.1, refl), c.2)
+-- a step without a message names none
+unnamed : (t : StageFacts) (name : Option (List ℕ)) → with_named t name None ≡ t
+unnamed t None = refl
+unnamed t (Some name) = refl
 
-pub compared : (number : ℕ) (s : Scene) (step : Step) (expected given : List ℕ) (old new : Option (List ℕ)) (r : Result Played RunFault) (later : List ℕ) → step ≡ steps.Expect expected → given ≡ expected
-    → Compares number given s.unread old new r later → StepEnds number s step old new r (record { stage = s.stage; unread = later })
-compared number s step expected given old new r later is same c =
-    subst (λ (x : Step). StepEnds number s x old new r (record { stage = s.stage; unread = later })) (sym is)
-    (compares number s expected old new r later (subst (λ (xs : List ℕ). Compares number xs s.unread old new r later) same c))
+nothing_named : (t : StageFacts) (name : Option (List ℕ)) (expected : List ℕ) → after_naming (length t.queue) (record { step = steps.Expect expected; name = name }) t ≡ t
+nothing_named t name expected =
+    ap (λ (o : Option LetterFacts). with_named t name o) (slice_get_past t.queue (length t.queue) (omega arith)) ∙ unnamed t name
+
+compares : (number : ℕ) (s : Scene) (name : Option (List ℕ)) (expected : List ℕ) (old new : Option (List ℕ)) (r : Result Played RunFault) (later : List ℕ) → Compares number expected s.unread old new r later
+    → StepEnds number s (record { step = steps.Expect expected; name = name }) old new r (record { stage = s.stage; unread = later })
+compares number s name expected old new (Ok Whole) later c = (
+  [],
+  s.stage,
+  (refl, refl),
+  c.0,
+  ap (λ (x : List ℕ). record { stage = s.stage; unread = x }) c.1 ∙ ap (λ (u : StageFacts). record { stage = u; unread = [] }) (sym (nothing_named s.stage name expected)),
+  nothing_more old new c.2,
+)
+compares number s name expected old new (Ok Unexpected) later c = (unexpected_line number c.0, (c.0, c.1, refl), c.2)
+compares number s name expected old new (Err TooManyDeliveries) later c = absurd c
+compares number s name expected old new (Err Memory) later c = ([], inl refl, nothing_more old new c)
+compares number s name expected old new (Err Write) later c = (unexpected_line number c.0, inr (c.0, c.1, refl), c.2)
+
+pub compared : (number : ℕ) (s : Scene) (x : NamedStep) (expected given : List ℕ) (old new : Option (List ℕ)) (r : Result Played RunFault) (later : List ℕ) → x.step ≡ steps.Expect expected → given ≡ expected
+    → Compares number given s.unread old new r later → StepEnds number s x old new r (record { stage = s.stage; unread = later })
+compared number s x expected given old new r later is same c =
+    subst (λ (step : Step). StepEnds number s (record { step = step; name = x.name }) old new r (record { stage = s.stage; unread = later })) (sym is)
+    (compares number s x.name expected old new r later (subst (λ (xs : List ℕ). Compares number xs s.unread old new r later) same c))
 
 -- ---- another step
 
@@ -118,21 +132,39 @@ begun : (s : StageFacts) (step : Step) (text : List ℕ) (t : StageFacts) → Pr
 begun s (steps.Deliver f order) text t p = (p.0, t, p.1, p.2)
 begun s other text t p = inr (t, p)
 
-module _ (number : ℕ) (s : Scene) (old new : Option (List ℕ)) (t : Scene) where
-  -- It is done, and its text is noted.
-  pub step_done : (step : Step) (text later : List ℕ) (u : StageFacts) → ((e : List ℕ) → step ≡ steps.Expect e → ⊥) → Prints s.stage step text u → Appends old new text → later ≡ s.unread ++ text
-      → t ≡ record { stage = u; unread = later } → StepEnds number s step old new (Ok Whole) t
-  step_done (steps.Expect e) text later u other p a is same = absurd (other e refl)
-  step_done step text later u other p a is same = (text, u, p, tt, same ∙ ap (λ (x : List ℕ). record { stage = u; unread = x }) is, a)
+abbrev IsOther : Step → Type 0
+IsOther step = (e : List ℕ) → step ≡ steps.Expect e → ⊥
 
-  pub step_fails : (step : Step) (fault : RunFault) (u : StageFacts) → Ends s.stage step old new (Err fault) u → StepEnds number s step old new (Err fault) t
-  step_fails step TooManyDeliveries u e = e
-  step_fails step Memory u e = e
-  step_fails step Write u e = (e.0, inl e.1, e.2)
+other_holds : (unread : List ℕ) (step : Step) → IsOther step → Holds unread step
+other_holds unread (steps.Expect e) other = absurd (other e refl)
+other_holds unread step other = tt
 
-  -- It is done, but memory runs out for its text.
-  pub step_unnoted : (step : Step) (text : List ℕ) (u : StageFacts) → Prints s.stage step text u → Appends old new text → StepEnds number s step old new (Err Memory) t
-  step_unnoted step text u p a = (text, begun s.stage step text u p, a)
+other_unread : (unread text : List ℕ) (step : Step) → IsOther step → unread_behind unread step text ≡ unread ++ text
+other_unread unread text (steps.Expect e) other = absurd (other e refl)
+other_unread unread text step other = refl
+
+module _ (number : ℕ) (s : Scene) (x : NamedStep) (old new : Option (List ℕ)) (t : Scene) where
+  -- It is done, and its text and the message that it names are noted.
+  pub step_done : (text later : List ℕ) (u v : StageFacts) → IsOther x.step → Prints s.stage x.step text u → Appends old new text → later ≡ s.unread ++ text
+      → v ≡ after_naming (length s.stage.queue) x u → t ≡ record { stage = v; unread = later } → StepEnds number s x old new (Ok Whole) t
+  step_done text later u v other p a is named same = (
+    text,
+    u,
+    p,
+    other_holds s.unread x.step other,
+    same ∙ ap (λ (w : StageFacts). record { stage = w; unread = later }) named
+        ∙ ap (λ (l : List ℕ). record { stage = after_naming (length s.stage.queue) x u; unread = l }) (is ∙ sym (other_unread s.unread text x.step other)),
+    a,
+  )
+
+  pub step_fails : (fault : RunFault) (u : StageFacts) → Ends s.stage x.step old new (Err fault) u → StepEnds number s x old new (Err fault) t
+  step_fails TooManyDeliveries u e = e
+  step_fails Memory u e = e
+  step_fails Write u e = (e.0, inl e.1, e.2)
+
+  -- It is done, but memory runs out for its text or its message.
+  pub step_unnoted : (text : List ℕ) (u : StageFacts) → Prints s.stage x.step text u → Appends old new text → StepEnds number s x old new (Err Memory) t
+  step_unnoted text u p a = (text, begun s.stage x.step text u p, a)
 
 -- the canonical encoding of a state is printed, or that there is none
 pub upgraded : (s t : StageFacts) (step : Step) (bytes given text : List ℕ) → step ≡ steps.Upgrade bytes → given ≡ bytes → t ≡ s → Upgrades s.world.config given text → Performs s step text t

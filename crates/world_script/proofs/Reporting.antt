@@ -1,15 +1,15 @@
 -- How a run of a script ends, and the line of its fault.
-use Rattle.std.proofs.Common.{◌≡◌, ◌⊎◌, ℕ, List, [], ◌++◌, Option, Some, None, Result, Ok, Err, refl, sym, subst, inl, inr}
+use Rattle.std.proofs.Common.{◌≡◌, ◌≤◌, ◌⊎◌, ℕ, List, [], ◌++◌, Option, Some, None, Result, Ok, Err, refl, sym, subst, inl, inr, arith}
 use Rattle.std.specs.Prelude.{IfSome}
 use Rattle.std.specs.Io.KnownBytes.{Appends}
-use Rattle.script_text.specs.Scripts.{script_of}
+use Rattle.script_text.specs.Scripts.{document, script_of, steps_listed}
 use Rattle.script_text.specs.declared.fault.ScriptFault.{ScriptFault}
 use Rattle.script_text.specs.declared.fault.ScriptKind.{ScriptKind}
 use Rattle.script_text.specs.declared.fault.ScriptKind.TheVariants as kinds
 use Rattle.script_text.specs.declared.script.Script.{Script}
 use Rattle.script_text.specs.declared.script.Step.{Step}
 use Rattle.world_script.specs.Running.{Fails, PlaysInput, PlaysWhatIsRead, Reports, RunsSteps, StopsAt}
-use Rattle.world_script.specs.Scripts.{BreaksOff, Breaks, Writes, WritesBefore, WritesFault, WritesWhatIsRead, fault_line}
+use Rattle.world_script.specs.Scripts.{BreaksOff, Breaks, IsStarved, Writes, WritesBefore, WritesFault, WritesWhatIsRead, fault_line}
 use Rattle.world_script.specs.Expecting.{IsUnexpected, Scene, first_scene}
 use Rattle.world_script.specs.Stages.{Begins}
 use Rattle.world_script.specs.declared.played.Played.{Played}
@@ -20,37 +20,41 @@ use Rattle.world_script.proofs.Written.{both, front_then, nothing}
 
 -- ---- a text that is no script
 
-refused_by : (k : ScriptKind) (input : List ℕ) (fault : ScriptFault) (old : Option (List ℕ)) → IsOfText k → script_of input ≡ Err fault → StopsAt k input fault old old
-refused_by kinds.NotToml input fault old of is = ([], (is, refl), nothing old)
-refused_by kinds.MissingKey input fault old of is = ([], (is, refl), nothing old)
-refused_by kinds.WrongValue input fault old of is = ([], (is, refl), nothing old)
-refused_by kinds.UnknownKey input fault old of is = ([], (is, refl), nothing old)
-refused_by kinds.BadConfig input fault old of is = ([], (is, refl), nothing old)
-refused_by kinds.TooLong input fault old of is = ([], (is, refl), nothing old)
-refused_by kinds.Memory input fault old of is = ([], inl refl, nothing old)
-refused_by kinds.TooManyDeliveries input fault old of is = absurd of
-refused_by kinds.Read input fault old of is = absurd of
-refused_by kinds.Write input fault old of is = absurd of
+-- its step is none or one that is listed
+abbrev pub IsListed : List ℕ → ScriptFault → Type 0
+IsListed input fault = fault.step ≤ steps_listed (document input)
+
+refused_by : (k : ScriptKind) (input : List ℕ) (fault : ScriptFault) (old : Option (List ℕ)) → IsOfText k → script_of input ≡ Err fault → IsListed input fault → StopsAt k input fault old old
+refused_by kinds.NotToml input fault old of is listed = ([], (is, refl), nothing old)
+refused_by kinds.MissingKey input fault old of is listed = ([], (is, refl), nothing old)
+refused_by kinds.WrongValue input fault old of is listed = ([], (is, refl), nothing old)
+refused_by kinds.UnknownKey input fault old of is listed = ([], (is, refl), nothing old)
+refused_by kinds.BadConfig input fault old of is listed = ([], (is, refl), nothing old)
+refused_by kinds.TooLong input fault old of is listed = ([], (is, refl), nothing old)
+refused_by kinds.Memory input fault old of is listed = ([], inl (refl, listed), nothing old)
+refused_by kinds.TooManyDeliveries input fault old of is listed = absurd of
+refused_by kinds.Read input fault old of is listed = absurd of
+refused_by kinds.Write input fault old of is listed = absurd of
 
 abbrev pub LacksMemoryOrIs : List ℕ → ScriptFault → Type 0
 LacksMemoryOrIs input fault = (fault.kind ≡ kinds.Memory) ⊎ (script_of input ≡ Err fault)
 
-refused_input : (input : List ℕ) (fault : ScriptFault) (old : Option (List ℕ)) → LacksMemoryOrIs input fault → PlaysInput input old old (Err fault)
-refused_input input fault old (inl lacks) = subst (λ (k : ScriptKind). StopsAt k input fault old old) (sym lacks) ([], inl refl, nothing old)
-refused_input input fault old (inr is) = refused_by fault.kind input fault old (is_of_text input fault is) is
+refused_input : (input : List ℕ) (fault : ScriptFault) (old : Option (List ℕ)) → LacksMemoryOrIs input fault → IsListed input fault → PlaysInput input old old (Err fault)
+refused_input input fault old (inl lacks) listed = subst (λ (k : ScriptKind). StopsAt k input fault old old) (sym lacks) ([], inl (refl, listed), nothing old)
+refused_input input fault old (inr is) listed = refused_by fault.kind input fault old (is_of_text input fault is) is listed
 
-pub refused : (known : Option (List ℕ)) (bytes : List ℕ) (fault : ScriptFault) (old : Option (List ℕ)) → IfSome known (λ xs. bytes ≡ xs) → LacksMemoryOrIs bytes fault → PlaysWhatIsRead known old old (Err fault)
-refused None bytes fault old same is = tt
-refused (Some xs) bytes fault old same is = subst (λ (input : List ℕ). PlaysInput input old old (Err fault)) same (refused_input bytes fault old is)
+pub refused : (known : Option (List ℕ)) (bytes : List ℕ) (fault : ScriptFault) (old : Option (List ℕ)) → IfSome known (λ xs. bytes ≡ xs) → LacksMemoryOrIs bytes fault → IsListed bytes fault → PlaysWhatIsRead known old old (Err fault)
+refused None bytes fault old same is listed = tt
+refused (Some xs) bytes fault old same is listed = subst (λ (input : List ℕ). PlaysInput input old old (Err fault)) same (refused_input bytes fault old is listed)
 
 -- ---- a script that runs
 
 breaks : (input : List ℕ) (script : Script) (number : ℕ) (Early : Scene → Step → List ℕ → Type 0) (text : List ℕ) → script_of input ≡ Ok script → BreaksOff (first_scene script.head) script.steps number Early text → Breaks input number Early text
 breaks input script number Early text is off = record { script = script; is = is; off = off }
 
-lacked : (input : List ℕ) (script : Script) (number : ℕ) (text : List ℕ) → script_of input ≡ Ok script → (text ≡ []) ⊎ BreaksOff (first_scene script.head) script.steps number (λ s. Begins s.stage) text
-    → (text ≡ []) ⊎ Breaks input number (λ s. Begins s.stage) text
-lacked input script number text is (inl none) = inl none
+lacked : (input : List ℕ) (script : Script) (number : ℕ) (text : List ℕ) → script_of input ≡ Ok script → ((text ≡ []) × (number ≡ 0)) ⊎ BreaksOff (first_scene script.head) script.steps number (λ s. Begins s.stage) text
+    → IsStarved input number text ⊎ Breaks input number (λ s. Begins s.stage) text
+lacked input script number text is (inl (none, first)) = inl (none, omega (arith, first))
 lacked input script number text is (inr off) = inr (breaks input script number (λ s. Begins s.stage) text is off)
 
 stops : (k : ScriptKind) (input : List ℕ) (script : Script) (fault : ScriptFault) (old new : Option (List ℕ)) → script_of input ≡ Ok script → Fails k script fault.step old new → StopsAt k input fault old new

@@ -1,9 +1,10 @@
 -- Statement: what an `expect` compares, and where that differs.
-use Rattle.std.specs.Prelude.{◌≡◌, ℕ, ◌+◌, ◌==◌, List, [], ◌∷◌, ◌++◌, Option, Some, None, ◌⊎◌, if◌then◌else◌}
+use Rattle.std.specs.Prelude.{◌≡◌, ℕ, ◌+◌, ◌==◌, List, [], ◌∷◌, ◌++◌, length, Option, Some, None, ◌⊎◌, if◌then◌else◌}
+use Rattle.script_text.specs.declared.script.NamedStep.{NamedStep}
 use Rattle.script_text.specs.declared.script.Step.{Step}
 use Rattle.script_text.specs.declared.script.Step.TheVariants as steps
 use Rattle.world_script.specs.Lines.{unexpected_line}
-use Rattle.world_script.specs.Stages.{Begins, StageFacts}
+use Rattle.world_script.specs.Stages.{Begins, StageFacts, after_naming}
 use Rattle.world_script.specs.Starts.{start_of}
 use Rattle.script_text.specs.Heads.{HeadFacts}
 
@@ -36,6 +37,10 @@ Holds unread other = Unit {0}
 abbrev pub unread_behind : List ℕ → Step → List ℕ → List ℕ
 unread_behind unread (steps.Expect expected) text = []
 unread_behind unread other text = unread ++ text
+
+-- what is held behind a step that printed this and led to this stage
+abbrev pub behind : Scene → NamedStep → List ℕ → StageFacts → Scene
+behind s x text t = record { stage = after_naming (length s.stage.queue) x t; unread = unread_behind s.unread x.step text }
 
 -- An `expect`, the step of this number, finds other lines, and says which.
 abbrev pub IsUnexpected : ℕ → Scene → Step → List ℕ → Type 0

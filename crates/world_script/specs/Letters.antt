@@ -49,6 +49,11 @@ abbrev pub damaged : Damage → List ℕ → List ℕ
 damaged (Cut n) bytes = cut n bytes
 damaged (Flip n) bytes = flipped n bytes
 
+-- as they are where no change is named
+abbrev pub changed : Option Damage → List ℕ → List ℕ
+changed None bytes = bytes
+changed (Some damage) bytes = damaged damage bytes
+
 -- a letter of the same sender, addressee and kind with changed bytes
 abbrev pub mangled : Damage → LetterFacts → LetterFacts
 mangled damage l = record l { bytes = damaged damage l.bytes }

@@ -13,6 +13,7 @@ use Rattle.byz_world.specs.declared.event.Event.{Event}
 use Rattle.client_session.specs.Accepted.{after_offers}
 use Rattle.client_session.specs.Sessions.{SessionState}
 use Rattle.script_text.specs.Heads.{HeadFacts}
+use Rattle.script_text.specs.declared.script.NamedStep.{NamedStep}
 use Rattle.script_text.specs.declared.script.Script.{Script}
 use Rattle.script_text.specs.declared.script.Step.{Step}
 use Rattle.script_text.specs.declared.script.Step.TheVariants as steps
@@ -28,14 +29,14 @@ DoesPart s (steps.Deliver f order) t = (n : ℕ) × (text : List ℕ) × Deliver
 DoesPart s (steps.Timeout at) t = (first later : List ReplicaId) × (at ≡ first ++ later) × AllTimeOut s first t
 DoesPart s other t = t ≡ s
 
-abbrev pub DoesPartOfFirst : StageFacts → List Step → StageFacts → Type 0
+abbrev pub DoesPartOfFirst : StageFacts → List NamedStep → StageFacts → Type 0
 DoesPartOfFirst s [] t = t ≡ s
-DoesPartOfFirst s (step ∷ later) t = DoesPart s step t
+DoesPartOfFirst s (x ∷ later) t = DoesPart s x.step t
 
 -- A stage behind some steps of a script and a part of the next one.
 pub record Passes (script : Script) (t : StageFacts) : Type 0 where
-  pub before : List Step
-  pub later : List Step
+  pub before : List NamedStep
+  pub later : List NamedStep
   pub splits : script.steps ≡ before ++ later
   pub text : List ℕ
   pub scene : Scene

@@ -6,8 +6,8 @@ use Rattle.script_text.specs.declared.fault.ScriptFault.{ScriptFault}
 use Rattle.script_text.specs.declared.fault.ScriptKind.{ScriptKind}
 use Rattle.script_text.specs.declared.fault.ScriptKind.TheVariants as kinds
 use Rattle.script_text.specs.declared.script.Script.{Script}
-use Rattle.script_text.specs.declared.script.Step.{Step}
-use Rattle.world_script.specs.Expecting.{Holds, IsUnexpected, MayPrint, Scene, differing_line, first_scene, unread_behind}
+use Rattle.script_text.specs.declared.script.NamedStep.{NamedStep}
+use Rattle.world_script.specs.Expecting.{Holds, IsUnexpected, MayPrint, Scene, behind, differing_line, first_scene}
 use Rattle.world_script.specs.Lines.{unexpected_line}
 use Rattle.world_script.specs.Scripts.{BreaksOff, IsPlayed, fault_line, Plays, WritesBefore}
 use Rattle.world_script.specs.Stages.{Begins, Overruns, Prints, StageFacts}
@@ -40,7 +40,7 @@ abbrev pub Fails : ScriptKind → Script → ℕ → Option (List ℕ) → Optio
 Fails kinds.TooManyDeliveries script number old new =
     (text : List ℕ) × BreaksOff (first_scene script.head) script.steps number (λ s. Overruns s.stage) text × Appends old new text
 Fails kinds.Memory script number old new =
-    (text : List ℕ) × ((text ≡ []) ⊎ BreaksOff (first_scene script.head) script.steps number (λ s. Begins s.stage) text) × Appends old new text
+    (text : List ℕ) × (((text ≡ []) × (number ≡ 0)) ⊎ BreaksOff (first_scene script.head) script.steps number (λ s. Begins s.stage) text) × Appends old new text
 Fails kinds.Write script number old new = (text : List ℕ) × BreaksOff (first_scene script.head) script.steps number (MayPrint number) text × AppendsFront old new text
 Fails kinds.Read script number old new = ⊥
 Fails kinds.TooLong script number old new = ⊥
@@ -51,14 +51,13 @@ Fails kinds.UnknownKey script number old new = ⊥
 Fails kinds.BadConfig script number old new = ⊥
 
 -- A step that is done, of this number, or that ends the run.
-abbrev pub StepEnds : ℕ → Scene → Step → Option (List ℕ) → Option (List ℕ) → Result Played RunFault → Scene → Type 0
-StepEnds number s step old new (Ok Whole) t =
-    (text : List ℕ) × (u : StageFacts) × Prints s.stage step text u × Holds s.unread step × (t ≡ record { stage = u; unread = unread_behind s.unread step text })
-    × Appends old new text
-StepEnds number s step old new (Ok Unexpected) t = (text : List ℕ) × IsUnexpected number s step text × Appends old new text
-StepEnds number s step old new (Err TooManyDeliveries) t = (text : List ℕ) × Overruns s.stage step text × Appends old new text
-StepEnds number s step old new (Err Memory) t = (text : List ℕ) × Begins s.stage step text × Appends old new text
-StepEnds number s step old new (Err Write) t = (text : List ℕ) × MayPrint number s step text × AppendsFront old new text
+abbrev pub StepEnds : ℕ → Scene → NamedStep → Option (List ℕ) → Option (List ℕ) → Result Played RunFault → Scene → Type 0
+StepEnds number s x old new (Ok Whole) t =
+    (text : List ℕ) × (u : StageFacts) × Prints s.stage x.step text u × Holds s.unread x.step × (t ≡ behind s x text u) × Appends old new text
+StepEnds number s x old new (Ok Unexpected) t = (text : List ℕ) × IsUnexpected number s x.step text × Appends old new text
+StepEnds number s x old new (Err TooManyDeliveries) t = (text : List ℕ) × Overruns s.stage x.step text × Appends old new text
+StepEnds number s x old new (Err Memory) t = (text : List ℕ) × Begins s.stage x.step text × Appends old new text
+StepEnds number s x old new (Err Write) t = (text : List ℕ) × MayPrint number s x.step text × AppendsFront old new text
 
 -- These lines and what was printed since the last `expect` are compared; or that ends the run.
 abbrev pub Compares : ℕ → List ℕ → List ℕ → Option (List ℕ) → Option (List ℕ) → Result Played RunFault → List ℕ → Type 0

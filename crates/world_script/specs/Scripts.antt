@@ -1,42 +1,43 @@
 -- Statement: what a script writes.
-use Rattle.std.specs.Prelude.{◌≡◌, ◌≢◌, ℕ, ◌+◌, min, List, [], ◌∷◌, ◌++◌, length, codes, Option, Result, Ok, Err, IfSome, ◌⊎◌}
+use Rattle.std.specs.Prelude.{◌≡◌, ◌≢◌, ℕ, ◌+◌, ◌≤◌, min, List, [], ◌∷◌, ◌++◌, length, codes, Option, Result, Ok, Err, IfSome, ◌⊎◌}
 use Rattle.std.specs.Io.KnownBytes.{Appends}
 use Rattle.script_text.specs.Faults.{text_of}
-use Rattle.script_text.specs.Scripts.{script_of}
+use Rattle.script_text.specs.Scripts.{document, script_of, steps_listed}
 use Rattle.script_text.specs.declared.fault.ScriptFault.{ScriptFault}
 use Rattle.script_text.specs.declared.fault.ScriptKind.{ScriptKind}
 use Rattle.script_text.specs.declared.fault.ScriptKind.TheVariants as kinds
 use Rattle.script_text.specs.declared.script.Script.{Script}
+use Rattle.script_text.specs.declared.script.NamedStep.{NamedStep}
 use Rattle.script_text.specs.declared.script.Step.{Step}
-use Rattle.world_script.specs.Expecting.{Holds, IsUnexpected, MayPrint, Scene, first_scene, unread_behind}
+use Rattle.world_script.specs.Expecting.{Holds, IsUnexpected, MayPrint, Scene, behind, first_scene}
 use Rattle.world_script.specs.Stages.{Begins, Overruns, Prints, StageFacts}
 use Rattle.world_script.specs.declared.played.Played.{Played}
 use Rattle.world_script.specs.declared.played.Played.TheVariants.{Whole, Unexpected}
 use Rattle.world_script.specs.Writing.{AppendsFront}
 
 -- Steps one after another: what they print, and what is held then. Each `expect` finds its lines.
-abbrev pub Plays : Scene → List Step → List ℕ → Scene → Type 0
+abbrev pub Plays : Scene → List NamedStep → List ℕ → Scene → Type 0
 Plays s [] text t = (text ≡ []) × (t ≡ s)
-Plays s (step ∷ steps) text t =
-    (line more : List ℕ) × (u : StageFacts) × Prints s.stage step line u × Holds s.unread step
-    × Plays (record { stage = u; unread = unread_behind s.unread step line }) steps more t × (text ≡ line ++ more)
+Plays s (x ∷ xs) text t =
+    (line more : List ℕ) × (u : StageFacts) × Prints s.stage x.step line u × Holds s.unread x.step
+    × Plays (behind s x line u) xs more t × (text ≡ line ++ more)
 
 -- the number of the step behind so many
 abbrev pub step_number : ℕ → ℕ
 step_number n = min (n + 1) 4_294_967_295
 
 -- A step breaks off, after those before it were done.
-pub record BreaksOff (start : Scene) (steps : List Step) (number : ℕ) (Early : Scene → Step → List ℕ → Type 0) (text : List ℕ) : Type 0 where
-  pub before : List Step
-  pub step : Step
-  pub after : List Step
+pub record BreaksOff (start : Scene) (steps : List NamedStep) (number : ℕ) (Early : Scene → Step → List ℕ → Type 0) (text : List ℕ) : Type 0 where
+  pub before : List NamedStep
+  pub step : NamedStep
+  pub after : List NamedStep
   pub splits : steps ≡ before ++ step ∷ after
   pub number_is : number ≡ step_number (length before)
   pub front : List ℕ
   pub last : List ℕ
   pub scene : Scene
   pub plays : Plays start before front scene
-  pub early : Early scene step last
+  pub early : Early scene step.step last
   pub text_is : text ≡ front ++ last
 
 -- The text is a script, of which a step breaks off.
@@ -47,6 +48,10 @@ pub record Breaks (input : List ℕ) (number : ℕ) (Early : Scene → Step → 
 
 abbrev pub IsRefused : List ℕ → ScriptFault → List ℕ → Type 0
 IsRefused input fault text = (script_of input ≡ Err fault) × (text ≡ [])
+
+-- Memory ran out before the first step ran: the step is none, or one that was being read.
+abbrev pub IsStarved : List ℕ → ℕ → List ℕ → Type 0
+IsStarved input number text = (text ≡ []) × (number ≤ steps_listed (document input))
 
 -- What was written ahead of the line of a fault.
 abbrev pub WritesBefore : ScriptKind → List ℕ → ScriptFault → List ℕ → Type 0
@@ -59,7 +64,7 @@ WritesBefore kinds.TooLong input fault text = IsRefused input fault text
 WritesBefore kinds.TooManyDeliveries input fault text = Breaks input fault.step (λ s. Overruns s.stage) text
 WritesBefore kinds.Read input fault text = (fault.step ≡ 0) × (text ≡ [])
 WritesBefore kinds.Write input fault text = Breaks input fault.step (MayPrint fault.step) text
-WritesBefore kinds.Memory input fault text = (text ≡ []) ⊎ Breaks input fault.step (λ s. Begins s.stage) text
+WritesBefore kinds.Memory input fault text = IsStarved input fault.step text ⊎ Breaks input fault.step (λ s. Begins s.stage) text
 
 -- the whole run of a script
 pub record IsRun (input text : List ℕ) : Type 0 where

@@ -1,6 +1,6 @@
 -- Statement: what a running script holds, and what each of its steps prints and makes of that.
 use Rattle.std.proofs.Common.{zero, suc}
-use Rattle.std.specs.Prelude.{◌≡◌, ◌≢◌, ℕ, ◌+◌, ◌≤◌, ◌==◌, Bool, true, false, not, ◌&&◌, List, [], ◌∷◌, ◌++◌, map, filter, find, flat_map, Option, Some, None, is_some, Result, Ok, Err, ◌⊎◌, if◌then◌else◌}
+use Rattle.std.specs.Prelude.{◌≡◌, ◌≢◌, ℕ, ◌+◌, ◌≤◌, ◌==◌, Bool, true, false, not, ◌&&◌, List, [], ◌∷◌, ◌++◌, map, filter, find, flat_map, Option, Some, None, is_some, Result, Ok, Err, ◌⊎◌, bytes_eq, slice_get, if◌then◌else◌}
 use Rattle.std.specs.List.{range_with_len}
 use Rattle.std.specs.Option.{option_map}
 use Rattle.host_types.specs.Configuration.{Configuration, replicas_for}
@@ -43,14 +43,18 @@ use Rattle.script_text.specs.declared.script.ForgedMessage.{ForgedMessage}
 use Rattle.script_text.specs.declared.script.ForgedMessage.TheVariants as forged
 use Rattle.script_text.specs.declared.script.ForgedVote.{ForgedVote}
 use Rattle.script_text.specs.declared.script.Forgery.{Forgery}
+use Rattle.script_text.specs.declared.script.NamedStep.{NamedStep}
 use Rattle.script_text.specs.declared.script.Order.{Order}
+use Rattle.script_text.specs.declared.script.Payload.{Payload}
+use Rattle.script_text.specs.declared.script.Payload.TheVariants.{Bytes, Message}
 use Rattle.script_text.specs.declared.script.Node.{Node}
 use Rattle.script_text.specs.declared.script.Node.TheVariants.{Replica, Client}
 use Rattle.script_text.specs.declared.script.Step.{Step}
 use Rattle.script_text.specs.declared.script.Step.TheVariants as steps
 use Rattle.world_script.specs.declared.forging.Forger.{Forger}
 use Rattle.world_script.specs.declared.made.Made.{Made}
-use Rattle.world_script.specs.Letters.{LetterFacts, copies, first_meant, is_meant, letter_of, mangled, meant_count, passed_over, same_node}
+use Rattle.world_script.specs.declared.named.Named.{Named}
+use Rattle.world_script.specs.Letters.{LetterFacts, changed, copies, first_meant, is_meant, letter_of, mangled, meant_count, passed_over, same_node}
 use Rattle.world_script.specs.Lines.{IsAuditLine, digest_line, letter_line, no_state_line, nothing_queued_line, refusal_line, reply_line, state_line, status_line, upgraded_line}
 
 -- What a running script holds.
@@ -61,6 +65,8 @@ pub record StageFacts : Type 0 where
   pub sessions : List SessionState
   -- the requests that were made
   pub made : List Made
+  -- the messages that steps gave names to
+  pub named : List Named
   -- the messages on their way, the next one first
   pub queue : List LetterFacts
 
@@ -367,6 +373,23 @@ mangled_by s f damage = queued s (map (mangled damage) (filter (is_meant f) s.qu
 abbrev pub raw_letter : List ℕ → LetterFacts
 raw_letter bytes = record { to = Replica (record { 0 = 0 }); from = None; kind = None; bytes = bytes }
 
+-- the message of a name: none where the step that gives the name had none
+abbrev pub message_named : List Named → List ℕ → Option LetterFacts
+message_named messages name = option_map (λ (n : Named). n.letter) (find (λ (n : Named). bytes_eq n.name name) messages)
+
+-- the bytes of a step, or those of a message with their change
+abbrev pub payload_bytes : List Named → Payload → Option (List ℕ)
+payload_bytes messages (Bytes bytes) = Some bytes
+payload_bytes messages (Message name change) = option_map (λ (l : LetterFacts). changed change l.bytes) (message_named messages name)
+
+abbrev pub raw_by : StageFacts → List Node → Option (List ℕ) → Turn
+raw_by s to None = nothing_queued s
+raw_by s to (Some bytes) = quiet (queued s (copies (raw_letter bytes) to))
+
+-- Bytes are queued; a message that there isn't is not.
+abbrev pub raws : StageFacts → List Node → Payload → Turn
+raws s to payload = raw_by s to (payload_bytes s.named payload)
+
 -- What a step prints that changes nothing.
 abbrev pub Shows : StageFacts → Step → List ℕ → Type 0
 Shows s (steps.Queue f) text = text ≡ flat_map letter_line (filter (is_meant f) s.queue)
@@ -387,8 +410,25 @@ Prints s (steps.Repeat f) text t = (text, t) ≡ quiet (repeated s f)
 Prints s (steps.Timeout at) text t = (text ≡ []) × AllTimeOut s at t
 Prints s (steps.Forge f) text t = (text, t) ≡ forges s f
 Prints s (steps.Mangle f damage) text t = (text, t) ≡ quiet (mangled_by s f damage)
-Prints s (steps.Raw to bytes) text t = (text, t) ≡ quiet (queued s (copies (raw_letter bytes) to))
+Prints s (steps.Raw to payload) text t = (text, t) ≡ raws s to payload
 Prints s other text t = Shows s other text × (t ≡ s)
+
+-- ---- names
+
+-- The message that a step names before which so many letters were queued: the first that `queue` lists, or the first that
+-- the step queued.
+abbrev pub message_of : ℕ → Step → StageFacts → Option LetterFacts
+message_of before (steps.Queue f) t = first_meant f t.queue
+message_of before other t = slice_get t.queue before
+
+abbrev pub with_named : StageFacts → Option (List ℕ) → Option LetterFacts → StageFacts
+with_named t None letter = t
+with_named t (Some name) None = t
+with_named t (Some name) (Some letter) = record t { named = t.named ++ record { name = name; letter = letter } ∷ [] }
+
+-- what is held behind a step with a name, if there is a message for it
+abbrev pub after_naming : ℕ → NamedStep → StageFacts → StageFacts
+after_naming before x t = with_named t x.name (message_of before x.step t)
 
 -- More messages are meant than a step delivers.
 abbrev pub Overruns : StageFacts → Step → List ℕ → Type 0

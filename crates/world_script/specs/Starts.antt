@@ -36,5 +36,6 @@ start_of h = record {
   forgers = forgers_from (is_faulty h) 0 (replica_signers h);
   sessions = map (session_for h) h.clients;
   made = [];
+  named = [];
   queue = [];
 }

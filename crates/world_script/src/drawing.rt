@@ -10,14 +10,14 @@ const FACTOR: u64 = 6_364_136_223_846_793_005;
 const ADDEND: u64 = 1_442_695_040_888_963_407;
 
 /// The generator's next state.
-pub(crate) fn next_state(state: u64) -> u64
+pub fn next_state(state: u64) -> u64
     ensures { result ≡ next_state state }
 {
     state.wrapping_mul(FACTOR).wrapping_add(ADDEND)
 }
 
 /// Which of so many letters a state draws: of its first 31 bits the rest of a division.
-pub(crate) fn drawn(state: u64, count: usize) -> usize
+pub fn drawn(state: u64, count: usize) -> usize
     requires { 0 < count }
     ensures value { result ≡ drawn state count }
     ensures below { result < count }

@@ -7,7 +7,7 @@ ghost use Rattle.world_script.specs.Lines.{unexpected_line};
 use std::alloc::{AllocError, Global};
 
 /// The number of the first line in which two texts differ, counted from 1.
-pub(crate) fn differing_line(expected: &[u8], printed: &[u8]) -> Option<usize>
+pub fn differing_line(expected: &[u8], printed: &[u8]) -> Option<usize>
     ensures { result ≡ differing_line expected.now printed.now }
 {
     let mut line: usize = 1;
@@ -29,11 +29,7 @@ pub(crate) fn differing_line(expected: &[u8], printed: &[u8]) -> Option<usize>
 }
 
 /// That a step finds other lines.
-pub(crate) fn line_of_unexpected(
-    alloc: Global,
-    step: u32,
-    line: usize,
-) -> Result<String, AllocError>
+pub fn line_of_unexpected(alloc: Global, step: u32, line: usize) -> Result<String, AllocError>
     ensures { IfOk result (λ text. string_bytes text ≡ unexpected_line step line) }
 {
     format!(in alloc; "expect fault step {step} line {line}\n")

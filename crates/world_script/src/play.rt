@@ -5,6 +5,7 @@ ghost use Rattle.std.specs.Io.KnownBytes.{Appends};
 ghost use Rattle.script_text.specs.declared.fault.ScriptKind.TheVariants as kinds;
 ghost use Rattle.world_script.specs.Running.{Compares, PlaysWhatIsRead, Reports, RunsSteps, StepEnds};
 ghost use Rattle.world_script.specs.Scripts.{WritesWhatIsRead};
+ghost use Rattle.world_script.specs.Stages.{after_naming};
 
 use crate::expecting::{differing_line, line_of_unexpected};
 use crate::fault::RunFault;
@@ -12,8 +13,8 @@ use crate::input::read_input;
 use crate::played::Played;
 use crate::stage::Stage;
 use crate::writing::{write_fault, write_text};
-use script_text::{Script, ScriptFault, ScriptKind, Step, read_script};
-use std::alloc::Global;
+use script_text::{NamedStep, Script, ScriptFault, ScriptKind, Step, read_script};
+use std::alloc::{AllocError, Global};
 use std::io::{Read, Write};
 
 /// Reads a script to the end of the reader, runs its steps, and writes what they print. The line of a
@@ -85,22 +86,38 @@ fn run_step<O: Write>(
     stage: &mut Stage,
     unread: &mut String,
     number: u32,
-    step: &Step,
+    step: &NamedStep,
     writer: &mut O,
 ) -> Result<Played, RunFault>
     ensures { StepEnds number (record { stage = stage.old; unread = string_bytes unread.old }) step.now (O.contents writer.old) (O.contents writer.new) result (record { stage = stage.new; unread = string_bytes unread.new }) }
 {
-    if let Step::Expect(expected) = step {
+    if let Step::Expect(expected) = &step.step {
         return compare(alloc, unread, number, expected.as_slice(), writer);
     }
-    let text = match stage.run(step, writer) {
+    let before = stage.queue_length();
+    let text = match stage.run(&step.step, writer) {
         Ok(text) => text,
         Err(fault) => return Err(fault),
     };
-    match unread.push_str(&text) {
+    match note(stage, unread, step, before, &text) {
         Ok(()) => Ok(Played::Whole),
         Err(_) => Err(RunFault::Memory),
     }
+}
+
+/// Notes what a step printed, and the message that it names, before which so many were queued.
+fn note(
+    stage: &mut Stage,
+    unread: &mut String,
+    step: &NamedStep,
+    before: usize,
+    text: &str,
+) -> Result<(), AllocError>
+    ensures named { OnOk result (stage.new ≡ after_naming before step.now stage.old) }
+    ensures text { OnOk result (string_bytes unread.new ≡ string_bytes unread.old ++ text.now) }
+{
+    unread.push_str(text)?;
+    stage.name(step, before)
 }
 
 /// Compares what was printed since the last `expect` with the lines of this one.

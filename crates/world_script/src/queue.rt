@@ -1,11 +1,11 @@
 //! Messages on their way.
 
-ghost use Rattle.std.specs.Prelude.{◌≡◌, ◌<◌, ◌++◌, ◌∷◌, [], Some, None, IfNone, IsSomeAnd, IfOk, OnOk, MatchOption, filter as kept, flat_map, map, not, string_bytes};
+ghost use Rattle.std.specs.Prelude.{◌≡◌, ◌<◌, ◌++◌, ◌∷◌, [], Some, None, IfNone, IsSomeAnd, IfOk, OnOk, MatchOption, filter as kept, flat_map, length, map, not, slice_get, string_bytes};
 ghost use Rattle.std.specs.List.{list_any};
 ghost use Rattle.script_text.specs.declared.kind.Kind.{Kind};
 ghost use Rattle.script_text.specs.declared.script.Node.{Node};
 ghost use Rattle.world_script.specs.Stages.{all_but};
-ghost use Rattle.world_script.specs.Letters.{LetterFacts, addressed, copies, cut, damaged, first_meant, flipped, is_among, is_meant, mangled, meant_count, same_kind, same_node, without_first};
+ghost use Rattle.world_script.specs.Letters.{LetterFacts, addressed, changed, copies, cut, damaged, first_meant, flipped, is_among, is_meant, mangled, meant_count, same_kind, same_node, without_first};
 ghost use Rattle.world_script.specs.Lines.{kind_or_dash, letter_line, node_text};
 ghost use Rattle.world_script.specs.Parts.{IsPlace, IsTaken};
 
@@ -19,7 +19,7 @@ use std::sync::Arc;
 
 /// A message on its way: bytes, with what the script knows of them. Raw bytes have no sender or kind.
 #[derive(Drop)]
-pub(crate) struct Letter {
+pub struct Letter {
     to: Node,
     from: Option<Node>,
     kind: Option<Kind>,
@@ -55,14 +55,28 @@ impl Letter {
     }
 
     /// Whom it is for.
-    pub(crate) fn to(&self) -> Node
+    pub fn to(&self) -> Node
         ensures { result ≡ self.now.to }
     {
         self.to
     }
 
+    /// Who queued it. Raw bytes have no sender.
+    pub fn from(&self) -> Option<Node>
+        ensures { result ≡ self.now.from }
+    {
+        self.from
+    }
+
+    /// Its kind. Raw bytes have none.
+    pub fn kind(&self) -> Option<Kind>
+        ensures { result ≡ self.now.kind }
+    {
+        self.kind
+    }
+
     /// Its bytes.
-    pub(crate) fn bytes(&self) -> &[u8]
+    pub fn bytes(&self) -> &[u8]
         ensures { result.now ≡ self.now.bytes }
     {
         let bytes: &Bytes = &self.bytes;
@@ -153,6 +167,20 @@ fn damaged(alloc: Global, bytes: &[u8], damage: Damage) -> Result<Vec<u8>, Alloc
             flip(&mut copy, places);
             Ok(copy)
         }
+    }
+}
+
+/// A copy of bytes, changed where this says how.
+pub(crate) fn changed(
+    alloc: Global,
+    bytes: &[u8],
+    change: Option<Damage>,
+) -> Result<Vec<u8>, AllocError>
+    ensures { IfOk result (λ v. v.items ≡ changed change bytes.now) }
+{
+    match change {
+        Some(damage) => damaged(alloc, bytes, damage),
+        None => Vec::from_slice(alloc, bytes),
     }
 }
 
@@ -370,6 +398,37 @@ impl Queue {
         Ok(text)
     }
 
+    /// How many letters there are.
+    pub(crate) fn len(&self) -> usize
+        ensures { result ≡ length self.now }
+    {
+        self.letters.len()
+    }
+
+    /// A copy of the letter at an index, if there is one.
+    pub(crate) fn copy_of(&self, index: usize) -> Result<Option<Letter>, AllocError>
+        ensures { IfOk result (λ letter. letter ≡ slice_get self.now index) }
+    {
+        match self.letters.get(index) {
+            Some(letter) => Ok(Some(letter.copy_to(letter.to)?)),
+            None => Ok(None),
+        }
+    }
+
+    /// A copy of the first letter that is meant.
+    #[tactic(auto, using(crate::proofs::Lists::none_meant, crate::proofs::Lists::place_first))]
+    pub(crate) fn first_meant(&self, filter: &Filter) -> Result<Option<Letter>, AllocError>
+        ensures { IfOk result (λ letter. letter ≡ first_meant filter.now self.now) }
+    {
+        if self.count_meant(filter) == 0 {
+            return Ok(None);
+        }
+        match self.place_of(filter, 0) {
+            Some(index) => self.copy_of(index),
+            None => Ok(None),
+        }
+    }
+
     /// How many letters are meant.
     pub(crate) fn count_meant(&self, filter: &Filter) -> usize
         ensures { result ≡ meant_count filter.now self.now }
@@ -392,6 +451,14 @@ impl Queue {
     {
         let index = self.place_of(filter, passed)?;
         self.letters.remove(index)
+    }
+
+    /// The letter that is meant and has so many before it that are.
+    pub(crate) fn letter_meant(&self, filter: &Filter, passed: usize) -> Option<&Letter>
+        requires { passed < meant_count filter.now self.now }
+    {
+        let index = self.place_of(filter, passed)?;
+        self.letters.get(index)
     }
 
     /// Where the letter stands that is meant and has so many before it that are.

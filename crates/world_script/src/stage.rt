@@ -1,11 +1,12 @@
 //! A running script: the replicas, the clients, and the messages between them.
 
-ghost use Rattle.std.specs.Prelude.{◌≡◌, ◌<◌, ◌++◌, None, Some, IfOk, IfSome, OnOk, filter as kept, find, flat_map, length, map, option_copied, option_map, string_bytes};
+ghost use Rattle.std.specs.Prelude.{◌≡◌, ◌<◌, ◌++◌, bytes_eq, None, Some, IfOk, IfSome, OnOk, filter as kept, find, flat_map, length, map, option_copied, option_map, string_bytes};
 ghost use Rattle.std.specs.FinSet as set;
 ghost use Rattle.byz_world.specs.Worlds.{first_world, member_of};
 ghost use Rattle.world_script.specs.Starts.{forgers_from, numbers_of, start_of};
 ghost use Rattle.script_text.specs.declared.script.Step.TheVariants as steps;
 ghost use Rattle.script_text.specs.declared.script.Node.TheVariants as nodes;
+ghost use Rattle.world_script.specs.declared.named.Named.{Named as NamedMessage};
 ghost use Rattle.world_script.specs.Endings.{Ends};
 ghost use Rattle.world_script.specs.Lines.{letter_line, nothing_queued_line};
 ghost use Rattle.world_script.specs.Keys.{correct_from, key_of};
@@ -14,7 +15,7 @@ ghost use Rattle.world_script.specs.Parts.{DeliversNext, Performs, Happened, Has
 ghost use Rattle.pbft_codec.specs.declared.body.Body.TheVariants as bodies;
 ghost use Rattle.pbft_codec.specs.declared.body.request.RequestBody.{RequestBody};
 ghost use Rattle.pbft_codec.specs.WellFormed.{BodyWellFormed};
-ghost use Rattle.world_script.specs.Stages.{AllTimeOut, Delivers, HandsTo, TimesOut, AtReplica, Audits, Upgrades, at_client, digest_named, forged_body, forges, ids_of, is_request, is_running, letters_in, letters_of, lacked_memory, halt_in, refusal_of, all_replicas, raw_letter, queued, requested, digest_printed, state_printed, status_printed};
+ghost use Rattle.world_script.specs.Stages.{AllTimeOut, Delivers, HandsTo, TimesOut, AtReplica, Audits, Upgrades, at_client, digest_named, forged_body, forges, ids_of, is_request, is_running, letters_in, letters_of, lacked_memory, halt_in, refusal_of, all_replicas, after_naming, message_of, payload_bytes, raw_letter, raws, queued, requested, digest_printed, state_printed, status_printed};
 ghost use Rattle.seal.specs.Opening.{opening};
 
 use crate::drawing::{drawn, next_state};
@@ -26,7 +27,8 @@ use crate::lines::{
     line_of_status, line_of_upgrade,
 };
 use crate::made::Made;
-use crate::queue::{Letter, Queue};
+use crate::named::Named;
+use crate::queue::{Letter, Queue, changed};
 use crate::sessions::Sessions;
 use crate::writing::write_text;
 use byz_world::{Event, World};
@@ -34,7 +36,9 @@ use host_types::{Bytes, ClientId, Config, Digest, ReplicaId, ReplicaSet};
 use lms_tree::Signer;
 use pbft_codec::Body;
 use replica_core::{Dest, Halt, Output, Row};
-use script_text::{Filter, ForgedMessage, Forgery, Head, Kind, Node, Order, Step};
+use script_text::{
+    Filter, ForgedMessage, Forgery, Head, Kind, MessageName, NamedStep, Node, Order, Payload, Step,
+};
 use seal::{Checked, SealFault, open, request_digest};
 use service_core::{State, StateFault};
 use sha2::{Digest as _, Sha256};
@@ -47,9 +51,13 @@ use std::sync::Arc;
 /// The most deliveries of one step.
 const MAX_DELIVERIES: u32 = 1_000_000;
 
-/// The replicas, the clients, and what is on its way between them.
+/// Whom a letter of raw bytes is for until it is copied for its addressees.
+const NOBODY: Node = Node::Replica(ReplicaId(0));
+
+/// A running script: the replicas, the clients, and what is on its way between them. Contracts see what the
+/// definitions call a stage.
 #[derive(Drop)]
-pub(crate) struct Stage {
+pub struct Stage {
     alloc: Global,
     config: Arc<Config>,
     // All replicas, ids ascending.
@@ -58,7 +66,10 @@ pub(crate) struct Stage {
     forgers: Vec<Forger>,
     sessions: Sessions,
     made: Vec<Made>,
+    named: Vec<Named>,
     queue: Queue,
+    // The row that the last event gave, until it is taken. No definition speaks of it.
+    row: Option<Row>,
 }
 
 impl Model for Stage {
@@ -71,14 +82,14 @@ impl Model for Stage {
 
     ghost coded = { Prim.hlevel (codes, service_code) };
 
-    ghost view = { λ s. record { world = s.world; forgers = s.forgers.items; sessions = s.sessions.sessions.items; made = s.made.items; queue = s.queue } };
+    ghost view = { λ s. record { world = s.world; forgers = s.forgers.items; sessions = s.sessions.sessions.items; made = s.made.items; named = s.named.items; queue = s.queue } };
 
     ghost invariant = { λ s. (s.world.config ≡ s.config.value) × (s.sessions.config.value ≡ s.config.value) × (s.everyone.items ≡ all_replicas s.config.value) };
 }
 
 impl Stage {
     /// The stage of a head, with an empty queue.
-    pub(crate) fn new(alloc: Global, head: &Head) -> Result<Stage, AllocError>
+    pub fn new(alloc: Global, head: &Head) -> Result<Stage, AllocError>
         ensures { IfOk result (λ s. s ≡ start_of head.now) }
     {
         let keys = make_keys(alloc, head)?;
@@ -94,12 +105,46 @@ impl Stage {
             sessions: Sessions::new(alloc, &config, keys.clients)?,
             config,
             made: Vec::new(alloc),
+            named: Vec::new(alloc),
             queue: Queue::new(alloc),
+            row: None,
         })
     }
 
+    // ---- what a watcher asks
+
+    /// The replicas' world.
+    pub fn world(&self) -> &World
+        ensures { result.now ≡ self.now.world }
+    {
+        &self.world
+    }
+
+    /// Who takes part.
+    pub fn config(&self) -> &Arc<Config>
+        ensures { result.now.value ≡ self.now.world.config }
+    {
+        &self.config
+    }
+
+    /// The letter that is meant and has so many before it that are.
+    pub fn letter_meant(&self, filter: &Filter, passed: usize) -> Option<&Letter>
+        requires { passed < meant_count filter.now self.now.queue }
+    {
+        self.queue.letter_meant(filter, passed)
+    }
+
+    /// The row that the last event gave, if it gave one and it was not taken yet.
+    pub fn take_row(&mut self) -> Option<Row>
+        ensures { self.new ≡ self.old }
+    {
+        self.row.take()
+    }
+
+    // ---- steps
+
     /// Runs a step, writes what it prints, and returns that. An `expect` is not looked at.
-    pub(crate) fn run<O: Write>(&mut self, step: &Step, writer: &mut O) -> Result<String, RunFault>
+    pub fn run<O: Write>(&mut self, step: &Step, writer: &mut O) -> Result<String, RunFault>
         ensures { Ends self.old step.now (O.contents writer.old) (O.contents writer.new) result self.new }
     {
         if let Step::Deliver { filter, order } = step {
@@ -142,10 +187,7 @@ impl Stage {
                 self.time_out(at.as_slice())?;
                 Ok(nothing)
             }
-            Step::Raw { to, bytes } => {
-                self.queue_raw(to.as_slice(), bytes.as_slice())?;
-                Ok(nothing)
-            }
+            Step::Raw { to, payload } => self.raw(to.as_slice(), payload),
             Step::Show => self.statuses(),
             Step::Digest => self.digests(),
             Step::State(id) => self.state_text(*id),
@@ -233,13 +275,67 @@ impl Stage {
         }
     }
 
-    /// Queues bytes that have no sender or kind.
-    fn queue_raw(&mut self, to: &[Node], bytes: &[u8]) -> Result<(), AllocError>
-        ensures { OnOk result (self.new ≡ queued self.old (copies (raw_letter bytes.now) to.now)) }
+    /// Queues bytes that have no sender or kind. What is printed.
+    fn raw(&mut self, to: &[Node], payload: &Payload) -> Result<String, AllocError>
+        ensures { IfOk result (λ text. (string_bytes text, self.new) ≡ raws self.old to.now payload.now) }
     {
-        let nobody = Node::Replica(ReplicaId(0));
-        let letter = Letter::new(self.alloc, nobody, None, None, bytes)?;
-        self.queue.send(&letter, to)
+        let Some(letter) = self.raw_letter(payload)? else {
+            return nothing_queued(self.alloc);
+        };
+        self.queue.send(&letter, to)?;
+        Ok(String::new(self.alloc))
+    }
+
+    /// Bytes as a letter; none where they are to be those of a message that there isn't.
+    fn raw_letter(&self, payload: &Payload) -> Result<Option<Letter>, AllocError>
+        ensures { IfOk result (λ letter. letter ≡ option_map raw_letter (payload_bytes self.now.named payload.now)) }
+    {
+        match payload {
+            Payload::Bytes(bytes) => {
+                let letter = Letter::new(self.alloc, NOBODY, None, None, bytes.as_slice())?;
+                Ok(Some(letter))
+            }
+            Payload::Message { name, change } => match find_named(&self.named, name) {
+                Some(named) => {
+                    let bytes = changed(self.alloc, named.letter.bytes(), *change)?;
+                    Ok(Some(Letter::new(self.alloc, NOBODY, None, None, &bytes)?))
+                }
+                None => Ok(None),
+            },
+        }
+    }
+
+    // ---- names
+
+    /// How many letters are on their way.
+    pub fn queue_length(&self) -> usize
+        ensures { result ≡ length self.now.queue }
+    {
+        self.queue.len()
+    }
+
+    /// Gives the name of a step to its message, if it has one: the first that a `queue` lists, else the first behind so many.
+    pub fn name(&mut self, step: &NamedStep, before: usize) -> Result<(), AllocError>
+        ensures { OnOk result (self.new ≡ after_naming before step.now self.old) }
+    {
+        let Some(name) = &step.name else {
+            return Ok(());
+        };
+        if let Some(letter) = self.message_of(&step.step, before)? {
+            let name = name.try_clone(self.alloc)?;
+            self.named.push(Named { name, letter })?;
+        }
+        Ok(())
+    }
+
+    /// The message that a step names, before which so many were queued.
+    fn message_of(&self, step: &Step, before: usize) -> Result<Option<Letter>, AllocError>
+        ensures { IfOk result (λ letter. letter ≡ message_of before step.now self.now) }
+    {
+        match step {
+            Step::Queue(filter) => self.queue.first_meant(filter),
+            _ => self.queue.copy_of(before),
+        }
     }
 
     // ---- deliveries
@@ -328,14 +424,14 @@ impl Stage {
     }
 
     /// How many letters are meant.
-    fn count_meant(&self, filter: &Filter) -> usize
+    pub fn count_meant(&self, filter: &Filter) -> usize
         ensures { result ≡ meant_count filter.now self.now.queue }
     {
         self.queue.count_meant(filter)
     }
 
     /// Delivers the letter that is meant and has so many before it that are. What is printed.
-    fn deliver_at(&mut self, filter: &Filter, passed: usize) -> Result<String, AllocError>
+    pub fn deliver_at(&mut self, filter: &Filter, passed: usize) -> Result<String, AllocError>
         requires { passed < meant_count filter.now self.old.queue }
         ensures { IfOk result (λ text. Delivers filter.now passed self.old (string_bytes text) self.new) }
     {
@@ -385,7 +481,7 @@ impl Stage {
     }
 
     /// A timeout at a replica. One that is faulty or has stopped does nothing.
-    fn time_out_at(&mut self, id: ReplicaId) -> Result<(), AllocError>
+    pub fn time_out_at(&mut self, id: ReplicaId) -> Result<(), AllocError>
         ensures { OnOk result (TimesOut self.old id self.new) }
     {
         if self.is_running(id) {
@@ -407,6 +503,7 @@ impl Stage {
         match row {
             Some(row) => {
                 self.queue_outputs(id, row.outputs())?;
+                self.row = Some(row);
                 Ok(true)
             }
             None => Ok(false),
@@ -547,6 +644,15 @@ fn find_made(made: &[Made], client: ClientId, time: u64) -> Option<&Made>
 {
     made.iter()
         .find(|made| made.client.0 == client.0 && made.time == time)
+}
+
+/// The message of a name.
+fn find_named<'a>(named: &'a [Named], name: &MessageName) -> Option<&'a Named>
+    ensures { option_map (λ n. n.now) result ≡ find (λ (n : NamedMessage). bytes_eq n.name name.now) named.now }
+{
+    named
+        .iter()
+        .find(|named| named.name.as_slice() == name.as_slice())
 }
 
 /// What is printed where nothing is queued.

@@ -34,28 +34,29 @@ pub(crate) fn signers_of_levels(alloc: Global, count: u8) -> Result<Vec<Signer>,
     Ok(signers)
 }
 
-/// The configuration of replicas, of which so many may be faulty, and of clients. All clients are of one
-/// tenant.
+/// The configuration of replicas, of which so many may be faulty, and of clients, which are in turn of so
+/// many tenants.
 pub(crate) fn config(
     alloc: Global,
     faulty: u8,
     interval: u8,
     replicas: &[Signer],
     clients: &[Signer],
+    tenants: u32,
 ) -> Result<Arc<Config>> {
     let mut keys = Vec::new(alloc);
     for signer in replicas {
         keys.push(signer.public_key())?;
     }
     let mut entries = Vec::new(alloc);
-    let mut id = u32::from(FIRST_CLIENT);
+    let mut index: u32 = 0;
     for signer in clients {
         entries.push(ClientEntry {
-            id: ClientId(id),
-            tenant: TenantId(1),
+            id: ClientId(u32::from(FIRST_CLIENT).saturating_add(index)),
+            tenant: TenantId(index % tenants.max(1)),
             key: signer.public_key(),
         })?;
-        id = id.saturating_add(1);
+        index = index.saturating_add(1);
     }
     let config = Config::new(faulty, interval, keys, entries)?;
     Ok(Arc::new(alloc, config)?)

@@ -25,7 +25,7 @@ pub(crate) const SMALL: u8 = 0;
 
 pub(crate) const LARGE: u8 = 1;
 
-/// How often the large procedure calls its function, and the moves of that. It takes 60,121 steps.
+/// How often the large procedure calls its function, and the moves of that.
 const CALLS: u16 = 120;
 
 const MOVES: u16 = 499;
@@ -35,8 +35,8 @@ const MOVE: [u8; 8] = [0xb7, 0, 0, 0, 7, 0, 0, 0];
 
 const EXIT: [u8; 8] = [0x95, 0, 0, 0, 0, 0, 0, 0];
 
-/// Code that calls its second function, which moves, again and again.
-fn large_code(alloc: Global) -> Result<Vec<u8>, AllocError> {
+/// Code of 60,121 steps: it calls its second function, which moves, again and again.
+pub(crate) fn large_code(alloc: Global) -> Result<Vec<u8>, AllocError> {
     let mut code = Vec::new(alloc);
     for index in 0..CALLS {
         let [a, b] = (CALLS - index).to_le_bytes();

@@ -97,7 +97,7 @@ pub(crate) fn new_view(alloc: Global) -> Result<Vec<u8>> {
 
 /// This text of replica 1 as a message, where one of the replicas with these signers may be faulty.
 fn seal_text(alloc: Global, mut signers: Vec<Signer>, text: Vec<u8>) -> Result<Sealed> {
-    let config = config(alloc, 1, 8, &signers, &[])?;
+    let config = config(alloc, 1, 8, &signers, &[], 1)?;
     let Some(signer) = signers.get_mut(1) else {
         return Err(anyhow!("there is no such replica"));
     };

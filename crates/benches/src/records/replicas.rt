@@ -28,7 +28,7 @@ pub(crate) fn signers(alloc: Global) -> Result<Vec<Signer>, AllocError> {
 
 /// Their configuration, with no clients.
 pub(crate) fn config(alloc: Global, signers: &[Signer]) -> Result<Arc<Config>> {
-    members::config(alloc, 3, INTERVAL, signers, &[])
+    members::config(alloc, 3, INTERVAL, signers, &[], 1)
 }
 
 /// A replica's body of one kind, to be nested in another.

@@ -52,7 +52,7 @@ impl Group {
     pub(crate) fn new(alloc: Global, setup: Setup) -> Result<Group> {
         let clients = signers(alloc, setup.height, FIRST_CLIENT, setup.clients)?;
         let replicas = signers(alloc, setup.height, 0, REPLICAS)?;
-        let config = config(alloc, 1, setup.interval, &replicas, &clients)?;
+        let config = config(alloc, 1, setup.interval, &replicas, &clients, 1)?;
         let mut nodes = Vec::new(alloc);
         let mut id = 0u8;
         for signer in replicas {

@@ -4,7 +4,8 @@ ghost use Rattle.std.specs.Prelude.{◌≡◌, IfOk};
 ghost use Rattle.std.specs.List.{All};
 
 use crate::common::members::{FIRST_CLIENT, config, signers};
-use crate::common::operations::{PUT, installation, put};
+use crate::common::operations::{PUT, call as call_of, installation, put};
+use crate::lanes::batches::large_code;
 use anyhow::{Result, anyhow};
 use host_client::{Session, SessionFault, call};
 use host_types::{Bytes, ClientId, Config, Gate, ReplicaId};
@@ -26,12 +27,42 @@ const INTERVAL: u8 = 8;
 /// The rows that a journal has room for.
 const MAX_ROWS: u32 = 65_536;
 
-/// Clients that call at the same time, how often each does, and the openers of each replica.
+/// What the procedure that clients call does.
+#[derive(Clone, Copy)]
+pub(crate) enum Work {
+    /// It puts an entry.
+    Put,
+    /// It goes through 60,121 steps.
+    Steps,
+}
+
+impl Work {
+    /// The operation that installs the procedure.
+    fn installation(self, alloc: Global) -> Result<Vec<u8>> {
+        match self {
+            Work::Put => Ok(installation(alloc, &PUT)?),
+            Work::Steps => Ok(installation(alloc, &large_code(alloc)?)?),
+        }
+    }
+
+    /// A client's call with this number.
+    fn call(self, alloc: Global, number: u32) -> Result<Vec<u8>> {
+        match self {
+            Work::Put => Ok(put(alloc, number)?),
+            Work::Steps => Ok(call_of(alloc, 0)?),
+        }
+    }
+}
+
+/// Clients that call at the same time, the tenants that they are of in turn, how often each calls and for
+/// what, and the openers of each replica.
 #[derive(Clone, Copy)]
 pub(crate) struct Setup {
     pub(crate) height: Height,
     pub(crate) clients: u8,
+    pub(crate) tenants: u8,
     pub(crate) calls: u32,
+    pub(crate) work: Work,
     pub(crate) openers: u8,
 }
 
@@ -79,10 +110,10 @@ impl Caller {
         }
     }
 
-    /// Calls so often, each time with another key.
-    fn call_all<R: Wait>(&mut self, rt: &R, alloc: Global, calls: u32) -> Result<()> {
-        for number in 0..calls {
-            self.call(rt, alloc, put(alloc, number)?)?;
+    /// Calls as often as is set.
+    fn call_all<R: Wait>(&mut self, rt: &R, alloc: Global, setup: Setup) -> Result<()> {
+        for number in 0..setup.calls {
+            self.call(rt, alloc, setup.work.call(alloc, number)?)?;
         }
         Ok(())
     }
@@ -98,7 +129,7 @@ impl Gate for NoGate {
     }
 }
 
-/// Starts a host and its clients, of which the first has installed the procedure that puts.
+/// Starts a host and its clients, of which the first of each tenant has installed the procedure.
 fn start<R: Threads + Wait + Copy + Send + Sync + Drop + 'static>(
     rt: &R,
     alloc: Global,
@@ -106,7 +137,8 @@ fn start<R: Threads + Wait + Copy + Send + Sync + Drop + 'static>(
 ) -> Result<(Arc<Host>, Vec<Caller>)> {
     let replicas = signers(alloc, setup.height, 0, REPLICAS)?;
     let clients = signers(alloc, setup.height, FIRST_CLIENT, setup.clients)?;
-    let config = config(alloc, 1, INTERVAL, &replicas, &clients)?;
+    let tenants = u32::from(setup.tenants);
+    let config = config(alloc, 1, INTERVAL, &replicas, &clients, tenants)?;
     let gate = Arc::new(alloc, NoGate)?;
     let host = Host::start(rt, alloc, &config, replicas, MAX_ROWS, setup.openers, gate)?;
     let host = Arc::new(alloc, host)?;
@@ -116,8 +148,8 @@ fn start<R: Threads + Wait + Copy + Send + Sync + Drop + 'static>(
         callers.push(Caller::new(alloc, &host, ClientId(id), signer)?)?;
         id = id.saturating_add(1);
     }
-    if let Some(first) = callers.first_mut() {
-        first.call(rt, alloc, installation(alloc, &PUT)?)?;
+    for caller in callers.iter_mut().take(usize::from(setup.tenants)) {
+        caller.call(rt, alloc, setup.work.installation(alloc)?)?;
     }
     Ok((host, callers))
 }
@@ -127,14 +159,14 @@ fn call_at_once<R: Threads + Wait + Copy + Send + Sync + Drop + 'static>(
     rt: &R,
     alloc: Global,
     callers: Vec<Caller>,
-    calls: u32,
+    setup: Setup,
 ) -> Result<()> {
     let mut crew = Vec::new(alloc);
     for caller in callers {
         let rt = *rt;
         let job = move || {
             let mut caller = caller;
-            caller.call_all(&rt, alloc, calls).is_ok()
+            caller.call_all(&rt, alloc, setup).is_ok()
         };
         crew.push(thread::spawn(&rt, job)?)?;
     }
@@ -157,7 +189,7 @@ pub(crate) fn measure<R: Threads + Wait + Copy + Send + Sync + Drop + 'static>(
 ) -> Result<Run> {
     let (host, callers) = start(threads, rt.alloc(), setup)?;
     let start = Instant::now(rt)?;
-    call_at_once(threads, rt.alloc(), callers, setup.calls)?;
+    call_at_once(threads, rt.alloc(), callers, setup)?;
     let nanoseconds = start.elapsed(rt)?.as_nanos();
     let journals = host.close(threads)?;
     let config = Arc::try_clone(host.config())?;

@@ -1,7 +1,7 @@
 //! The memory that a host takes.
 
 use crate::common::peak::{peak, print_within};
-use crate::threads::calls::{Setup, measure};
+use crate::threads::calls::{Setup, Work, measure};
 use anyhow::Result;
 use lms_tree::Height;
 use std::sync::Wait;
@@ -21,7 +21,9 @@ pub(crate) fn print_memory<R: Threads + Wait + Copy + Send + Sync + Drop + 'stat
     let setup = Setup {
         height: Height::H10,
         clients: 1,
+        tenants: 1,
         calls: REQUESTS - 1,
+        work: Work::Put,
         openers: 1,
     };
     measure(rt, threads, setup)?;

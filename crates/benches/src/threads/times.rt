@@ -1,7 +1,7 @@
 //! What calls take against their signatures alone, and steps at a station against steps alone.
 
 use crate::common::ratio::{Comparison, Limit, require_within_limits};
-use crate::threads::calls::{REPLICAS, Setup, measure};
+use crate::threads::calls::{REPLICAS, Setup, Work, measure};
 use crate::threads::load;
 use crate::threads::steps::{self, messages_of};
 use anyhow::Result;
@@ -12,6 +12,9 @@ use std::thread::Threads;
 
 /// What calls may take of their signatures alone on as many threads.
 const CALLS: Limit = Limit::Thousandths(1500);
+
+/// What calls by clients of eight tenants may take of those by as many clients of one.
+const TENANTS: Limit = Limit::Thousandths(1250);
 
 /// What a step at a station may take of the replica's alone.
 const STEP: Limit = Limit::Thousandths(1050);
@@ -27,8 +30,19 @@ fn host_of(clients: u8, openers: u8) -> Setup {
     Setup {
         height: Height::H10,
         clients,
+        tenants: 1,
         calls: REQUESTS / u32::from(clients).max(1),
+        work: Work::Put,
         openers,
+    }
+}
+
+/// A host whose eight clients are of so many tenants, and call procedures of many steps.
+fn host_of_tenants(tenants: u8) -> Setup {
+    Setup {
+        tenants,
+        work: Work::Steps,
+        ..host_of(8, 1)
     }
 }
 
@@ -58,6 +72,25 @@ fn print_calls<R: Threads + Wait + Copy + Send + Sync + Drop + 'static>(
     let processors = thread::available_parallelism(threads)?;
     println!(rt; "  {each_second} calls a second, on {processors} processors")?;
     Ok(is_within)
+}
+
+/// Prints what calls of long procedures take where each client is of a tenant of its own, against those of
+/// clients of one tenant, and returns whether that is within the limit.
+fn print_tenants<R: Threads + Wait + Copy + Send + Sync + Drop + 'static>(
+    rt: &HostRuntime,
+    threads: &R,
+) -> Result<bool> {
+    let one = measure(rt, threads, host_of_tenants(1))?.nanoseconds;
+    let eight = measure(rt, threads, host_of_tenants(8))?.nanoseconds;
+    let work = format!(in rt.alloc(); "{REQUESTS} calls of 60,121 steps, clients: 8, tenants: 8")?;
+    Comparison {
+        work: work.as_str(),
+        taken: eight,
+        other: "tenants: 1",
+        floor: one,
+        limit: TENANTS,
+    }
+    .print_microseconds(rt)
 }
 
 /// Prints what the steps of a replica take at a station, and returns whether that is within the limit.
@@ -99,6 +132,7 @@ pub(crate) fn print_times<R: Threads + Wait + Copy + Send + Sync + Drop + 'stati
     for (clients, openers) in [(1, 1), (1, 2), (8, 1), (8, 2)] {
         are_within = print_calls(rt, threads, host_of(clients, openers))? && are_within;
     }
+    are_within = print_tenants(rt, threads)? && are_within;
     require_within_limits(are_within)
 }
 
@@ -110,7 +144,9 @@ pub(crate) fn print_small<R: Threads + Wait + Copy + Send + Sync + Drop + 'stati
     let setup = Setup {
         height: Height::H5,
         clients: 1,
+        tenants: 1,
         calls: 2,
+        work: Work::Put,
         openers: 1,
     };
     let run = measure(rt, threads, setup)?;

@@ -41,7 +41,7 @@ pub(crate) fn commit(alloc: Global) -> Result<Vote> {
     for id in 0..4 {
         replicas.push(replica_signer(alloc, id)?)?;
     }
-    let config = config(alloc, 1, 8, &replicas, &[])?;
+    let config = config(alloc, 1, 8, &replicas, &[], 1)?;
     let Some(voter) = replicas.get_mut(usize::from(VOTER)) else {
         return Err(anyhow!("there is no such replica"));
     };

@@ -1,6 +1,7 @@
 use Rattle.std.proofs.Common.{ℕ, List, ◌++◌, refl, ap, ◌∙◌}
 use Rattle.std.specs.String.{string_bytes}
 use Rattle.world_script.specs.Expecting.{Scene}
+use Rattle.world_script.specs.Stages.{after_naming}
 use Rattle.world_script.proofs.Playing.{compared, step_done, step_fails, step_unnoted}
 use Rattle.world_script.proofs.play.run_step.Goals as goal
 
@@ -13,19 +14,20 @@ returns-in-Expect g c =
 pub returns-in-Err : goal.returns-in-Err
 returns-in-Err g c =
     let scene : Scene = record { stage = c.args.stage.now; unread = string_bytes c.args.unread.now } in
-    step_fails c.args.number scene (g.O.Write.contents c.args.writer.now) (g.O.Write.contents c.run.new.writer) (record { stage = c.run.new.self; unread = string_bytes c.args.unread.now })
-    c.args.step.now c.in-Err.fault c.run.new.self c.in-Err.ensures
+    step_fails c.args.number scene c.args.step.now (g.O.Write.contents c.args.writer.now) (g.O.Write.contents c.run.new.writer) (record { stage = c.run.new.self; unread = string_bytes c.args.unread.now })
+    c.in-Err.fault c.run.new.self c.in-Err.ensures
 
-pub returns-in-Ok-push_str : goal.returns-in-Ok-push_str
-returns-in-Ok-push_str g c =
+pub returns-in-Ok-note : goal.returns-in-Ok-note
+returns-in-Ok-note g c =
     let scene : Scene = record { stage = c.args.stage.now; unread = string_bytes c.args.unread.now } in
-    let later : Scene = record { stage = c.run.new.self; unread = string_bytes c.push_str.new.self } in
-    step_done c.args.number scene (g.O.Write.contents c.args.writer.now) (g.O.Write.contents c.run.new.writer) later c.args.step.now (string_bytes c.in-Ok.text) (string_bytes c.push_str.new.self) c.run.new.self
+    let later : Scene = record { stage = c.note.new.stage; unread = string_bytes c.note.new.unread } in
+    step_done c.args.number scene c.args.step.now (g.O.Write.contents c.args.writer.now) (g.O.Write.contents c.run.new.writer) later (string_bytes c.in-Ok.text) (string_bytes c.note.new.unread) c.run.new.self c.note.new.stage
     c.in_default.not-Expect c.in-Ok.ensures.0 c.in-Ok.ensures.1
-    (c.in-Ok-push_str.ensures.bytes ∙ ap (λ (x : List ℕ). string_bytes c.args.unread.now ++ x) c.deref.ensures) refl
+    (c.in-Ok-note.ensures.text ∙ ap (λ (x : List ℕ). string_bytes c.args.unread.now ++ x) c.deref.ensures)
+    (c.in-Ok-note.ensures.named ∙ ap (λ (n : ℕ). after_naming n c.args.step.now c.run.new.self) c.queue_length-before.ensures) refl
 
 pub returns : goal.returns
 returns g c =
     let scene : Scene = record { stage = c.args.stage.now; unread = string_bytes c.args.unread.now } in
-    step_unnoted c.args.number scene (g.O.Write.contents c.args.writer.now) (g.O.Write.contents c.run.new.writer) (record { stage = c.run.new.self; unread = string_bytes c.push_str.new.self })
-    c.args.step.now (string_bytes c.in-Ok.text) c.run.new.self c.in-Ok.ensures.0 c.in-Ok.ensures.1
+    step_unnoted c.args.number scene c.args.step.now (g.O.Write.contents c.args.writer.now) (g.O.Write.contents c.run.new.writer) (record { stage = c.note.new.stage; unread = string_bytes c.note.new.unread })
+    (string_bytes c.in-Ok.text) c.run.new.self c.in-Ok.ensures.0 c.in-Ok.ensures.1

@@ -8,13 +8,13 @@ use Rattle.world_script.proofs.stage.Stage.deliver_at.Goals as goal
 
 pub take_meant-requires : goal.take_meant-requires
 take_meant-requires c =
-    let kept : StageFacts = record { world = c.self.inside.world; forgers = c.self.inside.forgers.items; sessions = c.self.inside.sessions.sessions.items; made = c.self.inside.made.items; queue = c.self.inside.queue } in
+    let kept : StageFacts = record { world = c.self.inside.world; forgers = c.self.inside.forgers.items; sessions = c.self.inside.sessions.sessions.items; made = c.self.inside.made.items; named = c.self.inside.named.items; queue = c.self.inside.queue } in
     let view : kept ≡ c.args.self.now = c.self.view_is in
     subst (λ (s : StageFacts). c.args.passed < meant_count c.args.filter.now s.queue) (sym view) c.requires
 
 pub returns : goal.returns
 returns c =
-    let kept : StageFacts = record { world = c.self.inside.world; forgers = c.self.inside.forgers.items; sessions = c.self.inside.sessions.sessions.items; made = c.self.inside.made.items; queue = c.self.inside.queue } in
+    let kept : StageFacts = record { world = c.self.inside.world; forgers = c.self.inside.forgers.items; sessions = c.self.inside.sessions.sessions.items; made = c.self.inside.made.items; named = c.self.inside.named.items; queue = c.self.inside.queue } in
     let view : kept ≡ c.args.self.now = c.self.view_is in
     IfOk-weaker c.hand_over.result _ _
     (λ text handed. subst (λ (s : StageFacts). Delivers c.args.filter.now c.args.passed s (string_bytes text) c.hand_over.new.self) view

@@ -9,7 +9,7 @@ use Rattle.world_script.proofs.stage.Stage.deliver_next.Goals as goal
 
 pub returns-in_default : goal.returns-in_default
 returns-in_default c =
-    let kept : StageFacts = record { world = c.self.inside.world; forgers = c.self.inside.forgers.items; sessions = c.self.inside.sessions.sessions.items; made = c.self.inside.made.items; queue = c.self.inside.queue } in
+    let kept : StageFacts = record { world = c.self.inside.world; forgers = c.self.inside.forgers.items; sessions = c.self.inside.sessions.sessions.items; made = c.self.inside.made.items; named = c.self.inside.named.items; queue = c.self.inside.queue } in
     let view : kept ≡ c.args.self.now = c.self.view_is in
     let m = c.in_ok-letter.ensures in
     subst (λ (s : StageFacts). (first_meant c.args.filter.now (c.args.others.now ++ s.queue) ≡ None) × (record kept { queue = c.swap.new.x } ≡ ahead c.args.others.now s)) view
@@ -17,7 +17,7 @@ returns-in_default c =
 
 pub returns : goal.returns
 returns c =
-    let kept : StageFacts = record { world = c.self.inside.world; forgers = c.self.inside.forgers.items; sessions = c.self.inside.sessions.sessions.items; made = c.self.inside.made.items; queue = c.self.inside.queue } in
+    let kept : StageFacts = record { world = c.self.inside.world; forgers = c.self.inside.forgers.items; sessions = c.self.inside.sessions.sessions.items; made = c.self.inside.made.items; named = c.self.inside.named.items; queue = c.self.inside.queue } in
     let view : kept ≡ c.args.self.now = c.self.view_is in
     let m = c.in_ok-letter.ensures in (
       subst (λ (s : StageFacts). Delivers c.args.filter.now 0 (ahead c.args.others.now s) (string_bytes c.in_ok-text.text) (ahead c.next_meant.new.others c.hand_over.new.self)) view

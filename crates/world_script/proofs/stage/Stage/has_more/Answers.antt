@@ -7,14 +7,14 @@ use Rattle.world_script.proofs.stage.Stage.has_more.Goals as goal
 
 pub returns-then-is_some : goal.returns-then-is_some
 returns-then-is_some c = λ none.
-    let kept : StageFacts = record { world = c.self.inside.world; forgers = c.self.inside.forgers.items; sessions = c.self.inside.sessions.sessions.items; made = c.self.inside.made.items; queue = c.self.inside.queue } in
+    let kept : StageFacts = record { world = c.self.inside.world; forgers = c.self.inside.forgers.items; sessions = c.self.inside.sessions.sessions.items; made = c.self.inside.made.items; named = c.self.inside.named.items; queue = c.self.inside.queue } in
     let view : kept ≡ c.args.self.now = c.self.view_is in
     no_more c.in_ok-next_meant.field-0 _ (sym c.is_some.ensures ∙ c.if-is_some.true)
     (c.in_ok-next_meant.ensures.found ∙ ap (λ (s : StageFacts). first_meant c.args.filter.now (c.args.others ++ s.queue)) view ∙ none)
 
 pub returns : goal.returns
 returns c =
-    let kept : StageFacts = record { world = c.self.inside.world; forgers = c.self.inside.forgers.items; sessions = c.self.inside.sessions.sessions.items; made = c.self.inside.made.items; queue = c.self.inside.queue } in
+    let kept : StageFacts = record { world = c.self.inside.world; forgers = c.self.inside.forgers.items; sessions = c.self.inside.sessions.sessions.items; made = c.self.inside.made.items; named = c.self.inside.named.items; queue = c.self.inside.queue } in
     let view : kept ≡ c.args.self.now = c.self.view_is in
     let m = c.in_ok-next_meant.ensures in
     subst (λ (s : StageFacts). (first_meant c.args.filter.now (c.args.others ++ s.queue) ≡ None) × (record kept { queue = c.swap.new.x } ≡ ahead c.args.others s)) view

@@ -34,4 +34,4 @@ returns c =
     c.in_ok-new.ensures.sessions ∙ ap (λ (x : Configuration). fresh_sessions x x.clients c.in_ok-keys.keys.clients.items) g
     ∙ ap (λ (x : List SigningState). fresh_sessions (configuration_of h) (configuration_of h).clients x) c.in_ok-keys.ensures.clients
     ∙ sessions_of (configuration_of h) h h.clients in
-    λ i. record { world = worlds i; forgers = forgers i; sessions = sessions i; made = c.new-3.ensures.items i; queue = c.new-4.ensures i }
+    λ i. record { world = worlds i; forgers = forgers i; sessions = sessions i; made = c.new-3.ensures.items i; named = c.new-4.ensures.items i; queue = c.new-5.ensures i }

@@ -7,7 +7,7 @@ use Rattle.world_script.proofs.stage.Stage.request.Goals as goal
 
 pub returns : goal.returns
 returns c =
-    let s : StageFacts = record { world = c.self.inside.world; forgers = c.self.inside.forgers.items; sessions = c.self.inside.sessions.sessions.items; made = c.self.inside.made.items; queue = c.self.inside.queue } in
+    let s : StageFacts = record { world = c.self.inside.world; forgers = c.self.inside.forgers.items; sessions = c.self.inside.sessions.sessions.items; made = c.self.inside.made.items; named = c.self.inside.named.items; queue = c.self.inside.queue } in
     let view : s ≡ c.args.self.now = c.self.view_is in
     subst (λ (bs : List ℕ). ◌≡◌ {A = Turn} (bs, c.queue_request.new.self) (requested c.args.self.now c.args.order.now)) (sym c.new.ensures.bytes)
     (subst (λ (x : StageFacts). ◌≡◌ {A = Turn} ([], c.queue_request.new.self) (requested x c.args.order.now)) view

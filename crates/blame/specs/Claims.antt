@@ -1,0 +1,52 @@
+-- Statement: what a replica says at most once, and where it says two things.
+use Rattle.std.specs.Prelude.{◌≡◌, ◌≢◌, ◌<◌, ℕ, List, Option, Some, None, slice_get, ◌⊎◌, ◌↔◌}
+use Rattle.std.specs.List.{Contains}
+use Rattle.pbft_codec.specs.declared.body.Body.{Body}
+use Rattle.pbft_codec.specs.declared.body.Body.TheVariants as bodies
+use Rattle.pbft_codec.specs.declared.signed.Signed.{Signed}
+use Rattle.seal.specs.Opening.{CheckedMessage}
+use Rattle.seal.specs.declared.vote.VoteKind.TheVariants as votes
+use Rattle.blame.specs.declared.claim.Claim.{Claim}
+use Rattle.blame.specs.declared.claim.Topic.TheVariants.{Vote, Checkpoint}
+
+-- What a body claims of this replica, or nothing.
+abbrev pub claim_in : ℕ → Body → Option Claim
+claim_in id (bodies.PrePrepare p) = Some (record { signer = id; topic = Vote votes.PrePrepare p.view p.number; digest = p.digest })
+claim_in id (bodies.Prepare p) = Some (record { signer = id; topic = Vote votes.Prepare p.view p.number; digest = p.digest })
+claim_in id (bodies.Commit p) = Some (record { signer = id; topic = Vote votes.Commit p.view p.number; digest = p.digest })
+claim_in id (bodies.Checkpoint c) = Some (record { signer = id; topic = Checkpoint c.number; digest = c.digest })
+claim_in id (bodies.Request b) = None
+claim_in id (bodies.Reply b) = None
+claim_in id (bodies.ViewChange b) = None
+claim_in id (bodies.NewView b) = None
+claim_in id (bodies.Fetch b) = None
+claim_in id (bodies.Snapshot b) = None
+
+abbrev pub claim_of : Signed Body → Option Claim
+claim_of m = claim_in m.id m.body
+
+-- One replica says two things of one topic.
+abbrev pub Contradict : Claim → Claim → Type 0
+Contradict a b = (a.signer ≡ b.signer) × (a.topic ≡ b.topic) × (a.digest ≢ b.digest)
+
+-- The messages at two places contradict each other, the earlier place first.
+pub record IsConflict (ms : List CheckedMessage) (i j : ℕ) : Type 0 where
+  pub earlier : i < j
+  pub first : CheckedMessage
+  pub second : CheckedMessage
+  pub first_is : slice_get ms i ≡ Some first
+  pub second_is : slice_get ms j ≡ Some second
+  pub one : Claim
+  pub other : Claim
+  pub one_is : claim_of first.message ≡ Some one
+  pub other_is : claim_of second.message ≡ Some other
+  pub contradict : Contradict one other
+
+-- Pairs are added: the conflicts of the message at j with those before place n, and no others.
+abbrev pub Grows : List CheckedMessage → ℕ → ℕ → List (ℕ × ℕ) → List (ℕ × ℕ) → Type 0
+Grows ms j n old new =
+    (i k : ℕ) → Contains new (i, k) ↔ (Contains old (i, k) ⊎ ((k ≡ j) × (i < n) × IsConflict ms i k))
+
+-- The pairs are the conflicts of the messages before place n.
+abbrev pub HasBelow : List CheckedMessage → ℕ → List (ℕ × ℕ) → Type 0
+HasBelow ms n pairs = (i k : ℕ) → Contains pairs (i, k) ↔ ((k < n) × IsConflict ms i k)

@@ -1,0 +1,14 @@
+//! Who can be blamed. A correct replica says at most one thing of a digest at each place: one vote of a kind for a
+//! number of a view, one Checkpoint of a number (Castro and Liskov 1999, section 4.2). Two messages that
+//! say two things were signed by a faulty replica, and its signatures prove it to everybody.
+//!
+//!     for (first, second) in &conflicts(alloc, &messages)? {
+//!         show(&messages[*first], &messages[*second])?;
+//!     }
+#![tactic(auto)]
+
+mod claim;
+mod pairs;
+
+pub use claim::{Claim, Topic, claim_of};
+pub use pairs::conflicts;

@@ -1,0 +1,192 @@
+//! The commands over scripts of worlds: `world`, with what it is to show, and `explore`.
+
+use crate::check::unreadable;
+use crate::failure::Failure;
+use clap::{Arg, ArgAction, ArgMatches, Command, value_parser};
+use host_script::{Played, run_script};
+use std::alloc::{AllocError, Global};
+use std::fs;
+use std::io::{Read, Write};
+use std::rt::Files;
+use std::thread::Threads;
+use world_trace::{
+    ChartForm, Searched, Seeds, chart_script, explore_script, explore_side_by_side, trace_script,
+};
+
+/// The first number that is no seed.
+const SEEDS_END: u64 = 1 << 63;
+
+/// What `help world` says below the options: the keys of a script. docs/SCRIPTS.md says what each means.
+const STEPS: &str = "\
+A script is a TOML document: a head, clients, steps (docs/SCRIPTS.md).
+
+Head:
+  f = 1 to 3, k = 1 to 8, secret = 64 hex digits: needed
+  heights, bottom, spent = a number for each replica; client_height, client_bottom = a number
+  faulty = a list of replicas
+
+[[client]]
+  id = 16 or more, tenant = a number: needed
+
+[[step]]
+  do = \"request\"   client; install = hex, or asm = text, or call = a procedure with args = hex; to
+  do = \"deliver\"   from, to, kinds, order = a seed
+  do = \"drop\"      from, to, kinds
+  do = \"repeat\"    from, to, kinds
+  do = \"queue\"     from, to, kinds
+  do = \"mangle\"    from, to, kinds; cut = bytes, or flip = places
+  do = \"timeout\"   at = a list of replicas
+  do = \"forge\"     from = a faulty replica, to, kind; of pre-prepare, prepare, commit view, number, and
+                   client and time, or null = true; of checkpoint number, digest; of view-change view
+  do = \"raw\"       to; bytes = hex, or message = a name with cut = bytes, or flip = places
+  do = \"show\"
+  do = \"digest\"
+  do = \"state\"     at = a replica
+  do = \"upgrade\"   bytes = hex
+  do = \"expect\"    lines = a list of lines, or a text
+  do = \"audit\"
+
+as = a name, in a step that queues or in queue: its first message, for a later raw.
+
+from, to and kinds are lists; left out, they match all. Kinds: request, pre-prepare, prepare, commit, reply,
+checkpoint, view-change, new-view, fetch, snapshot.";
+
+/// `world` and its options.
+pub(crate) fn world_command<'a>(alloc: Global) -> Result<Command<'a>, AllocError> {
+    let trace = Arg::new(alloc, "trace")
+        .long("trace")
+        .action(ArgAction::SetTrue)
+        .help("before the lines of a step one for each thing that happened");
+    let chart = Arg::new(alloc, "chart")
+        .long("chart")
+        .value_name("FORM")
+        .num_args(0..=1)
+        .default_missing_value("mermaid")
+        .value_parser(["mermaid", "svg"].as_slice())
+        .help("what happened as a chart of messages, in place of the lines [default: mermaid]");
+    Command::new(alloc, "world")
+        .about("Runs a script of replicas, some of them faulty")
+        .after_help(STEPS)
+        .arg(trace)?
+        .arg(chart)
+}
+
+/// `explore`, its file and its options.
+pub(crate) fn explore_command<'a>(alloc: Global) -> Result<Command<'a>, AllocError> {
+    let file = Arg::new(alloc, "file")
+        .value_name("FILE")
+        .help("the script [default: standard input]");
+    let seeds = Arg::new(alloc, "seeds")
+        .long("seeds")
+        .value_name("A..B")
+        .required(true)
+        .help("the seeds from A on, without B");
+    let workers = Arg::new(alloc, "workers")
+        .long("workers")
+        .value_name("N")
+        .value_parser(value_parser!(u8))
+        .help("how many seeds are run side by side [default: 1]");
+    Command::new(alloc, "explore")
+        .about("Runs a script under many orders of its deliveries and audits each")
+        .arg(file)?
+        .arg(seeds)?
+        .arg(workers)
+}
+
+/// Runs a script of a world.
+pub(crate) fn play<I: Read, O: Write>(
+    alloc: Global,
+    options: &ArgMatches<'_>,
+    reader: &mut I,
+    writer: &mut O,
+) -> Result<(), Failure> {
+    let played = match options.get_str("chart") {
+        Some("svg") => chart_script(alloc, ChartForm::Svg, reader, writer)?,
+        Some(_) => chart_script(alloc, ChartForm::Mermaid, reader, writer)?,
+        None if options.get_flag("trace") => trace_script(alloc, reader, writer)?,
+        None => run_script(alloc, reader, writer)?,
+    };
+    match played {
+        Played::Whole => Ok(()),
+        Played::Unexpected => Err(Failure::Refused),
+    }
+}
+
+/// Runs a script under many seeds.
+pub(crate) fn explore<R: Files + AllocGlobal + Threads + Sync, I: Read, O: Write>(
+    rt: &R,
+    options: &ArgMatches<'_>,
+    reader: &mut I,
+    writer: &mut O,
+) -> Result<(), Failure> {
+    let seeds = seeds_of(options)?;
+    let workers = usize::from(options.get_one::<u8>("workers").unwrap_or(1));
+    match options.get_str("file") {
+        Some(path) => {
+            let bytes = bytes_of(rt, path)?;
+            let mut reader = bytes.as_slice();
+            search(rt, workers, seeds, &mut reader, writer)
+        }
+        None => search(rt, workers, seeds, reader, writer),
+    }
+}
+
+/// Runs a script under many seeds, one after another, as a run of a folder, which has no files and no threads.
+pub(crate) fn explore_alone<I: Read, O: Write>(
+    alloc: Global,
+    options: &ArgMatches<'_>,
+    reader: &mut I,
+    writer: &mut O,
+) -> Result<(), Failure> {
+    if options.get_str("file").is_some() {
+        return Err(Failure::Nested);
+    }
+    let seeds = seeds_of(options)?;
+    ended(explore_script(alloc, seeds, reader, writer)?)
+}
+
+fn search<R: AllocGlobal + Threads + Sync, I: Read, O: Write>(
+    rt: &R,
+    workers: usize,
+    seeds: Seeds,
+    reader: &mut I,
+    writer: &mut O,
+) -> Result<(), Failure> {
+    let alloc = rt.alloc();
+    if workers <= 1 {
+        return ended(explore_script(alloc, seeds, reader, writer)?);
+    }
+    ended(explore_side_by_side(rt, alloc, workers, seeds, reader, writer)?)
+}
+
+fn ended(searched: Searched) -> Result<(), Failure> {
+    match searched {
+        Searched::Agreed => Ok(()),
+        Searched::Refused => Err(Failure::Refused),
+    }
+}
+
+/// The bytes of a script.
+fn bytes_of<R: Files + AllocGlobal>(rt: &R, path: &str) -> Result<Vec<u8>, Failure> {
+    match fs::read(rt, path) {
+        Ok(bytes) => Ok(bytes),
+        Err(error) => Err(unreadable(rt.alloc(), path, &error)?),
+    }
+}
+
+/// The seeds that the options name.
+fn seeds_of(options: &ArgMatches<'_>) -> Result<Seeds, Failure> {
+    match read_seeds(options.get_str("seeds").unwrap_or("")) {
+        Some(seeds) => Ok(seeds),
+        None => Err(Failure::BadSeeds),
+    }
+}
+
+/// Reads `A..B`.
+fn read_seeds(text: &str) -> Option<Seeds> {
+    let (first, end) = text.split_once("..")?;
+    match (first.parse::<u64>(), end.parse::<u64>()) {
+        (Ok(first), Ok(end)) if first < end && end <= SEEDS_END => Some(Seeds { first, end }),
+        _ => None,
+    }
+}

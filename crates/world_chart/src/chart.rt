@@ -1,0 +1,34 @@
+//! What happened as a chart.
+
+use crate::lanes::Lanes;
+use crate::mermaid::mermaid;
+use crate::picture::picture;
+use crate::rows::{Row, rows_of};
+use std::alloc::{AllocError, Global};
+use trace_lines::Happening;
+
+/// What happened, as a chart of messages.
+#[derive(Drop)]
+pub struct Chart {
+    lanes: Lanes,
+    rows: Vec<Row>,
+}
+
+impl Chart {
+    /// The chart of what happened. More than 100 messages are folded: those that follow one another with nothing
+    /// between them stand in one row.
+    pub fn new(alloc: Global, lanes: Lanes, happened: &[Happening]) -> Result<Chart, AllocError> {
+        let rows = rows_of(alloc, &lanes, happened)?;
+        Ok(Chart { lanes, rows })
+    }
+
+    /// The chart as a sequence diagram of Mermaid.
+    pub fn mermaid(&self, alloc: Global) -> Result<String, AllocError> {
+        mermaid(alloc, self.lanes.names(), &self.rows)
+    }
+
+    /// The chart as a picture, an SVG that stands on its own.
+    pub fn svg(&self, alloc: Global) -> Result<String, AllocError> {
+        picture(alloc, self.lanes.names(), &self.rows)
+    }
+}

@@ -1,0 +1,15 @@
+//! What happened in a world as a chart of messages: a lane for each client and replica, a row for each message and for
+//! each thing that a replica did.
+//!
+//!     let chart = Chart::new(alloc, lanes, &happened)?;
+//!     print(&chart.mermaid(alloc)?)?;
+#![tactic(auto)]
+
+mod chart;
+mod lanes;
+mod mermaid;
+mod picture;
+mod rows;
+
+pub use chart::Chart;
+pub use lanes::Lanes;

@@ -1,0 +1,195 @@
+//! The rows of a chart.
+
+use crate::lanes::Lanes;
+use blame::Claim;
+use host_types::{ReplicaId, View};
+use script_text::Node;
+use std::alloc::{AllocError, Global};
+use trace_lines::{Happening, Saying, line_of, words_of};
+
+/// The most messages that are drawn one by one.
+const MAX_MESSAGES: usize = 100;
+
+/// What a row shows.
+#[derive(Clone, Copy, Debug, PartialEq, Eq)]
+pub(crate) enum Shape {
+    /// A message between two lanes.
+    Arrow { from: usize, to: usize },
+    /// One that is lost.
+    Cross { from: usize, to: usize },
+    /// What happens at a lane.
+    Note { lane: usize },
+    /// What a replica can't go on from, or should not have said.
+    Alarm { lane: usize },
+    /// Many messages in one row.
+    Fold,
+    /// From here on some replica is in this view.
+    View { view: View },
+}
+
+/// A row: what it shows, and its words.
+#[derive(Drop)]
+pub(crate) struct Row {
+    pub(crate) shape: Shape,
+    pub(crate) words: String,
+}
+
+/// The rows of what happened. Where there are more than 100 messages, those that follow one another stand in one row.
+pub(crate) fn rows_of(
+    alloc: Global,
+    lanes: &Lanes,
+    happened: &[Happening],
+) -> Result<Vec<Row>, AllocError> {
+    let folds = happened.iter().filter(|one| is_message(one)).count() > MAX_MESSAGES;
+    let mut rows = Rows {
+        alloc,
+        lanes,
+        rows: Vec::new(alloc),
+        view: View(0),
+        folded: 0,
+    };
+    for happening in happened {
+        if folds && is_message(happening) {
+            rows.folded = rows.folded.saturating_add(1);
+        } else {
+            rows.unfold()?;
+            rows.add(happening)?;
+        }
+    }
+    rows.unfold()?;
+    let Rows { rows, .. } = rows;
+    Ok(rows)
+}
+
+fn is_message(happening: &Happening) -> bool {
+    matches!(happening, Happening::Handed { .. } | Happening::Lost { .. })
+}
+
+/// Rows that are being made.
+#[derive(Drop)]
+struct Rows<'a> {
+    alloc: Global,
+    lanes: &'a Lanes,
+    rows: Vec<Row>,
+    /// The greatest view that a replica has entered.
+    view: View,
+    /// How many messages wait for a row.
+    folded: usize,
+}
+
+impl Rows<'_> {
+    fn push(&mut self, shape: Shape, words: String) -> Result<(), AllocError> {
+        self.rows.push(Row { shape, words })?;
+        Ok(())
+    }
+
+    /// Ends a row of many messages, if one was begun.
+    fn unfold(&mut self) -> Result<(), AllocError> {
+        let many = self.folded;
+        self.folded = 0;
+        if many == 0 {
+            return Ok(());
+        }
+        let words = format!(in self.alloc; "{many} messages")?;
+        self.push(Shape::Fold, words)
+    }
+
+    fn add(&mut self, happening: &Happening) -> Result<(), AllocError> {
+        if let Happening::Entered { view, .. } = *happening {
+            self.add_view(view)?;
+        }
+        match *happening {
+            Happening::Handed { from, to, saying } => self.add_message(from, to, &saying, false),
+            Happening::Lost { from, to, saying } => self.add_message(from, to, &saying, true),
+            Happening::Blamed { one, .. } => self.add_blame(happening, &one),
+            _ => self.add_note(happening),
+        }
+    }
+
+    /// Begins a view that no replica has entered yet.
+    fn add_view(&mut self, view: View) -> Result<(), AllocError> {
+        if view.0 <= self.view.0 {
+            return Ok(());
+        }
+        self.view = view;
+        let number = view.0;
+        let words = format!(in self.alloc; "view {number}")?;
+        self.push(Shape::View { view }, words)
+    }
+
+    fn add_message(
+        &mut self,
+        from: Option<Node>,
+        to: Node,
+        saying: &Saying,
+        is_lost: bool,
+    ) -> Result<(), AllocError> {
+        let words = words_of(self.alloc, saying)?;
+        let to = self.lanes.lane_of(to);
+        let shape = match from {
+            None => Shape::Note { lane: to },
+            Some(from) => {
+                let from = self.lanes.lane_of(from);
+                if is_lost {
+                    Shape::Cross { from, to }
+                } else {
+                    Shape::Arrow { from, to }
+                }
+            }
+        };
+        self.push(shape, words)
+    }
+
+    fn add_blame(&mut self, happening: &Happening, one: &Claim) -> Result<(), AllocError> {
+        let words = line_words(self.alloc, happening)?;
+        let lane = match u8::try_from(one.signer) {
+            Ok(id) => self.lanes.lane_of_replica(ReplicaId(id)),
+            Err(_) => 0,
+        };
+        self.push(Shape::Alarm { lane }, words)
+    }
+
+    /// What a replica or a client does, without its id.
+    fn add_note(&mut self, happening: &Happening) -> Result<(), AllocError> {
+        let lane = self.lane_of(happening);
+        let words = self.note_words(happening)?;
+        let shape = match happening {
+            Happening::Halted { .. } | Happening::Refused { .. } => Shape::Alarm { lane },
+            _ => Shape::Note { lane },
+        };
+        self.push(shape, words)
+    }
+
+    fn note_words(&self, happening: &Happening) -> Result<String, AllocError> {
+        if let Happening::Accepted { .. } = happening {
+            return String::from_str(self.alloc, "accepts");
+        }
+        let line = line_words(self.alloc, happening)?;
+        match line.as_str().split_once(' ') {
+            Some((_, words)) => String::from_str(self.alloc, words),
+            None => Ok(line),
+        }
+    }
+
+    fn lane_of(&self, happening: &Happening) -> usize {
+        match *happening {
+            Happening::Refused { at, .. }
+            | Happening::TimedOut { at }
+            | Happening::Executed { at, .. }
+            | Happening::Installed { at, .. }
+            | Happening::Left { at, .. }
+            | Happening::Entered { at, .. }
+            | Happening::Raised { at, .. }
+            | Happening::Halted { at, .. } => self.lanes.lane_of_replica(at),
+            Happening::Accepted { client } => self.lanes.lane_of(Node::Client(client)),
+            Happening::Handed { to, .. } | Happening::Lost { to, .. } => self.lanes.lane_of(to),
+            Happening::Blamed { .. } => 0,
+        }
+    }
+}
+
+/// The line of what happened, without its line end.
+fn line_words(alloc: Global, happening: &Happening) -> Result<String, AllocError> {
+    let line = line_of(alloc, happening)?;
+    String::from_str(alloc, line.as_str().trim_end())
+}

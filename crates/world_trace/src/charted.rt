@@ -1,0 +1,130 @@
+//! A script as a chart.
+
+use crate::runner::Runner;
+use crate::trace::read_whole;
+use crate::tracer::Tracer;
+use script_text::{Script, ScriptFault, ScriptKind};
+use std::alloc::{AllocError, Global};
+use std::io::{Read, Write};
+use trace_lines::Happening;
+use world_chart::{Chart, Lanes};
+use world_script::{Played, RunFault, report, write_text};
+
+/// How a chart is written.
+#[derive(Clone, Copy, Debug, PartialEq, Eq)]
+pub enum ChartForm {
+    /// A sequence diagram of Mermaid.
+    Mermaid,
+    /// An SVG that stands on its own.
+    Svg,
+}
+
+/// Reads a script to the end of the reader and runs its steps, and writes what happened as a chart, and none of the
+/// lines that the steps print. A script that ends early has a chart of what happened until then, and, as in `run_script`,
+/// the line of its fault or of its `expect` behind it.
+pub fn chart_script<I: Read, O: Write>(
+    alloc: Global,
+    form: ChartForm,
+    reader: &mut I,
+    writer: &mut O,
+) -> Result<Played, ScriptFault> {
+    let script = match read_whole(alloc, reader) {
+        Ok(script) => script,
+        Err(fault) => return Err(report(fault, writer)),
+    };
+    match chart_steps(alloc, form, &script, writer) {
+        Ok(played) => Ok(played),
+        Err(fault) => Err(report(fault, writer)),
+    }
+}
+
+fn chart_steps<O: Write>(
+    alloc: Global,
+    form: ChartForm,
+    script: &Script,
+    writer: &mut O,
+) -> Result<Played, ScriptFault> {
+    let Ok(mut runner) = Runner::new(alloc, &script.head) else {
+        return Err(ScriptFault::at_head(ScriptKind::Memory));
+    };
+    let mut tracer = Tracer::new(alloc);
+    let mut text = String::new(alloc);
+    let (number, ended) = run_all(script, &mut runner, &mut tracer, &mut text);
+    match write_chart(alloc, form, script, &runner, tracer.happened(), writer) {
+        Ok(()) => {}
+        Err(fault) => {
+            let kind = fault.into();
+            return Err(ScriptFault { kind, step: number });
+        }
+    }
+    end(number, ended, text.as_str(), writer)
+}
+
+/// Runs the steps. The number of the last one that ran, and how it ended.
+fn run_all(
+    script: &Script,
+    runner: &mut Runner,
+    tracer: &mut Tracer,
+    text: &mut String,
+) -> (u32, Result<Played, RunFault>) {
+    let mut number: u32 = 0;
+    for step in script.steps.as_slice() {
+        number = number.saturating_add(1);
+        text.clear();
+        match runner.run(number, step, None, tracer, text) {
+            Ok(Played::Whole) => {}
+            ended => return (number, ended),
+        }
+    }
+    (number, Ok(Played::Whole))
+}
+
+/// How the script ends behind its chart.
+fn end<O: Write>(
+    step: u32,
+    ended: Result<Played, RunFault>,
+    text: &str,
+    writer: &mut O,
+) -> Result<Played, ScriptFault> {
+    match ended {
+        Ok(Played::Whole) => Ok(Played::Whole),
+        Ok(Played::Unexpected) => match write_text(writer, text) {
+            Ok(()) => Ok(Played::Unexpected),
+            Err(fault) => {
+                let kind = fault.into();
+                Err(ScriptFault { kind, step })
+            }
+        },
+        Err(fault) => {
+            let kind = fault.into();
+            Err(ScriptFault { kind, step })
+        }
+    }
+}
+
+fn write_chart<O: Write>(
+    alloc: Global,
+    form: ChartForm,
+    script: &Script,
+    runner: &Runner,
+    happened: &[Happening],
+    writer: &mut O,
+) -> Result<(), RunFault> {
+    let text = chart_text(alloc, form, script, runner, happened)?;
+    write_text(writer, &text)
+}
+
+fn chart_text(
+    alloc: Global,
+    form: ChartForm,
+    script: &Script,
+    runner: &Runner,
+    happened: &[Happening],
+) -> Result<String, AllocError> {
+    let lanes = Lanes::new(alloc, runner.stage.config(), script.head.faulty())?;
+    let chart = Chart::new(alloc, lanes, happened)?;
+    match form {
+        ChartForm::Mermaid => chart.mermaid(alloc),
+        ChartForm::Svg => chart.svg(alloc),
+    }
+}

@@ -1,0 +1,158 @@
+//! A script under many orders of its deliveries.
+
+use crate::evidence::Evidence;
+use crate::runner::Runner;
+use crate::watcher::Watcher;
+use blame::Claim;
+use byz_world::AuditFault;
+use host_types::ReplicaId;
+use replica_core::Row;
+use script_text::{NamedStep, Node, Script, ScriptFault, ScriptKind};
+use std::alloc::{AllocError, Global};
+use world_script::{Letter, Stage};
+
+/// The seeds from the first on, without the last.
+#[derive(Clone, Copy, Debug, PartialEq, Eq)]
+pub struct Seeds {
+    pub first: u64,
+    pub end: u64,
+}
+
+/// What came of a script under one order of its deliveries.
+#[derive(Clone, Copy, Debug, PartialEq, Eq)]
+pub enum Outcome {
+    /// All its steps ran, and the rows of the correct replicas agree.
+    Agreed,
+    /// All its steps ran, and the rows don't agree.
+    Audited(AuditFault),
+    /// The `expect` of this step found other lines; of its own, or behind them, this is the first that differs.
+    Unexpected { step: u32, line: usize },
+    /// It ended early.
+    Faulted(ScriptFault),
+}
+
+/// What came of a script under one order, and who said two things of one topic.
+#[derive(Drop)]
+pub struct Explored {
+    pub outcome: Outcome,
+    /// The claims that contradict each other, the one with the lower digest first.
+    pub blamed: Vec<(Claim, Claim)>,
+}
+
+/// Runs a script with all its deliveries in the order that a seed draws, and audits. The error is that memory ran out.
+pub fn explore_seed(alloc: Global, script: &Script, seed: u64) -> Result<Explored, AllocError> {
+    let mut runner = Runner::new(alloc, &script.head)?;
+    let mut listener = Listener {
+        evidence: Evidence::new(alloc),
+    };
+    let outcome = outcome_of(alloc, script, seed, &mut runner, &mut listener)?;
+    Ok(Explored {
+        outcome,
+        blamed: in_order(alloc, &listener.evidence.news()?)?,
+    })
+}
+
+/// Runs the steps of a script, and audits.
+fn outcome_of(
+    alloc: Global,
+    script: &Script,
+    seed: u64,
+    runner: &mut Runner,
+    listener: &mut Listener,
+) -> Result<Outcome, AllocError> {
+    let mut number: u32 = 0;
+    for step in script.steps.as_slice() {
+        number = number.saturating_add(1);
+        if let Some(outcome) = early_outcome(alloc, runner, number, step, seed, listener)? {
+            return Ok(outcome);
+        }
+    }
+    match runner.stage.world().audit() {
+        Ok(_) => Ok(Outcome::Agreed),
+        Err(AuditFault::Memory) => Err(AllocError),
+        Err(fault) => Ok(Outcome::Audited(fault)),
+    }
+}
+
+/// Runs a step. How the script ends there, if it does.
+fn early_outcome(
+    alloc: Global,
+    runner: &mut Runner,
+    number: u32,
+    step: &NamedStep,
+    seed: u64,
+    listener: &mut Listener,
+) -> Result<Option<Outcome>, AllocError> {
+    if let Some(line) = runner.differing(step) {
+        return Ok(Some(Outcome::Unexpected { step: number, line }));
+    }
+    let mut text = String::new(alloc);
+    match runner.run(number, step, Some(seed), listener, &mut text) {
+        Ok(_) => Ok(None),
+        Err(fault) => match fault.into() {
+            ScriptKind::Memory => Err(AllocError),
+            kind => Ok(Some(Outcome::Faulted(ScriptFault { kind, step: number }))),
+        },
+    }
+}
+
+/// Each pair with the lower digest first.
+fn in_order(alloc: Global, pairs: &[(Claim, Claim)]) -> Result<Vec<(Claim, Claim)>, AllocError> {
+    let mut ordered = Vec::new(alloc);
+    for (one, other) in pairs {
+        if one.digest.0 <= other.digest.0 {
+            ordered.push((*one, *other))?;
+        } else {
+            ordered.push((*other, *one))?;
+        }
+    }
+    Ok(ordered)
+}
+
+/// A watcher that only listens to what messages say.
+#[derive(Drop)]
+struct Listener {
+    evidence: Evidence,
+}
+
+impl Listener {
+    fn listen(&mut self, row: Option<Row>) -> Result<(), AllocError> {
+        match row {
+            Some(row) => self.evidence.add(&row),
+            None => Ok(()),
+        }
+    }
+}
+
+impl Watcher for Listener {
+    fn about(&mut self, _stage: &Stage, _letter: &Letter) -> Result<(), AllocError> {
+        Ok(())
+    }
+
+    fn handed(
+        &mut self,
+        _stage: &Stage,
+        _to: Node,
+        _line: &str,
+        row: Option<Row>,
+    ) -> Result<(), AllocError> {
+        self.listen(row)
+    }
+
+    fn losing(&mut self, _letter: &Letter) -> Result<(), AllocError> {
+        Ok(())
+    }
+
+    fn about_timeout(&mut self, _stage: &Stage, _at: ReplicaId) -> Result<(), AllocError> {
+        Ok(())
+    }
+
+    fn timed_out(
+        &mut self,
+        _stage: &Stage,
+        _at: ReplicaId,
+        row: Option<Row>,
+    ) -> Result<(), AllocError> {
+        self.listen(row)
+    }
+}

@@ -1,0 +1,204 @@
+//! What is found under one seed after another.
+
+use crate::explore::{Explored, Outcome, Seeds, explore_seed};
+use crate::trace::read_whole;
+use blame::Claim;
+use script_text::{Script, ScriptFault, ScriptKind};
+use std::alloc::{AllocError, Global};
+use std::cmp::min;
+use std::io::{Read, Write};
+use std::thread::{self, Threads};
+use trace_lines::{Happening, line_of};
+use world_script::{RunFault, report, write_text};
+
+/// What came of a script under all seeds.
+#[must_use]
+#[derive(Clone, Copy, Debug, PartialEq, Eq)]
+pub enum Searched {
+    /// Its steps ran, each `expect` found its lines, and the rows of the correct replicas agreed, under each seed.
+    Agreed,
+    /// Under one seed it was not so; the line that says so is written.
+    Refused,
+}
+
+/// Reads a script to the end of the reader, and runs it under one seed after another, until one is found under which a
+/// step ends the script early, or the audit at its end finds a fault. Writes a line for it, and before it one for each two
+/// claims that blame a replica, with the first seed where they were heard; and how many seeds there were, where all
+/// agreed. What `run_script` refuses is refused with the same line.
+pub fn explore_script<I: Read, O: Write>(
+    alloc: Global,
+    seeds: Seeds,
+    reader: &mut I,
+    writer: &mut O,
+) -> Result<Searched, ScriptFault> {
+    let script = match read_whole(alloc, reader) {
+        Ok(script) => script,
+        Err(fault) => return Err(report(fault, writer)),
+    };
+    match explore_in_turn(alloc, &script, seeds, writer) {
+        Ok(searched) => Ok(searched),
+        Err(fault) => Err(report(ScriptFault::at_head(fault.into()), writer)),
+    }
+}
+
+/// Does the same, with so many seeds side by side, each in a thread of its own where one can be made. What is written is
+/// the same.
+pub fn explore_side_by_side<R: Threads + Sync, I: Read, O: Write>(
+    rt: &R,
+    alloc: Global,
+    workers: usize,
+    seeds: Seeds,
+    reader: &mut I,
+    writer: &mut O,
+) -> Result<Searched, ScriptFault> {
+    let script = match read_whole(alloc, reader) {
+        Ok(script) => script,
+        Err(fault) => return Err(report(fault, writer)),
+    };
+    match explore_in_batches(rt, alloc, workers, &script, seeds, writer) {
+        Ok(searched) => Ok(searched),
+        Err(fault) => Err(report(ScriptFault::at_head(fault.into()), writer)),
+    }
+}
+
+fn explore_in_turn<O: Write>(
+    alloc: Global,
+    script: &Script,
+    seeds: Seeds,
+    writer: &mut O,
+) -> Result<Searched, RunFault> {
+    let mut findings = Findings::new(alloc);
+    for seed in seeds.first..seeds.end {
+        let explored = explore_seed(alloc, script, seed)?;
+        if findings.take(seed, &explored, writer)? == Searched::Refused {
+            return Ok(Searched::Refused);
+        }
+    }
+    findings.end(seeds, writer)
+}
+
+fn explore_in_batches<R: Threads + Sync, O: Write>(
+    rt: &R,
+    alloc: Global,
+    workers: usize,
+    script: &Script,
+    seeds: Seeds,
+    writer: &mut O,
+) -> Result<Searched, RunFault> {
+    let mut findings = Findings::new(alloc);
+    let mut next = seeds.first;
+    for _ in seeds.first..seeds.end {
+        let left = usize::try_from(seeds.end.saturating_sub(next)).unwrap_or(usize::MAX);
+        let batch = run_batch(rt, alloc, script, next, min(workers, left))?;
+        if batch.is_empty() {
+            break;
+        }
+        for explored in batch {
+            if findings.take(next, &explored?, writer)? == Searched::Refused {
+                return Ok(Searched::Refused);
+            }
+            next = next.saturating_add(1);
+        }
+    }
+    findings.end(seeds, writer)
+}
+
+/// Runs a script under so many seeds from one on, side by side.
+fn run_batch<R: Threads + Sync>(
+    rt: &R,
+    alloc: Global,
+    script: &Script,
+    first: u64,
+    count: usize,
+) -> Result<Vec<Result<Explored, AllocError>>, AllocError> {
+    let run = move |index: usize| -> Result<Explored, AllocError> {
+        explore_seed(alloc, script, first.saturating_add(index as u64))
+    };
+    thread::map_indices(rt, alloc, count, &run)
+}
+
+/// What was found under the seeds so far.
+#[derive(Drop)]
+struct Findings {
+    alloc: Global,
+    blamed: Vec<(Claim, Claim)>,
+}
+
+impl Findings {
+    fn new(alloc: Global) -> Findings {
+        Findings {
+            alloc,
+            blamed: Vec::new(alloc),
+        }
+    }
+
+    /// Takes what came of the script under a seed, and writes what is new of it.
+    fn take<O: Write>(
+        &mut self,
+        seed: u64,
+        explored: &Explored,
+        writer: &mut O,
+    ) -> Result<Searched, RunFault> {
+        for (one, other) in &explored.blamed {
+            self.blame(seed, *one, *other, writer)?;
+        }
+        match line_of_outcome(self.alloc, seed, &explored.outcome)? {
+            Some(line) => {
+                write_text(writer, &line)?;
+                Ok(Searched::Refused)
+            }
+            None => Ok(Searched::Agreed),
+        }
+    }
+
+    /// Writes that two claims contradict each other, unless they did under an earlier seed.
+    fn blame<O: Write>(
+        &mut self,
+        seed: u64,
+        one: Claim,
+        other: Claim,
+        writer: &mut O,
+    ) -> Result<(), RunFault> {
+        if !self.is_new(one, other)? {
+            return Ok(());
+        }
+        let line = line_of(self.alloc, &Happening::Blamed { one, other })?;
+        write_text(writer, &format!(in self.alloc; "seed {seed} {line}")?)
+    }
+
+    /// Whether two claims did not contradict each other under an earlier seed; from now on they did.
+    fn is_new(&mut self, one: Claim, other: Claim) -> Result<bool, AllocError> {
+        if self.blamed.contains(&(one, other)) {
+            return Ok(false);
+        }
+        self.blamed.push((one, other))?;
+        Ok(true)
+    }
+
+    /// Writes how many seeds there were.
+    fn end<O: Write>(&self, seeds: Seeds, writer: &mut O) -> Result<Searched, RunFault> {
+        let many = seeds.end.saturating_sub(seeds.first);
+        write_text(writer, &format!(in self.alloc; "explored {many} seeds\n")?)?;
+        Ok(Searched::Agreed)
+    }
+}
+
+/// The line that says why a seed ends the search; none where the replicas agreed.
+fn line_of_outcome(
+    alloc: Global,
+    seed: u64,
+    outcome: &Outcome,
+) -> Result<Option<String>, AllocError> {
+    let line = match *outcome {
+        Outcome::Agreed => return Ok(None),
+        Outcome::Audited(fault) => {
+            let number = fault.number();
+            format!(in alloc; "seed {seed} audit fault {number} {fault}\n")
+        }
+        Outcome::Unexpected { step, line } => {
+            format!(in alloc; "seed {seed} expect fault step {step} line {line}\n")
+        }
+        Outcome::Faulted(fault) => format!(in alloc; "seed {seed} {fault}\n"),
+    };
+    Ok(Some(line?))
+}

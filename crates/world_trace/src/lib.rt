@@ -1,0 +1,22 @@
+//! Scripts of a world, watched: with a line for each thing that happens (`trace_script`), as a chart of messages
+//! (`chart_script`), and under many orders of their deliveries (`explore_seed`). The steps are those of `world_script`,
+//! and what they print is the same.
+//!
+//!     let played = trace_script(alloc, &mut reader, &mut writer)?;
+#![tactic(auto)]
+
+mod charted;
+mod evidence;
+mod explore;
+mod findings;
+mod refusal;
+mod runner;
+mod trace;
+mod tracer;
+mod watcher;
+
+pub use charted::{ChartForm, chart_script};
+pub use explore::{Explored, Outcome, Seeds, explore_seed};
+pub use findings::{Searched, explore_script, explore_side_by_side};
+pub use trace::trace_script;
+pub use world_script::{Played, ScriptFault, ScriptKind};

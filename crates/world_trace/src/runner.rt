@@ -1,0 +1,186 @@
+//! A script's steps, one after another, before a watcher.
+
+ghost use Rattle.std.specs.Prelude.{◌<◌};
+ghost use Rattle.world_script.specs.Letters.{meant_count};
+
+use crate::watcher::Watcher;
+use host_types::ReplicaId;
+use script_text::{Filter, Head, NamedStep, Node, Step};
+use std::alloc::{AllocError, Global};
+use world_script::{
+    Played, RunFault, Stage, differing_line, drawn, line_of_unexpected, next_state,
+};
+
+/// The most deliveries of one step.
+const MAX_DELIVERIES: u32 = 1_000_000;
+
+/// A running script, and what was printed since its last `expect`.
+#[derive(Drop)]
+pub(crate) struct Runner {
+    alloc: Global,
+    pub(crate) stage: Stage,
+    unread: String,
+}
+
+impl Runner {
+    pub(crate) fn new(alloc: Global, head: &Head) -> Result<Runner, AllocError> {
+        Ok(Runner {
+            alloc,
+            stage: Stage::new(alloc, head)?,
+            unread: String::new(alloc),
+        })
+    }
+
+    /// Runs the step of this number, and adds what it prints to a text. Where an order is given, it is that of a
+    /// `deliver`, whatever its own is.
+    pub(crate) fn run<W: Watcher>(
+        &mut self,
+        number: u32,
+        step: &NamedStep,
+        order: Option<u64>,
+        watcher: &mut W,
+        text: &mut String,
+    ) -> Result<Played, RunFault> {
+        if let Step::Expect(expected) = &step.step {
+            return self.compare(number, expected.as_slice(), text);
+        }
+        let before = self.stage.queue_length();
+        self.act(&step.step, order, watcher, text)?;
+        self.unread.push_str(text.as_str())?;
+        self.stage.name(step, before)?;
+        Ok(Played::Whole)
+    }
+
+    /// The first line in which what was printed since the last `expect` differs from this one's.
+    pub(crate) fn differing(&self, step: &NamedStep) -> Option<usize> {
+        match &step.step {
+            Step::Expect(expected) => differing_line(expected.as_slice(), self.unread.as_bytes()),
+            _ => None,
+        }
+    }
+
+    /// Compares what was printed since the last `expect` with these lines.
+    fn compare(
+        &mut self,
+        number: u32,
+        expected: &[u8],
+        text: &mut String,
+    ) -> Result<Played, RunFault> {
+        let Some(line) = differing_line(expected, self.unread.as_bytes()) else {
+            self.unread.clear();
+            return Ok(Played::Whole);
+        };
+        text.push_str(&line_of_unexpected(self.alloc, number, line)?)?;
+        Ok(Played::Unexpected)
+    }
+
+    fn act<W: Watcher>(
+        &mut self,
+        step: &Step,
+        order: Option<u64>,
+        watcher: &mut W,
+        text: &mut String,
+    ) -> Result<(), RunFault> {
+        match step {
+            Step::Deliver { filter, order: own } => {
+                self.deliver(filter, order.or(*own), watcher, text)
+            }
+            Step::Timeout(at) => self.time_out(at.as_slice(), watcher),
+            Step::Drop(filter) => {
+                self.lose(filter, watcher)?;
+                self.perform(step, text)
+            }
+            _ => self.perform(step, text),
+        }
+    }
+
+    /// Runs a step in which nothing happens at a replica.
+    fn perform(&mut self, step: &Step, text: &mut String) -> Result<(), RunFault> {
+        let mut sink: Vec<u8> = Vec::new(self.alloc);
+        let printed = self.stage.run(step, &mut sink)?;
+        text.push_str(&printed)?;
+        Ok(())
+    }
+
+    /// Delivers letters that are meant until none is: the oldest first, or in the order that a seed draws.
+    fn deliver<W: Watcher>(
+        &mut self,
+        filter: &Filter,
+        order: Option<u64>,
+        watcher: &mut W,
+        text: &mut String,
+    ) -> Result<(), RunFault> {
+        let mut state = order.unwrap_or(0);
+        for _ in 0..MAX_DELIVERIES {
+            let count = self.stage.count_meant(filter);
+            if count == 0 {
+                return Ok(());
+            }
+            let mut passed = 0;
+            if order.is_some() {
+                state = next_state(state);
+                passed = drawn(state, count);
+            }
+            self.deliver_one(filter, passed, watcher, text)?;
+        }
+        if self.stage.count_meant(filter) > 0 {
+            return Err(RunFault::TooManyDeliveries);
+        }
+        Ok(())
+    }
+
+    /// Delivers the letter that is meant and has so many before it that are.
+    fn deliver_one<W: Watcher>(
+        &mut self,
+        filter: &Filter,
+        passed: usize,
+        watcher: &mut W,
+        text: &mut String,
+    ) -> Result<(), AllocError>
+        requires { passed < meant_count filter.now self.old.stage.queue }
+    {
+        let Some(to) = self.announce(filter, passed, watcher)? else {
+            return Ok(());
+        };
+        let line = self.stage.deliver_at(filter, passed)?;
+        text.push_str(&line)?;
+        let row = self.stage.take_row();
+        watcher.handed(&self.stage, to, &line, row)
+    }
+
+    /// Tells of the letter that is to be handed over. Its addressee.
+    fn announce<W: Watcher>(
+        &self,
+        filter: &Filter,
+        passed: usize,
+        watcher: &mut W,
+    ) -> Result<Option<Node>, AllocError>
+        requires { passed < meant_count filter.now self.now.stage.queue }
+    {
+        let Some(letter) = self.stage.letter_meant(filter, passed) else {
+            return Ok(None);
+        };
+        watcher.about(&self.stage, letter)?;
+        Ok(Some(letter.to()))
+    }
+
+    fn time_out<W: Watcher>(&mut self, at: &[ReplicaId], watcher: &mut W) -> Result<(), RunFault> {
+        for id in at {
+            watcher.about_timeout(&self.stage, *id)?;
+            self.stage.time_out_at(*id)?;
+            let row = self.stage.take_row();
+            watcher.timed_out(&self.stage, *id, row)?;
+        }
+        Ok(())
+    }
+
+    /// Tells of the letters that are to be lost.
+    fn lose<W: Watcher>(&self, filter: &Filter, watcher: &mut W) -> Result<(), AllocError> {
+        for passed in 0..self.stage.count_meant(filter) {
+            if let Some(letter) = self.stage.letter_meant(filter, passed) {
+                watcher.losing(letter)?;
+            }
+        }
+        Ok(())
+    }
+}
