@@ -5,7 +5,8 @@ use Rattle.std.proofs.Math.Nat.{eq-or-lt_of_le}
 use Rattle.std.proofs.lemmas.List.Elements.{Contains-append_left, Contains-append_right, Contains-append_cases}
 use Rattle.std.proofs.lemmas.Option.{slice_get_within}
 use Rattle.seal.specs.Opening.{CheckedMessage}
-use Rattle.blame.specs.Claims.{Grows, HasBelow, IsConflict}
+use Rattle.blame.specs.Claims.{IsConflict}
+use Rattle.blame.specs.Gathering.{Grows, HasBelow}
 
 one_has : {X : Type 0} → (x y : X) → Contains (x ∷ []) y → x ≡ y
 one_has x y (zero, below, is) = is

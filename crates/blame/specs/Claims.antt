@@ -1,6 +1,5 @@
 -- Statement: what a replica says at most once, and where it says two things.
-use Rattle.std.specs.Prelude.{◌≡◌, ◌≢◌, ◌<◌, ℕ, List, Option, Some, None, slice_get, ◌⊎◌, ◌↔◌}
-use Rattle.std.specs.List.{Contains}
+use Rattle.std.specs.Prelude.{◌≡◌, ◌≢◌, ◌<◌, ℕ, List, Option, Some, None, slice_get}
 use Rattle.pbft_codec.specs.declared.body.Body.{Body}
 use Rattle.pbft_codec.specs.declared.body.Body.TheVariants as bodies
 use Rattle.pbft_codec.specs.declared.signed.Signed.{Signed}
@@ -41,12 +40,3 @@ pub record IsConflict (ms : List CheckedMessage) (i j : ℕ) : Type 0 where
   pub one_is : claim_of first.message ≡ Some one
   pub other_is : claim_of second.message ≡ Some other
   pub contradict : Contradict one other
-
--- Pairs are added: the conflicts of the message at j with those before place n, and no others.
-abbrev pub Grows : List CheckedMessage → ℕ → ℕ → List (ℕ × ℕ) → List (ℕ × ℕ) → Type 0
-Grows ms j n old new =
-    (i k : ℕ) → Contains new (i, k) ↔ (Contains old (i, k) ⊎ ((k ≡ j) × (i < n) × IsConflict ms i k))
-
--- The pairs are the conflicts of the messages before place n.
-abbrev pub HasBelow : List CheckedMessage → ℕ → List (ℕ × ℕ) → Type 0
-HasBelow ms n pairs = (i k : ℕ) → Contains pairs (i, k) ↔ ((k < n) × IsConflict ms i k)

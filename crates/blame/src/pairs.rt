@@ -2,7 +2,8 @@
 
 ghost use Rattle.std.specs.Prelude.{◌≡◌, ◌<◌, ◌↔◌, ℕ, IsTrue, IfOk, OnOk, length};
 ghost use Rattle.std.specs.List.{Contains};
-ghost use Rattle.blame.specs.Claims.{Grows, IsConflict};
+ghost use Rattle.blame.specs.Claims.{IsConflict};
+ghost use Rattle.blame.specs.Gathering.{Grows};
 
 use crate::claim::claim_of;
 use seal::Checked;

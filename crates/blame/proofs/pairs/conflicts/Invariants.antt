@@ -1,4 +1,4 @@
-use Rattle.blame.specs.Claims.{HasBelow}
+use Rattle.blame.specs.Gathering.{HasBelow}
 use Rattle.blame.proofs.pairs.conflicts.Given as goal
 
 abbrev pub invariant-loop-second : goal.invariant-loop-second

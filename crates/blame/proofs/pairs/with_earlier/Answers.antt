@@ -1,6 +1,6 @@
 use Rattle.std.proofs.Common.{◌≡◌, ◌+◌, ℕ, List, [], ◌∷◌, ◌++◌, refl, sym, ap, subst, ◌∙◌, arith}
 use Rattle.std.proofs.lemmas.Bool.{false≢true}
-use Rattle.blame.specs.Claims.{Grows}
+use Rattle.blame.specs.Gathering.{Grows}
 use Rattle.blame.proofs.Growing.{one_more, no_more}
 use Rattle.blame.proofs.pairs.with_earlier.Goals.{then-contradict+in_ok-push, else-contradict}
 use Rattle.blame.proofs.pairs.with_earlier.Goals as goal

@@ -1,4 +1,4 @@
-use Rattle.blame.specs.Claims.{Grows}
+use Rattle.blame.specs.Gathering.{Grows}
 use Rattle.blame.proofs.pairs.with_earlier.Given as goal
 
 abbrev pub invariant-loop-first : goal.invariant-loop-first
