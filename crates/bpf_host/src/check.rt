@@ -2,12 +2,14 @@
 //! `NAME.out` has, with `--trace` what `NAME.trace` has, and with `--chart` what `NAME.mmd` and `NAME.svg` have, where they
 //! are there; each row of `NAME.rows` names its words, input, status and output.
 
-use crate::command::run_alone;
+use crate::command::run_in_folder;
 use crate::failure::Failure;
 use crate::row::{Row, is_row};
 use std::alloc::{AllocError, Global};
 use std::io::Write;
 use std::rt::Files;
+use std::sync::Wait;
+use std::thread::Threads;
 use std::{fs, io};
 use thiserror::Error;
 
@@ -45,15 +47,16 @@ impl Counts {
 struct Ending {
     status: u8,
     output: Vec<u8>,
+    /// What standard error was told.
+    errors: Vec<u8>,
 }
 
 /// Runs the scripts and rows of a folder, by their names ascending. Writes a line for each run that comes to something else,
 /// and at the end how many passed and failed.
-pub(crate) fn check<R: Files + AllocGlobal + Clone + Drop, O: Write>(
-    rt: &R,
-    folder: &str,
-    writer: &mut O,
-) -> Result<(), Failure> {
+pub(crate) fn check<
+    R: Files + AllocGlobal + Threads + Wait + Copy + Send + Sync + Drop + 'static,
+    O: Write,
+>(rt: &R, folder: &str, writer: &mut O) -> Result<(), Failure> {
     let mut counts = Counts::default();
     for name in &names_in(rt, folder)? {
         if let Some((stem, words)) = shown_by(name.as_str()) {
@@ -138,7 +141,10 @@ fn shown_by(name: &str) -> Option<(&str, &'static [&'static str])> {
 }
 
 /// Runs a script and compares what it prints.
-fn check_script<R: Files + AllocGlobal, O: Write>(
+fn check_script<
+    R: Files + AllocGlobal + Threads + Wait + Copy + Send + Sync + Drop + 'static,
+    O: Write,
+>(
     rt: &R,
     folder: &str,
     stem: &str,
@@ -150,8 +156,8 @@ fn check_script<R: Files + AllocGlobal, O: Write>(
     let alloc = rt.alloc();
     let script = bytes_of(rt, folder, format!(in alloc; "{stem}.toml")?.as_str())?;
     let wanted = wanted_of(rt, folder, stem, name)?;
-    let ending = ending_of(alloc, words, &script);
-    let is_same = compare(name, wanted.as_str(), &ending, writer)?;
+    let ending = ending_of(rt, words, &script);
+    let is_same = compare(name, wanted.as_str(), &ending.output, writer)?;
     counts.add(is_same);
     Ok(())
 }
@@ -170,19 +176,16 @@ fn wanted_of<R: Files + AllocGlobal>(
 }
 
 /// Runs the rows of a file, one after another, and compares what they print and their status.
-fn check_rows<R: Files + AllocGlobal, O: Write>(
-    rt: &R,
-    folder: &str,
-    name: &str,
-    counts: &mut Counts,
-    writer: &mut O,
-) -> Result<(), Failure> {
+fn check_rows<
+    R: Files + AllocGlobal + Threads + Wait + Copy + Send + Sync + Drop + 'static,
+    O: Write,
+>(rt: &R, folder: &str, name: &str, counts: &mut Counts, writer: &mut O) -> Result<(), Failure> {
     let text = text_of(rt, folder, name)?;
     let mut number: u32 = 0;
     for line in text.lines() {
         number = number.saturating_add(1);
         if is_row(line) {
-            let has_passed = check_row(rt.alloc(), name, number, line, writer)?;
+            let has_passed = check_row(rt, name, number, line, writer)?;
             counts.add(has_passed);
         }
     }
@@ -190,19 +193,17 @@ fn check_rows<R: Files + AllocGlobal, O: Write>(
 }
 
 /// Runs a row, and returns whether it came to what it is to.
-fn check_row<O: Write>(
-    alloc: Global,
-    name: &str,
-    number: u32,
-    line: &str,
-    writer: &mut O,
-) -> Result<bool, Failure> {
+fn check_row<
+    R: Files + AllocGlobal + Threads + Wait + Copy + Send + Sync + Drop + 'static,
+    O: Write,
+>(rt: &R, name: &str, number: u32, line: &str, writer: &mut O) -> Result<bool, Failure> {
+    let alloc = rt.alloc();
     let Some(row) = Row::read(alloc, line)? else {
         let name = String::from_str(alloc, name)?;
         return Err(Failure::Check(CheckFault::BadRow(name, number)));
     };
     let words = row.words(alloc)?;
-    let ending = ending_of(alloc, &words, row.input.as_bytes());
+    let ending = ending_of(rt, &words, row.input.as_bytes());
     let place = format!(in alloc; "{name}:{number}")?;
     if ending.status != row.status {
         let Row { status, .. } = row;
@@ -210,28 +211,46 @@ fn check_row<O: Write>(
         writeln!(writer, "{place}: wanted status {status}, got {got}")?;
         return Ok(false);
     }
-    compare(place.as_str(), row.output.as_str(), &ending, writer)
+    if !compare(place.as_str(), row.output.as_str(), &ending.output, writer)? {
+        return Ok(false);
+    }
+    match &row.errors {
+        Some(errors) => {
+            let place = format!(in alloc; "{place}, standard error")?;
+            compare(place.as_str(), errors.as_str(), &ending.errors, writer)
+        }
+        None => Ok(true),
+    }
 }
 
 /// Runs the program's words over an input.
-fn ending_of(alloc: Global, words: &[&str], input: &[u8]) -> Ending {
+fn ending_of<'a, R: Files + AllocGlobal + Threads + Wait + Copy + Send + Sync + Drop + 'static>(
+    rt: &R,
+    words: &'a [&'a str],
+    input: &[u8],
+) -> Ending {
     let mut reader = input;
-    let mut output = Vec::new(alloc);
-    let status = run_alone(alloc, words, &mut reader, &mut output);
-    Ending { status, output }
+    let mut output = Vec::new(rt.alloc());
+    let mut errors = Vec::new(rt.alloc());
+    let status = run_in_folder(rt, words, &mut reader, &mut output, &mut errors);
+    Ending {
+        status,
+        output,
+        errors,
+    }
 }
 
 /// Whether a run wrote what was wanted; where it didn't, a line says which line is the first that differs.
 fn compare<O: Write>(
     place: &str,
     wanted: &str,
-    ending: &Ending,
+    written: &[u8],
     writer: &mut O,
 ) -> Result<bool, Failure> {
-    if wanted.as_bytes() == ending.output.as_slice() {
+    if wanted.as_bytes() == written {
         return Ok(true);
     }
-    let Ok(written) = str::from_utf8(&ending.output) else {
+    let Ok(written) = str::from_utf8(written) else {
         writeln!(writer, "{place}: what is written is not UTF-8")?;
         return Ok(false);
     };

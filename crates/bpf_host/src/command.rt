@@ -3,17 +3,24 @@
 ghost use Rattle.std.specs.Prelude.{◌≤◌};
 
 use crate::check::check;
+use crate::counter::Counter;
 use crate::failure::Failure;
-use crate::worlds::{explore, explore_alone, explore_command, play, world_command};
+use crate::recorder::Recorder;
+use crate::said::say_why;
+use crate::worlds::{explore, explore_command, has_file, play, world_command};
+use clap::error::ErrorKind;
 use clap::{Arg, ArgAction, ArgMatches, Command, value_parser};
 use code_commands::{Profile, asm, disasm, exec, verify};
-use host_script::{Audited, run_threads};
+use host_script::{Audited, Progress, Unwatched, run_threads};
 use host_types::ClientId;
 use std::alloc::{AllocError, Global};
-use std::io::{Read, Write};
+use std::io::{self, Read, Write};
 use std::rt::Files;
 use std::sync::Wait;
 use std::thread::Threads;
+
+/// The program's version.
+const VERSION: &str = "1.0.0";
 
 /// The client that calls where none is named.
 const DEFAULT_CLIENT: u32 = 16;
@@ -52,25 +59,68 @@ pub fn run_command<
 >(rt: &R, words: &'a [&'a str], reader: &mut I, writer: &mut O) -> u8
     ensures { result ≤ 4 }
 {
-    match dispatch(rt, words, reader, writer) {
-        Ok(()) => 0,
-        Err(failure) => report(&failure, writer),
-    }
+    run_explained(rt, words, reader, writer, &mut io::sink(), false)
 }
 
-/// Does the same without files and threads, for a run of a folder: `check` and `run` are faults of the
-/// command line there.
-pub(crate) fn run_alone<'a, I: Read, O: Write>(
-    alloc: Global,
+/// Does the same, and says on `errors`, in a line, why a command ended early, where there is more to say than its own
+/// lines do. Where `is_watched`, it also counts there how far long work is, on one line that is gone at the end. What
+/// can't be written there is lost.
+pub fn run_explained<
+    'a,
+    R: Files + AllocGlobal + Threads + Wait + Copy + Send + Sync + Drop + 'static,
+    I: Read,
+    O: Write,
+    E: Write,
+>(
+    rt: &R,
     words: &'a [&'a str],
     reader: &mut I,
     writer: &mut O,
+    errors: &mut E,
+    is_watched: bool,
 ) -> u8
     ensures { result ≤ 4 }
 {
-    match dispatch_alone(alloc, words, reader, writer) {
+    let mut recorder = Recorder::new(rt.alloc(), reader);
+    let mut counter = Counter::new(errors, is_watched);
+    let done = dispatch(rt, words, &mut recorder, writer, &mut counter);
+    counter.end();
+    ended(rt, words, done, recorder.kept(), writer, errors)
+}
+
+/// Does the same as a run of a folder: `check`, and `explore` with a file, are faults of the command line there.
+pub(crate) fn run_in_folder<
+    'a,
+    R: Files + AllocGlobal + Threads + Wait + Copy + Send + Sync + Drop + 'static,
+    I: Read,
+    O: Write,
+    E: Write,
+>(rt: &R, words: &'a [&'a str], reader: &mut I, writer: &mut O, errors: &mut E) -> u8
+    ensures { result ≤ 4 }
+{
+    let mut recorder = Recorder::new(rt.alloc(), reader);
+    let done = dispatch_in_folder(rt, words, &mut recorder, writer);
+    ended(rt, words, done, recorder.kept(), writer, errors)
+}
+
+/// Writes why a command over this input ended early, if it did, and returns the status.
+fn ended<'a, R: Files + AllocGlobal, O: Write, E: Write>(
+    rt: &R,
+    words: &'a [&'a str],
+    done: Result<(), Failure>,
+    input: Option<&[u8]>,
+    writer: &mut O,
+    errors: &mut E,
+) -> u8
+    ensures { result ≤ 4 }
+{
+    match done {
         Ok(()) => 0,
-        Err(failure) => report(&failure, writer),
+        Err(failure) => {
+            let status = report(&failure, writer);
+            say_why(rt, words, &failure, input, errors);
+            status
+        }
     }
 }
 
@@ -88,9 +138,10 @@ pub(crate) fn report<O: Write>(failure: &Failure, writer: &mut O) -> u8
 }
 
 /// The commands and their options.
-fn command_line<'a>(alloc: Global) -> Result<Command<'a>, AllocError> {
+pub(crate) fn command_line<'a>(alloc: Global) -> Result<Command<'a>, AllocError> {
     Command::new(alloc, "bpf_host")
         .about("Runs BPF procedures, alone or on replicas, read on standard input")
+        .version(VERSION)
         .after_help(EXAMPLES)
         .subcommand(Command::new(alloc, "asm").about(
             "Reads an assembler text and prints its code",
@@ -128,7 +179,7 @@ fn profile_option<'a>(alloc: Global) -> Arg<'a> {
 }
 
 /// The verifier's profile that the options name.
-fn profile_of(options: &ArgMatches<'_>) -> Profile {
+pub(crate) fn profile_of(options: &ArgMatches<'_>) -> Profile {
     match options.get_str("profile") {
         Some("2") => Profile::Two,
         _ => Profile::One,
@@ -169,33 +220,69 @@ fn dispatch<
     R: Files + AllocGlobal + Threads + Wait + Copy + Send + Sync + Drop + 'static,
     I: Read,
     O: Write,
->(rt: &R, words: &'a [&'a str], reader: &mut I, writer: &mut O) -> Result<(), Failure> {
-    let matches = command_line(rt.alloc())?.try_get_matches_from(words)?;
-    match matches.subcommand() {
-        Some(("check", options)) => check(rt, options.get_str("folder").unwrap_or("."), writer),
-        Some(("run", _)) => run(rt, reader, writer),
-        Some(("explore", options)) => explore(rt, options, reader, writer),
-        _ => run_parsed(rt.alloc(), &matches, reader, writer),
-    }
-}
-
-fn dispatch_alone<'a, I: Read, O: Write>(
-    alloc: Global,
+    P: Progress,
+>(
+    rt: &R,
     words: &'a [&'a str],
     reader: &mut I,
     writer: &mut O,
+    progress: &mut P,
 ) -> Result<(), Failure> {
-    let matches = command_line(alloc)?.try_get_matches_from(words)?;
-    run_parsed(alloc, &matches, reader, writer)
+    let Some(matches) = parsed(rt.alloc(), words, writer)? else {
+        return Ok(());
+    };
+    match matches.subcommand() {
+        Some(("check", options)) => check(rt, options.get_str("folder").unwrap_or("."), writer),
+        _ => perform(rt, &matches, reader, writer, progress),
+    }
 }
 
-/// Does what the words that were read ask for, but for `check` and `run`.
-fn run_parsed<I: Read, O: Write>(
+fn dispatch_in_folder<
+    'a,
+    R: Files + AllocGlobal + Threads + Wait + Copy + Send + Sync + Drop + 'static,
+    I: Read,
+    O: Write,
+>(rt: &R, words: &'a [&'a str], reader: &mut I, writer: &mut O) -> Result<(), Failure> {
+    let Some(matches) = parsed(rt.alloc(), words, writer)? else {
+        return Ok(());
+    };
+    match matches.subcommand() {
+        Some(("check", _)) => Err(Failure::Nested),
+        Some(("explore", options)) if has_file(options) => Err(Failure::Nested),
+        _ => perform(rt, &matches, reader, writer, &mut Unwatched),
+    }
+}
+
+/// What the words ask for; none where that is the version, which is written.
+fn parsed<'a, O: Write>(
     alloc: Global,
+    words: &'a [&'a str],
+    writer: &mut O,
+) -> Result<Option<ArgMatches<'a>>, Failure> {
+    match command_line(alloc)?.try_get_matches_from(words) {
+        Ok(matches) => Ok(Some(matches)),
+        Err(error) if error.kind() == ErrorKind::DisplayVersion => {
+            write!(writer, "{error}")?;
+            Ok(None)
+        }
+        Err(error) => Err(error.into()),
+    }
+}
+
+/// Does what the words that were read ask for, but for `check`.
+fn perform<
+    R: Files + AllocGlobal + Threads + Wait + Copy + Send + Sync + Drop + 'static,
+    I: Read,
+    O: Write,
+    P: Progress,
+>(
+    rt: &R,
     matches: &ArgMatches<'_>,
     reader: &mut I,
     writer: &mut O,
+    progress: &mut P,
 ) -> Result<(), Failure> {
+    let alloc = rt.alloc();
     match matches.subcommand() {
         Some(("asm", _)) => Ok(asm(alloc, reader, writer)?),
         Some(("disasm", _)) => Ok(disasm(alloc, reader, writer)?),
@@ -206,8 +293,9 @@ fn run_parsed<I: Read, O: Write>(
             reader,
             writer,
         )?),
-        Some(("world", options)) => play(alloc, options, reader, writer),
-        Some(("explore", options)) => explore_alone(alloc, options, reader, writer),
+        Some(("world", options)) => play(alloc, options, reader, writer, progress),
+        Some(("explore", options)) => explore(rt, options, reader, writer, progress),
+        Some(("run", _)) => run(rt, reader, writer),
         Some(("exec", options)) => call(alloc, options, reader, writer),
         Some(_) => Err(Failure::Nested),
         None => call(alloc, matches, reader, writer),

@@ -7,12 +7,16 @@
 
 mod check;
 mod command;
+mod counter;
 mod failure;
+mod recorder;
 mod row;
+mod said;
 mod worlds;
 
-use command::{report, run_command};
+use command::{report, run_explained};
 use failure::Failure;
+use std::io::{IsTerminal, Write};
 use std::process::ExitCode;
 use std::rt::{Env, Files};
 use std::sync::Wait;
@@ -20,7 +24,9 @@ use std::thread::Threads;
 use std::{env, io};
 
 fn main(rt: HostRuntime) -> ExitCode {
-    let status = match run(&rt) {
+    let stderr = rt.stderr();
+    let is_watched = stderr.is_terminal() && !rt.stdout().is_terminal();
+    let status = match run(&rt, &mut io::writer(&stderr), is_watched) {
         Ok(status) => status,
         Err(error) => report(&Failure::from_words(&error), &mut io::writer(&rt)),
     };
@@ -29,7 +35,7 @@ fn main(rt: HostRuntime) -> ExitCode {
 
 /// Hands the words of the command line and the standard streams to the command. Words that can't be
 /// read are an error.
-fn run<R>(rt: &R) -> io::Result<u8>
+fn run<R, E: Write>(rt: &R, errors: &mut E, is_watched: bool) -> io::Result<u8>
 where
     R: Files
         + Env
@@ -47,5 +53,12 @@ where
     let alloc = rt.alloc();
     let arguments: Vec<String> = env::args(rt)?.collect(alloc)?;
     let words: Vec<&str> = arguments.iter().map(|word| word.as_str()).collect(alloc)?;
-    Ok(run_command(rt, &words, &mut rt.reader(), &mut io::writer(rt)))
+    Ok(run_explained(
+        rt,
+        &words,
+        &mut rt.reader(),
+        &mut io::writer(rt),
+        errors,
+        is_watched,
+    ))
 }

@@ -1,4 +1,4 @@
-//! A row of runs: `words | input | status | output`.
+//! A row of runs: `words | input | status | output`, and `| standard error` where that is told, too.
 
 use std::alloc::{AllocError, Global};
 
@@ -22,13 +22,19 @@ pub(crate) struct Row<'a> {
     pub(crate) input: String,
     pub(crate) status: u8,
     pub(crate) output: String,
+    /// What standard error is to be told; none where the row doesn't say.
+    pub(crate) errors: Option<String>,
 }
 
 impl<'a> Row<'a> {
     /// Reads a line. None where it is no row.
     pub(crate) fn read(alloc: Global, line: &'a str) -> Result<Option<Row<'a>>, AllocError> {
-        let Some((words, input, status, output)) = fields_of(line) else {
+        let Some((words, input, status, rest)) = fields_of(line) else {
             return Ok(None);
+        };
+        let (output, errors) = match rest.split_once(SEPARATOR) {
+            Some((output, errors)) => (output, Some(errors.replace(alloc, LINE_END, "\n")?)),
+            None => (rest, None),
         };
         match status.parse::<u8>() {
             Ok(status) if status <= MAX_STATUS => Ok(Some(Row {
@@ -36,6 +42,7 @@ impl<'a> Row<'a> {
                 input: input.replace(alloc, LINE_END, "\n")?,
                 status,
                 output: output.replace(alloc, LINE_END, "\n")?,
+                errors,
             })),
             _ => Ok(None),
         }
@@ -56,7 +63,8 @@ impl<'a> Row<'a> {
     }
 }
 
-/// The four fields of a row. The last may be left out where it is empty.
+/// The first three fields of a row, and the rest: the output, which may be left out where it is empty, and what standard
+/// error is told.
 fn fields_of(line: &str) -> Option<(&str, &str, &str, &str)> {
     let (words, rest) = line.split_once(SEPARATOR)?;
     let (input, rest) = rest.split_once(SEPARATOR)?;

@@ -3,7 +3,7 @@
 use crate::check::unreadable;
 use crate::failure::Failure;
 use clap::{Arg, ArgAction, ArgMatches, Command, value_parser};
-use host_script::{Played, run_script};
+use host_script::{Played, Progress, run_script_watched};
 use std::alloc::{AllocError, Global};
 use std::fs;
 use std::io::{Read, Write};
@@ -94,17 +94,18 @@ pub(crate) fn explore_command<'a>(alloc: Global) -> Result<Command<'a>, AllocErr
 }
 
 /// Runs a script of a world.
-pub(crate) fn play<I: Read, O: Write>(
+pub(crate) fn play<I: Read, O: Write, P: Progress>(
     alloc: Global,
     options: &ArgMatches<'_>,
     reader: &mut I,
     writer: &mut O,
+    progress: &mut P,
 ) -> Result<(), Failure> {
     let played = match options.get_str("chart") {
-        Some("svg") => chart_script(alloc, ChartForm::Svg, reader, writer)?,
-        Some(_) => chart_script(alloc, ChartForm::Mermaid, reader, writer)?,
-        None if options.get_flag("trace") => trace_script(alloc, reader, writer)?,
-        None => run_script(alloc, reader, writer)?,
+        Some("svg") => chart_script(alloc, ChartForm::Svg, reader, writer, progress)?,
+        Some(_) => chart_script(alloc, ChartForm::Mermaid, reader, writer, progress)?,
+        None if options.get_flag("trace") => trace_script(alloc, reader, writer, progress)?,
+        None => run_script_watched(alloc, reader, writer, progress)?,
     };
     match played {
         Played::Whole => Ok(()),
@@ -113,11 +114,12 @@ pub(crate) fn play<I: Read, O: Write>(
 }
 
 /// Runs a script under many seeds.
-pub(crate) fn explore<R: Files + AllocGlobal + Threads + Sync, I: Read, O: Write>(
+pub(crate) fn explore<R: Files + AllocGlobal + Threads + Sync, I: Read, O: Write, P: Progress>(
     rt: &R,
     options: &ArgMatches<'_>,
     reader: &mut I,
     writer: &mut O,
+    progress: &mut P,
 ) -> Result<(), Failure> {
     let seeds = seeds_of(options)?;
     let workers = usize::from(options.get_one::<u8>("workers").unwrap_or(1));
@@ -125,38 +127,30 @@ pub(crate) fn explore<R: Files + AllocGlobal + Threads + Sync, I: Read, O: Write
         Some(path) => {
             let bytes = bytes_of(rt, path)?;
             let mut reader = bytes.as_slice();
-            search(rt, workers, seeds, &mut reader, writer)
+            search(rt, workers, seeds, &mut reader, writer, progress)
         }
-        None => search(rt, workers, seeds, reader, writer),
+        None => search(rt, workers, seeds, reader, writer, progress),
     }
 }
 
-/// Runs a script under many seeds, one after another, as a run of a folder, which has no files and no threads.
-pub(crate) fn explore_alone<I: Read, O: Write>(
-    alloc: Global,
-    options: &ArgMatches<'_>,
-    reader: &mut I,
-    writer: &mut O,
-) -> Result<(), Failure> {
-    if options.get_str("file").is_some() {
-        return Err(Failure::Nested);
-    }
-    let seeds = seeds_of(options)?;
-    ended(explore_script(alloc, seeds, reader, writer)?)
+/// Whether the options of `explore` name a file.
+pub(crate) fn has_file(options: &ArgMatches<'_>) -> bool {
+    options.get_str("file").is_some()
 }
 
-fn search<R: AllocGlobal + Threads + Sync, I: Read, O: Write>(
+fn search<R: AllocGlobal + Threads + Sync, I: Read, O: Write, P: Progress>(
     rt: &R,
     workers: usize,
     seeds: Seeds,
     reader: &mut I,
     writer: &mut O,
+    progress: &mut P,
 ) -> Result<(), Failure> {
     let alloc = rt.alloc();
     if workers <= 1 {
-        return ended(explore_script(alloc, seeds, reader, writer)?);
+        return ended(explore_script(alloc, seeds, reader, writer, progress)?);
     }
-    ended(explore_side_by_side(rt, alloc, workers, seeds, reader, writer)?)
+    ended(explore_side_by_side(rt, alloc, workers, seeds, reader, writer, progress)?)
 }
 
 fn ended(searched: Searched) -> Result<(), Failure> {
@@ -167,7 +161,7 @@ fn ended(searched: Searched) -> Result<(), Failure> {
 }
 
 /// The bytes of a script.
-fn bytes_of<R: Files + AllocGlobal>(rt: &R, path: &str) -> Result<Vec<u8>, Failure> {
+pub(crate) fn bytes_of<R: Files + AllocGlobal>(rt: &R, path: &str) -> Result<Vec<u8>, Failure> {
     match fs::read(rt, path) {
         Ok(bytes) => Ok(bytes),
         Err(error) => Err(unreadable(rt.alloc(), path, &error)?),

@@ -1,6 +1,6 @@
 -- The proof of a number as a list of messages, and what an offer is refused for.
 use Rattle.std.proofs.Common.{◌≡◌, ℕ, ◌<◌, ◌≤◌, Bool, true, false, cond, List, [], map, Option, Some, None, refl, sym, ap, ◌∙◌, arith}
-use Rattle.std.specs.Prelude.{nat_le, ◌==◌, Result, Ok, Err, IfErr}
+use Rattle.std.specs.Prelude.{nat_le, ◌==◌}
 use Rattle.std.proofs.lemmas.Slice.Eq.{bytes_eq-Decides}
 use Rattle.std.specs.BTreeMap as tree
 use Rattle.std.proofs.lemmas.Bool.{false≢true, le-leb, lt-leb, ne_eqb, cond-true, cond-false}
@@ -14,9 +14,7 @@ use Rattle.pbft_model.specs.Setup.{quorum}
 use Rattle.seal.specs.Lists.{CheckedMessages}
 use Rattle.seal.specs.Parts.{as_message}
 use Rattle.quorum_log.specs.Ballots.{Ballot, is_digest, least_votes}
-use Rattle.checkpoints.specs.declared.fault.CheckpointFault.{CheckpointFault}
-use Rattle.checkpoints.specs.declared.fault.CheckpointFault.TheVariants.{Old, DigestDiffers, Memory}
-use Rattle.checkpoints.specs.Faults.{Reports}
+use Rattle.checkpoints.specs.declared.fault.CheckpointFault.TheVariants.{Old, DigestDiffers}
 use Rattle.checkpoints.specs.Kept.{IsStableExactly, proof_list, KeptCheckpoints, by_sha256, digest_of_proof, offer_fault, proof_at, stable_at, stable_digest}
 use Rattle.checkpoints.specs.Reading.{AreKept, ballot_in, kept_in, proof_now, quorum_digest, quorum_proof, said_by}
 use Rattle.checkpoints.proofs.Stable.{is_stable_one, stable_is}
@@ -84,9 +82,3 @@ offer_refused k number bytes lt f = fault_is k number bytes lt ∙ split (is_sta
   split true e =
       let found = above_mark k number lt ∙ stable_is (by_sha256 k.config) k.checkpoints number digest e in
       absurd (false≢true (sym f ∙ ap (is_digest (sha256 bytes)) found ∙ (bytes_eq-Decides (sha256 bytes) (sha256 bytes)).1 refl))
-
-pub kept_or_not : {A : Type 0} (r : Result A CheckpointFault) (o : Option CheckpointFault) → IfErr r (λ fault. fault ≡ Memory) → o ≡ None → Reports o r
-kept_or_not (Ok x) o h e = e
-kept_or_not (Err Memory) o h e = e
-kept_or_not (Err Old) o h e = absurd cc
-kept_or_not (Err DigestDiffers) o h e = absurd cc

@@ -9,6 +9,7 @@
 
 mod ballots;
 mod fault;
+mod snapshot;
 mod table;
 
 pub use fault::CheckpointFault;

@@ -15,11 +15,11 @@ ghost use Rattle.checkpoints.specs.declared.fault.CheckpointFault.TheVariants.{M
 
 use crate::ballots::{accept, drop_below, quorum_at};
 use crate::fault::CheckpointFault;
+use crate::snapshot::Snapshot;
 use host_types::{Bytes, Config, Digest, SeqNo};
 use pbft_codec::Body;
 use quorum_log::Votes;
 use seal::{Checked, CheckedList};
-use sha2::Sha256;
 use std::alloc::{AllocError, Global};
 use std::collections::BTreeMap;
 use std::marker::Model;
@@ -35,7 +35,7 @@ pub struct Checkpoints {
     low: SeqNo,
     // By number from the low mark on: the ballot at the mark has its proof.
     ballots: BTreeMap<u64, Votes>,
-    snapshots: BTreeMap<u64, Bytes>,
+    snapshots: BTreeMap<u64, Snapshot>,
     // The greatest number that is stable.
     greatest: Option<SeqNo>,
 }
@@ -112,8 +112,21 @@ impl Checkpoints {
         ensures kept { OnOk result (self.new ≡ with_snapshot self.old number.0 bytes) }
         ensures unchanged { OnErr result (self.new ≡ self.old) }
     {
-        put(&mut self.snapshots, number, bytes)?;
+        self.keep_hashed(number, bytes)?;
         Ok(())
+    }
+
+    /// Keeps an own snapshot as `keep` does, and returns the SHA-256 digest of its bytes.
+    pub fn keep_hashed(&mut self, number: SeqNo, bytes: Bytes) -> Result<Digest, CheckpointFault>
+        ensures digest { IfOk result (λ digest. digest.0 ≡ sha256 bytes) }
+        ensures fault { IfErr result (λ fault. fault ≡ Memory) }
+        ensures kept { OnOk result (self.new ≡ with_snapshot self.old number.0 bytes) }
+        ensures unchanged { OnErr result (self.new ≡ self.old) }
+    {
+        let snapshot = Snapshot::new(bytes);
+        let digest = snapshot.digest();
+        put(&mut self.snapshots, number, snapshot)?;
+        Ok(digest)
     }
 
     /// Keeps another replica's snapshot: the bytes of a state at this number. It is `Old` where the number is
@@ -127,10 +140,15 @@ impl Checkpoints {
         if number <= self.low {
             return Err(CheckpointFault::Old);
         }
-        if !is_of(self.stable(number), bytes.as_slice()) {
+        let Some(stable) = self.stable(number) else {
+            return Err(CheckpointFault::DigestDiffers);
+        };
+        let snapshot = Snapshot::new(bytes);
+        if stable != snapshot.digest() {
             return Err(CheckpointFault::DigestDiffers);
         }
-        self.keep(number, bytes)
+        put(&mut self.snapshots, number, snapshot)?;
+        Ok(())
     }
 
     /// The digest that is stable at a number, if one is: 2f + 1 replicas have sent Checkpoints with it. At
@@ -173,8 +191,8 @@ impl Checkpoints {
     fn greatest_raised(&self, up_to: SeqNo) -> Option<SeqNo>
         ensures { MatchOption result (NoneRaised self.now up_to.0) (IsGreatestRaised self.now up_to.0) }
     {
-        for (number, bytes) in self.snapshots.iter().rev() {
-            if self.is_raised(SeqNo(*number), bytes.as_slice(), up_to) {
+        for (number, snapshot) in self.snapshots.iter().rev() {
+            if self.is_raised(SeqNo(*number), snapshot, up_to) {
                 return Some(SeqNo(*number));
             }
         }
@@ -183,10 +201,10 @@ impl Checkpoints {
 
     // Whether the number is above the low mark and not above another, and the digest of the bytes is stable
     // there.
-    fn is_raised(&self, number: SeqNo, bytes: &[u8], up_to: SeqNo) -> bool
-        ensures { result ≡ is_raised self.now up_to.0 number.0 bytes.now }
+    fn is_raised(&self, number: SeqNo, snapshot: &Snapshot, up_to: SeqNo) -> bool
+        ensures { result ≡ is_raised self.now up_to.0 number.0 snapshot.now }
     {
-        number > self.low && number <= up_to && is_of(self.stable(number), bytes)
+        number > self.low && number <= up_to && is_of(self.stable(number), snapshot)
     }
 
     /// The bytes of the snapshot that is kept at a number. It takes no memory.
@@ -194,7 +212,18 @@ impl Checkpoints {
         ensures { option_copied result ≡ at self.now.snapshots (number_key number.0) }
     {
         match self.snapshots.get(&number.0) {
-            Some(bytes) => Some(bytes.as_slice()),
+            Some(snapshot) => Some(snapshot.bytes()),
+            None => None,
+        }
+    }
+
+    /// The SHA-256 digest of the snapshot that is kept at a number. It was hashed as it was kept: this
+    /// hashes nothing, and takes no memory.
+    pub fn snapshot_digest(&self, number: SeqNo) -> Option<Digest>
+        ensures { option_map (λ digest. digest.0) result ≡ option_map sha256 (at self.now.snapshots (number_key number.0)) }
+    {
+        match self.snapshots.get(&number.0) {
+            Some(snapshot) => Some(snapshot.digest()),
             None => None,
         }
     }
@@ -232,27 +261,25 @@ impl Checkpoints {
     }
 }
 
-// Whether there is a digest, and it is that of the bytes.
-fn is_of(digest: Option<Digest>, bytes: &[u8]) -> bool
-    ensures { result ≡ is_digest (sha256 bytes.now) digest }
+// Whether there is a digest, and it is that of the snapshot.
+fn is_of(digest: Option<Digest>, snapshot: &Snapshot) -> bool
+    ensures { result ≡ is_digest (sha256 snapshot.now) digest }
 {
     match digest {
-        Some(digest) => digest == digest_of(bytes),
+        Some(digest) => digest == snapshot.digest(),
         None => false,
     }
 }
 
-fn digest_of(bytes: &[u8]) -> Digest
-    ensures { result.0 ≡ sha256 bytes.now }
-{
-    Digest(<Sha256 as sha2::Digest>::digest(bytes))
-}
-
-fn put(snapshots: &mut BTreeMap<u64, Bytes>, number: SeqNo, bytes: Bytes) -> Result<(), AllocError>
-    ensures kept { OnOk result (snapshots_in snapshots.new ≡ with_entry (snapshots_in snapshots.old) (number_key number.0) bytes) }
+fn put(
+    snapshots: &mut BTreeMap<u64, Snapshot>,
+    number: SeqNo,
+    snapshot: Snapshot,
+) -> Result<(), AllocError>
+    ensures kept { OnOk result (snapshots_in snapshots.new ≡ with_entry (snapshots_in snapshots.old) (number_key number.0) snapshot) }
     ensures unchanged { OnErr result (snapshots_in snapshots.new ≡ snapshots_in snapshots.old) }
 {
-    snapshots.insert(number.0, bytes)?;
+    snapshots.insert(number.0, snapshot)?;
     Ok(())
 }
 

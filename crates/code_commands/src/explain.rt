@@ -255,3 +255,53 @@ pub(crate) fn explain<O: Write>(
         None => Ok(()),
     }
 }
+
+/// Keeps the last visit.
+#[derive(Drop)]
+struct Latest<const WORDS: usize> {
+    last: Option<Reached<WORDS>>,
+}
+
+impl<const WORDS: usize> Observer<WORDS> for Latest<WORDS> {
+    fn visit(
+        &mut self,
+        _code: &Slots,
+        depth: u32,
+        slot: usize,
+        insn: &Insn,
+        state: &AbstractState<WORDS>,
+    ) {
+        self.last = Some(Reached {
+            depth,
+            slot,
+            insn: *insn,
+            state: *state,
+        });
+    }
+}
+
+/// Why a profile refuses the code, if it does.
+pub(crate) fn why_refused(
+    alloc: Global,
+    profile: Profile,
+    code: &[u8],
+) -> Result<Option<String>, AllocError> {
+    match profile {
+        Profile::One => why_refused_by::<UNFOLLOWED>(alloc, profile, code),
+        Profile::Two => why_refused_by::<STACK_WORDS>(alloc, profile, code),
+    }
+}
+
+fn why_refused_by<const WORDS: usize>(
+    alloc: Global,
+    profile: Profile,
+    code: &[u8],
+) -> Result<Option<String>, AllocError>
+    requires { followed_words profile ≡ WORDS }
+{
+    let mut latest = Latest { last: None };
+    match verify_observed::<Latest<WORDS>, WORDS>(alloc, profile, code, &mut latest) {
+        Ok(_) => Ok(None),
+        Err(refusal) => Ok(Some(reason(alloc, code, refusal, latest.last.as_ref())?)),
+    }
+}

@@ -31,9 +31,14 @@ pub(crate) fn read_input<I: Read>(alloc: Global, reader: &mut I) -> Result<Vec<u
 pub(crate) fn read_hex(alloc: Global, text: &[u8]) -> Result<Vec<u8>, CodeFailure> {
     let mut digits = Vec::new(alloc);
     for byte in text {
-        if !matches!(*byte, b' ' | b'\t' | b'\r' | b'\n') {
+        if !is_blank(*byte) {
             digits.push(*byte)?;
         }
     }
     Ok(hex::decode(alloc, digits.as_slice())?)
+}
+
+/// Whether a byte is a space, a tab or part of a line end.
+pub(crate) fn is_blank(byte: u8) -> bool {
+    matches!(byte, b' ' | b'\t' | b'\r' | b'\n')
 }

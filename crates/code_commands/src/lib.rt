@@ -10,7 +10,9 @@ mod failure;
 mod input;
 mod numbers;
 mod reason;
+mod sentence;
 
 pub use bpf_verifier::Profile;
 pub use commands::{asm, disasm, exec, verify};
 pub use failure::CodeFailure;
+pub use sentence::sentence_for;

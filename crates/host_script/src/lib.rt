@@ -12,4 +12,4 @@ pub use broken::{BrokenReader, BrokenWriter};
 pub use group::Audited;
 pub use run::run_threads;
 pub use script_text::{Script, ScriptFault, ScriptKind, read_script, read_thread_script};
-pub use world_script::{Played, run_script};
+pub use world_script::{Played, Progress, Unwatched, run_script, run_script_watched};

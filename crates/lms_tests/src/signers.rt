@@ -2,7 +2,7 @@
 
 use crate::cases::{array, halves, valid_case};
 use host_types::PublicKey;
-use lms_tree::{Height, SignFault, Signer};
+use lms_tree::{Height, KeySource, SignFault, Signer};
 use std::alloc::{AllocError, Global};
 use std::test::Fail;
 
@@ -132,5 +132,77 @@ fn heights_5_and_10_across_a_change_of_trees(rt: HostRuntime) -> Result<(), Fail
     }
     assert!(rt; signer.sign(&case.message)?.as_slice() == case.signature.as_slice());
     assert!(rt; signer.next_leaf() == 1025);
+    Ok(())
+}
+
+/// A source and a signer of one seed. The seed is a parameter, so that a proof computes nothing of it.
+fn source_and_signer(
+    alloc: Global,
+    bottom: Option<Height>,
+    identifier: [u8; 16],
+    seed: [u8; 32],
+) -> Result<(KeySource, Signer), AllocError> {
+    let signer = match bottom {
+        None => Signer::from_seed(alloc, Height::H5, identifier, seed)?,
+        Some(bottom) => Signer::from_seed2(alloc, Height::H5, bottom, identifier, seed)?,
+    };
+    let source = KeySource::from_seed(alloc, Height::H5, bottom, identifier, seed)?;
+    Ok((source, signer))
+}
+
+/// A source and a signer of the identifier and the seed of a line of `KEYS`.
+fn source_and_signer_of(
+    alloc: Global,
+    line: &str,
+    bottom: Option<Height>,
+) -> Result<(KeySource, Signer), Fail> {
+    let (_, rest) = halves(line);
+    let (_, rest) = halves(rest);
+    let (identifier, rest) = halves(rest);
+    let (seed, _) = halves(rest);
+    Ok(source_and_signer(alloc, bottom, array(identifier)?, array(seed)?)?)
+}
+
+/// Whether a signer gives so many signatures of another's, byte for byte.
+fn signs_alike(signer: &mut Signer, other: &mut Signer, many: u32) -> Result<bool, Fail> {
+    for _ in 0..many {
+        if signer.sign(b"a message")?.as_slice() != other.sign(b"a message")?.as_slice() {
+            return Ok(false);
+        }
+    }
+    Ok(true)
+}
+
+/// Whether a new signer of a source gives so many signatures of another's that has used no leaf.
+fn begins_alike(
+    alloc: Global,
+    source: &KeySource,
+    other: &mut Signer,
+    many: u32,
+) -> Result<bool, Fail> {
+    let mut signer = source.signer(alloc)?;
+    Ok(
+        other.next_leaf() == 0
+            && signer.public_key() == other.public_key()
+            && signs_alike(&mut signer, other, many)?,
+    )
+}
+
+/// Whether signers of a source sign as the seed's own signer does, also one that began before another signed, and one
+/// that begins behind it.
+fn sources_sign_alike(alloc: Global, bottom: Option<Height>, many: u32) -> Result<bool, Fail> {
+    let line = KEYS.lines().nth(1).ok_or("no second key")?;
+    let (source, mut signer) = source_and_signer_of(alloc, line, bottom)?;
+    let mut early = source.signer(alloc)?;
+    Ok(
+        begins_alike(alloc, &source, &mut signer, many)?
+            && begins_alike(alloc, &source, &mut early, many)?,
+    )
+}
+
+#[test]
+fn signers_of_a_source_sign_as_those_of_its_seed(rt: HostRuntime) -> Result<(), Fail> {
+    assert!(rt; sources_sign_alike(rt.alloc(), None, 32)?);
+    assert!(rt; sources_sign_alike(rt.alloc(), Some(Height::H5), 33)?);
     Ok(())
 }

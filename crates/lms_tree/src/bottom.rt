@@ -95,6 +95,20 @@ impl Bottom {
         Coming::new(alloc, top, height, number)?.finish(alloc, top)
     }
 
+    /// A copy of this tree and of its signed key.
+    pub(crate) fn try_clone(&self, alloc: Global) -> Result<Bottom, AllocError>
+        ensures { (top : TreeState) (height : Height) → IsBelow top height self.now
+            → IfOk result (λ b. (b.number ≡ self.now.number) × IsBelow top height b) }
+    {
+        let tree = self.tree.try_clone(alloc)?;
+        let front = self.front.to_vec(alloc)?;
+        Ok(Bottom {
+            number: self.number,
+            tree,
+            front,
+        })
+    }
+
     /// The signature of `body` by a leaf of this tree.
     pub(crate) fn signature(
         &self,

@@ -17,6 +17,7 @@ pub use laws::{
 };
 pub use lms_level::{Height, SigFault};
 pub use signer::Signer;
+pub use source::KeySource;
 pub use validity::{Verifier, verify};
 
 mod bottom;
@@ -26,5 +27,6 @@ mod laws;
 mod nodes;
 mod parts;
 mod signer;
+mod source;
 mod tree;
 mod validity;

@@ -3,6 +3,7 @@
 ghost use Rattle.std.specs.Prelude.{◌≡◌, ℕ, ◌+◌, ◌^◌, ◌<◌, ◌≤◌, ◌↔◌, ◌++◌, IfOk, IfSome, IsErrOf, None, Some, length};
 ghost use Rattle.lms_ots.specs.Ots.{u32str};
 ghost use Rattle.lms_level.specs.Signature.{levels_of};
+ghost use Rattle.lms_level.specs.declared.height.Height.{Height};
 ghost use Rattle.lms_tree.specs.Keys.{after_signing, leaf_count, public_key_of_signer, signature_by, signature_number, signature_of, signature_length};
 ghost use Rattle.lms_tree.specs.Signature.{signature_fault};
 ghost use Rattle.lms_tree.specs.Below.{IsBelow, IsComing};
@@ -101,6 +102,34 @@ impl Signer {
             coming: None,
             next_leaf: 0,
         })
+    }
+
+    /// Another signer with this one's key, where neither has used a leaf. It copies the nodes.
+    pub(crate) fn copy_unused(&self, alloc: Global) -> Result<Signer, AllocError>
+        requires { self.now.next_leaf ≡ 0 }
+        ensures { IfOk result (λ signer. signer ≡ self.now) }
+    {
+        let top = self.top.try_clone(alloc)?;
+        let present = self.copy_present(alloc)?;
+        Ok(Signer {
+            alloc,
+            top,
+            bottom: self.bottom,
+            present,
+            coming: None,
+            next_leaf: 0,
+        })
+    }
+
+    // A copy of the bottom tree that is there.
+    fn copy_present(&self, alloc: Global) -> Result<Option<Bottom>, AllocError>
+        ensures { (height : Height) → self.now.bottom ≡ Some height → IfOk result (λ present. IfSome present
+            (IsBelow (record { height = self.now.height; id = self.now.id; secret = self.now.secret }) height)) }
+    {
+        match &self.present {
+            None => Ok(None),
+            Some(bottom) => Ok(Some(bottom.try_clone(alloc)?)),
+        }
     }
 
     /// The public key. It takes no memory.

@@ -152,6 +152,18 @@ impl Tree {
         Ok(GrowingTree::new(alloc, height, id, secret)?.finish())
     }
 
+    /// A copy of this tree, whose nodes are not made anew.
+    pub(crate) fn try_clone(&self, alloc: Global) -> Result<Tree, AllocError>
+        ensures { IfOk result (λ t. t ≡ self.now) }
+    {
+        Ok(Tree {
+            height: self.height,
+            id: self.id,
+            secret: self.secret,
+            nodes: self.nodes.to_vec(alloc)?,
+        })
+    }
+
     pub(crate) fn height(&self) -> Height
         ensures { result ≡ self.now.height }
     {

@@ -19,7 +19,7 @@ use Rattle.pbft_model.specs.Duties.{Do, Duty, Executing, due, due_enter, due_exe
 use Rattle.pbft_model.specs.Histories.{IsIn}
 use Rattle.pbft_model.specs.Rows.{Fulfils}
 use Rattle.pbft_model.specs.Rules.{Allowed, IsStateAt, own_message, pre_prepare_of, view_change_of}
-use Rattle.pbft_model.specs.Sequential.{IsSound, Service, last_reply_of}
+use Rattle.pbft_model.specs.Sequential.{IsSound, Service, encoded, last_reply_of}
 use Rattle.pbft_model.specs.Setup.{Setup, number_limit, primary}
 use Rattle.pbft_model.specs.Tables.{at, entries_in, number_key, vote_key}
 use Rattle.pbft_model.proofs.Fitting.{in_step_at}
@@ -31,6 +31,7 @@ use Rattle.replica_core.specs.Settling.{IsReached}
 use Rattle.replica_core.specs.declared.duties.Duty as our
 use Rattle.replica_core.specs.declared.duties.Duty.TheVariants as duties
 use Rattle.replica_core.proofs.Installing.{to_install}
+use Rattle.replica_core.proofs.Keeping.{IsKeptWhereDue, kept_at}
 use Rattle.replica_core.proofs.Ranging.{IsInRange, executed_low, in_range_at, snapshot_fits}
 
 pub as_duty : (c : Setup) (me : ℕ) (s : Core) (duty d : our.Duty) → IsDue c me s (Some duty) → duty ≡ d → IsDue c me s (Some d)
@@ -83,6 +84,11 @@ module _ (c : Setup) (me : ℕ) (s : Core) (configuration : IsConfiguration c.co
 
   pub owed : IsDue c me s (Some duties.Reply) → IsSome s.reply_due
   owed d = some_reply me s s.reply_due (subst (λ (o : Option Duty). IsSome o) d.0 d.1)
+
+  pub checkpoint_kept : IsDue c me s (Some duties.Checkpoint) → at s.snapshots (number_key s.executed) ≡ Some (encoded s.service)
+  checkpoint_kept d =
+      let due = (allowed_act (Send All (own_message s me (bodies.Checkpoint (record { number = record { 0 = s.executed }; digest = record { 0 = c.hash (encoded s.service) } })))) d.0).says.due in
+      subst IsKeptWhereDue reached.here (kept_at c me reached.signer reached.acts reached.history) due
 
   pub has_last_reply : (client : ClientId) → IsDue c me s (Some (duties.AnswerAgain client)) → IsSome (last_reply_of s.service client.0)
   has_last_reply client d = some_of _ (last_reply_of s.service client.0) (subst (λ (o : Option Duty). IsSome o) d.0 d.1)

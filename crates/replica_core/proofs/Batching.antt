@@ -15,13 +15,12 @@ use Rattle.lms_tree.specs.Keys.{leaf_count}
 use Rattle.lms_tree.specs.SigningState.{SigningState}
 use Rattle.host_types.specs.declared.request.Request.{Request}
 use Rattle.service_model.specs.Steps.{Follows, IsStep}
-use Rattle.pbft_model.specs.Acts.{Act, Execute, Send, ToClient, acted, after}
+use Rattle.pbft_model.specs.Acts.{Act, acted, after}
 use Rattle.pbft_model.specs.Core.{Core, request_of}
 use Rattle.pbft_model.specs.Duties.{Duty, Executing, NothingBefore, due, due_execute}
 use Rattle.pbft_model.specs.Ending.{left_to_do}
 use Rattle.pbft_model.specs.Rows as model
 use Rattle.pbft_model.specs.Rows.{Executed, Follows as Reacts, FollowsWithout, Fulfils, HasLeaves, Lacks, RepliesAlone, done_of, leaves_for, outputs_of, result_of}
-use Rattle.pbft_model.specs.Rules.{own_message}
 use Rattle.pbft_model.specs.Sequential.{IsSound, Outcome, Service, encoded}
 use Rattle.pbft_model.specs.Setup.{Setup, signer_after, view_limit}
 use Rattle.pbft_model.specs.Tables.{Table, number_key, with_entry}

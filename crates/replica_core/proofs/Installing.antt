@@ -86,14 +86,14 @@ is_ready c me p one k m b body left is leaves taken_in of_message as_snapshot so
 -- ---- the act
 
 module _ (k : KeptReplica) (b : Snapshot) (digest bytes : List ℕ) (ready : IsReady k b) where
-  abbrev noted : KeptReplica
-  noted = record k { done = k.done ++ rows.Installed b.number.0 digest ∷ [] }
-
   abbrev with_bytes : List ℕ → KeptReplica → KeptReplica
   with_bytes state x = record x { core = record x.core { snapshots = with_entry x.core.snapshots (number_key b.number.0) state } }
 
+  abbrev noted : KeptReplica → KeptReplica
+  noted x = record x { done = x.done ++ rows.Installed b.number.0 digest ∷ [] }
+
   abbrev kept : KeptReplica
-  kept = with_bytes b.state noted
+  kept = noted (with_bytes b.state k)
 
   abbrev moved_to : ℕ → KeptReplica → KeptReplica
   moved_to n x = record x { core = record x.core { executed = n; service = ready.to.state; reading = None; reply_due = None; checkpoint_due = false } }
@@ -119,9 +119,9 @@ module _ (k : KeptReplica) (b : Snapshot) (digest bytes : List ℕ) (ready : IsR
       } in
       subst (λ (o : Option Duty). Fulfilled k o t) (sym ready.to.due) (act, refl, omega (arith, leaves), does)
 
-  module _ (k1 k2 : KeptReplica) (same : bytes ≡ b.state) (e1 : k1 ≡ noted) (e2 : k2 ≡ with_bytes bytes k1) where
+  module _ (k1 k2 : KeptReplica) (same : bytes ≡ b.state) (e1 : k1 ≡ with_bytes bytes k) (e2 : k2 ≡ noted k1) where
     two : k2 ≡ kept
-    two = e2 ∙ ap (λ (state : List ℕ). with_bytes state k1) same ∙ ap (with_bytes b.state) e1
+    two = e2 ∙ ap noted (e1 ∙ ap (λ (state : List ℕ). with_bytes state k) same)
 
     number_is : ready.to.state.number ≡ b.number.0
     number_is = ready.reads.number_is

@@ -30,6 +30,7 @@ pub mod Performing
 pub mod Rising
 pub mod Installing
 pub mod Ranging
+pub mod Keeping
 pub mod Asking
 pub mod Dispatch
 pub mod Ascending

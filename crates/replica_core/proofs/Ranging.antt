@@ -124,13 +124,13 @@ kept_states test t h q b e = h q b ((found_keep test t q b e).1)
 state_of : (state : Service) (number : ℕ) (bytes : List ℕ) → IsSound state → state.number ≡ number → encoded state ≡ bytes → IsStateOf (number_key number) bytes
 state_of state number bytes sound same is = record { state = state; sound = sound; number = ap number_key (sym same); is = is }
 
-left_snapshots : (c : Setup) (s : Core) (view : ℕ) → (left_if_above c s view).snapshots ≡ s.snapshots
+pub left_snapshots : (c : Setup) (s : Core) (view : ℕ) → (left_if_above c s view).snapshots ≡ s.snapshots
 left_snapshots c s view = cases (nat_lt s.view view) where
   cases : (b : Bool) → (cond b (left_for c s view) s).snapshots ≡ s.snapshots
   cases true = refl
   cases false = refl
 
-said_snapshots : (c : Setup) (s : Core) (m : Signed Body) (b : Body) → (said c s m b).snapshots ≡ s.snapshots
+pub said_snapshots : (c : Setup) (s : Core) (m : Signed Body) (b : Body) → (said c s m b).snapshots ≡ s.snapshots
 said_snapshots c s m (bodies.Request b) = refl
 said_snapshots c s m (bodies.PrePrepare b) = refl
 said_snapshots c s m (bodies.Prepare b) = refl
@@ -143,7 +143,7 @@ said_snapshots c s m (bodies.Fetch (fetches.Request d)) = refl
 said_snapshots c s m (bodies.Fetch (fetches.State n)) = refl
 said_snapshots c s m (bodies.Snapshot b) = refl
 
-recorded_snapshots : (c : Setup) (s : Core) (m : Signed Body) (b : Body) → (recorded c s m b).snapshots ≡ s.snapshots
+pub recorded_snapshots : (c : Setup) (s : Core) (m : Signed Body) (b : Body) → (recorded c s m b).snapshots ≡ s.snapshots
 recorded_snapshots c s m (bodies.Request b) = refl
 recorded_snapshots c s m (bodies.PrePrepare b) = refl
 recorded_snapshots c s m (bodies.Prepare b) = refl

@@ -20,7 +20,7 @@ ghost use Rattle.replica_core.specs.declared.halt.Halt.TheVariants.{Memory};
 ghost use Rattle.replica_core.specs.Doing.{Does, Executes, Fulfilled, IsShortOf, Says, SendsOwed, reported};
 
 use crate::halt::Halt;
-use crate::kept::{Core, digest_of, null_digest};
+use crate::kept::{Core, null_digest};
 use crate::row::{Dest, Done};
 use crate::sent::Proposal;
 use host_types::{Bytes, ClientId, Digest, ReplicaId, Reply, Request, SeqNo, View};
@@ -258,16 +258,19 @@ impl Core {
 
     // ---- checkpoints (section 4.3)
 
-    /// Sends the Checkpoint of the number just executed.
+    /// Sends the Checkpoint of the number just executed, with the digest of the snapshot that is kept
+    /// there.
     pub(crate) fn send_checkpoint(&mut self) -> Result<(), Halt>
         requires number { self.old.core.executed < 2 ^ 48 }
+        requires kept { at self.old.core.snapshots (number_key self.old.core.executed) ≡ Some (encoded self.old.core.service) }
         ensures sent { OnOk result (Says self.old All (bodies.Checkpoint (record { number = record { 0 = self.old.core.executed }; digest = record { 0 = sha256 (encoded self.old.core.service) } })) self.new) }
         ensures short { IfErr result (IsShortOf self.old 1) }
     {
-        let body = Body::Checkpoint(Checkpoint {
-            number: self.executed(),
-            digest: self.service.digest(),
-        });
+        let number = self.executed();
+        let Some(digest) = self.checkpoints.snapshot_digest(number) else {
+            unreachable!();
+        };
+        let body = Body::Checkpoint(Checkpoint { number, digest });
         let message = self.send(Dest::All, body)?;
         self.record_checkpoint(&message)?;
         self.note_checkpoint();
@@ -290,10 +293,9 @@ impl Core {
             unreachable!();
         };
         let number = snapshot.number;
-        let digest = digest_of(snapshot.state.as_slice());
         let bytes = snapshot.state.try_clone(self.alloc)?;
+        let digest = self.keep_snapshot(number, bytes)?;
         self.note_done(Done::Installed { number, digest })?;
-        self.keep_snapshot(number, bytes)?;
         self.go_on_from_reading();
         self.rise(number, digest);
         Ok(())

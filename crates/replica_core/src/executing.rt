@@ -5,13 +5,14 @@ ghost use Rattle.std.specs.Option.{option_copied};
 ghost use Rattle.host_types.specs.Configuration.{entry_of};
 ghost use Rattle.pbft_model.specs.Sequential.{IsStep, Service, encoded};
 ghost use Rattle.pbft_model.specs.Tables.{number_key, with_entry};
+ghost use Rattle.sha2.specs.Sha256.{sha256};
 ghost use Rattle.replica_core.specs.Facts.{done_of};
 ghost use Rattle.replica_core.specs.declared.halt.Halt.TheVariants.{Memory};
 
 use crate::halt::{Halt, or_out_of_memory};
 use crate::kept::Core;
 use crate::row::Done;
-use host_types::{Bytes, Reply, Request, SeqNo};
+use host_types::{Bytes, Digest, Reply, Request, SeqNo};
 use service_core::Outcome;
 
 impl Core {
@@ -34,12 +35,13 @@ impl Core {
         Ok(())
     }
 
-    /// Keeps the bytes of a state.
-    pub(crate) fn keep_snapshot(&mut self, number: SeqNo, bytes: Bytes) -> Result<(), Halt>
+    /// Keeps the bytes of a state, and returns their digest.
+    pub(crate) fn keep_snapshot(&mut self, number: SeqNo, bytes: Bytes) -> Result<Digest, Halt>
+        ensures digest { IfOk result (λ digest. digest.0 ≡ sha256 bytes) }
         ensures kept { OnOk result (self.new ≡ record self.old { core = record self.old.core { snapshots = with_entry self.old.core.snapshots (number_key number.0) bytes } }) }
         ensures memory { IfErr result (λ halt. halt ≡ Memory) }
     {
-        or_out_of_memory(self.checkpoints.keep(number, bytes))
+        or_out_of_memory(self.checkpoints.keep_hashed(number, bytes))
     }
 
     /// Keeps the state, if the number is a multiple of the interval.

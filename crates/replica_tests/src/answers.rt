@@ -159,6 +159,14 @@ fn keep(alloc: Global, kept: &mut Checkpoints, number: u64, bytes: &[u8]) -> Res
     Ok(kept.keep(SeqNo(number), bytes)?)
 }
 
+/// Keeps "abc" at a number, and returns whether it has its digest there.
+fn keeps_abc(alloc: Global, kept: &mut Checkpoints, number: u64) -> Result<bool, Fail> {
+    let bytes = Bytes::from_vec(Vec::from_slice(alloc, b"abc")?);
+    let digest = kept.keep_hashed(SeqNo(number), bytes)?;
+    let is_there = kept.snapshot_digest(SeqNo(number)) == Some(digest);
+    Ok(is_there && digest == Digest(OF_ABC))
+}
+
 /// Whether this number is the greatest up to another at which what is kept has the stable digest.
 fn is_greatest(kept: &Checkpoints, up_to: u64, number: u64) -> bool {
     kept.stable_kept(SeqNo(up_to)) == Some((SeqNo(number), Digest(OF_ABC)))
@@ -168,7 +176,7 @@ fn is_greatest(kept: &Checkpoints, up_to: u64, number: u64) -> bool {
 fn the_greatest_kept_snapshot_that_is_stable(rt: HostRuntime) -> Result<(), Fail> {
     let mut kept = three_stable(rt.alloc())?;
     keep(rt.alloc(), &mut kept, 2, b"abc")?;
-    keep(rt.alloc(), &mut kept, 4, b"abc")?;
+    assert!(rt; keeps_abc(rt.alloc(), &mut kept, 4)?);
     keep(rt.alloc(), &mut kept, 6, b"abd")?;
     assert!(rt; kept.stable_kept(SeqNo(1)).is_none());
     assert!(rt; is_greatest(&kept, 3, 2) && is_greatest(&kept, 9, 4));

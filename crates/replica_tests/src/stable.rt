@@ -290,10 +290,11 @@ fn note_three(
     Ok(())
 }
 
-/// Whether the snapshot at 2 is "abc".
+/// Whether the snapshot at 2 is "abc", with its digest.
 fn is_kept(kept: &Checkpoints) -> bool {
     let abc: &[u8] = b"abc";
     kept.snapshot_of(SeqNo(2)) == Some(abc)
+        && kept.snapshot_digest(SeqNo(2)) == Some(Digest(OF_ABC))
 }
 
 /// Whether "abc" is kept at 2, and stays where another is offered and where the mark rises to it.
@@ -311,7 +312,7 @@ fn snapshots_are_offered(rt: HostRuntime) -> Result<(), Fail> {
     let (mut signers, config, mut kept) = nothing_kept(rt.alloc(), 8)?;
     note_three(rt.alloc(), &config, &mut signers, &mut kept)?;
     assert!(rt; refuses(rt.alloc(), &mut kept, BEFORE)?);
-    assert!(rt; kept.snapshot_of(SeqNo(2)).is_none());
+    assert!(rt; kept.snapshot_of(SeqNo(2)).is_none() && kept.snapshot_digest(SeqNo(2)).is_none());
     assert!(rt; keeps_abc(rt.alloc(), &mut kept)?);
     Ok(())
 }

@@ -13,8 +13,8 @@ use Rattle.script_text.specs.declared.script.Step.{Step}
 use Rattle.script_text.specs.Faults.{least}
 use Rattle.script_text.specs.Forms.{if_found}
 use Rattle.script_text.specs.Heads.{HeadFacts, head_in}
-use Rattle.script_text.specs.Naming.{name_in, named}
-use Rattle.script_text.specs.Steps.{step_named}
+use Rattle.script_text.specs.Naming.{named}
+use Rattle.script_text.specs.Steps.{name_in, step_named}
 
 -- A reading where this is wrong, besides what is wrong with it.
 abbrev pub wrong_where : {A : Type 0} → Bool → Result A TableFault → Result A TableFault

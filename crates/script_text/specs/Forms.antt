@@ -19,7 +19,6 @@ use Rattle.host_types.specs.declared.Digest.{Digest}
 use Rattle.host_types.specs.declared.SeqNo.{SeqNo}
 use Rattle.script_text.specs.declared.kind.Kind.{Kind}
 use Rattle.script_text.specs.declared.kind.Kind.TheVariants as kinds
-use Rattle.script_text.specs.declared.head_keys.Needed.{Needed}
 use Rattle.script_text.specs.declared.script.Client.{Client}
 use Rattle.script_text.specs.declared.script.Node.{Node}
 use Rattle.script_text.specs.declared.script.Node.TheVariants as nodes
@@ -305,15 +304,3 @@ client_in members =
 
 abbrev pub client : Data → Result Client TableFault
 client d = if_found client_in (as_table d)
-
--- ---- a head
-
-abbrev pub needed_from : Result (ℤ × (ℤ × Secret)) TableFault → Result Needed TableFault
-needed_from (Ok r) = Ok (record { f = r.0; k = r.1.0; secret = r.1.1 })
-needed_from (Err fault) = Err fault
-
--- what is needed of a head
-abbrev pub needed_head : Members → Result Needed TableFault
-needed_head members =
-    needed_from (pair_of (needed_key integer (codes "f") members)
-    (pair_of (needed_key integer (codes "k") members) (needed_key secret (codes "secret") members)))

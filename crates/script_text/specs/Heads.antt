@@ -10,13 +10,13 @@ use Rattle.lms_tree.specs.declared.Height.{Height}
 use Rattle.lms_tree.specs.declared.Height.TheVariants.{H5}
 use Rattle.script_text.specs.declared.fault.TableFault.{TableFault}
 use Rattle.script_text.specs.declared.fault.TableFault.TheVariants.{BadConfig, WrongValue}
-use Rattle.script_text.specs.declared.head_keys.Needed.{Needed}
-use Rattle.script_text.specs.declared.head_keys.Optional.{Optional}
+use Rattle.script_text.specs.declared.head.Needed.{Needed}
+use Rattle.script_text.specs.declared.head.Optional.{Optional}
 use Rattle.script_text.specs.declared.script.Client.{Client}
 use Rattle.script_text.specs.declared.replica_keys.KeyShape.{KeyShape}
 use Rattle.script_text.specs.declared.script.Secret.{Secret}
 use Rattle.script_text.specs.KeyShapes.{KeyLists, can_be_spent, given_or}
-use Rattle.script_text.specs.Forms.{any_table, bottom, pair_of, client, height, list_of, needed_head, only_keys, optional_key, per_replica, replica, up_to}
+use Rattle.script_text.specs.Forms.{any_table, bottom, pair_of, client, height, integer, list_of, needed_key, only_keys, optional_key, per_replica, replica, secret, up_to}
 
 -- What a contract sees of a head.
 pub record HeadFacts : Type 0 where
@@ -53,6 +53,16 @@ abbrev pub client_shape : HeadFacts → KeyShape
 client_shape h = record { height = h.client_height; bottom = h.client_bottom; spent = 0 }
 
 -- ---- what is read
+
+-- what is needed of a head
+abbrev pub needed_from : Result (ℤ × (ℤ × Secret)) TableFault → Result Needed TableFault
+needed_from (Ok r) = Ok (record { f = r.0; k = r.1.0; secret = r.1.1 })
+needed_from (Err fault) = Err fault
+
+abbrev pub needed_head : Members → Result Needed TableFault
+needed_head members =
+    needed_from (pair_of (needed_key integer (codes "f") members)
+    (pair_of (needed_key integer (codes "k") members) (needed_key secret (codes "secret") members)))
 
 -- the clients, where the steps are a list of tables too
 abbrev pub first_of : {A B : Type 0} → Result (A × B) TableFault → Result A TableFault

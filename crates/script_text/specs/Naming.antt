@@ -1,12 +1,12 @@
 -- Statement: the names that steps give to messages.
-use Rattle.std.specs.Prelude.{codes, ℕ, Bool, true, false, List, [], ◌∷◌, Option, Some, None, Result, Ok, Err, bytes_eq, if◌then◌else◌}
+use Rattle.std.specs.Prelude.{ℕ, Bool, true, false, List, Option, Some, None, Result, Ok, Err, bytes_eq}
 use Rattle.std.specs.List.{list_any}
-use Rattle.toml.specs.Data.{Data, Members, as_str}
+use Rattle.toml.specs.Data.{Data, as_str}
 use Rattle.script_text.specs.declared.fault.TableFault.{TableFault}
 use Rattle.script_text.specs.declared.fault.TableFault.TheVariants.{WrongValue}
 use Rattle.script_text.specs.declared.script.NamedStep.{NamedStep}
 use Rattle.script_text.specs.declared.script.Step.{Step}
-use Rattle.script_text.specs.Forms.{if_found, is_one_of, optional_key, pair_of}
+use Rattle.script_text.specs.Forms.{if_found, pair_of}
 
 -- ---- which names there are
 
@@ -36,15 +36,7 @@ unused false t = Ok t
 abbrev pub new_name : List NamedStep → Data → Result (List ℕ) TableFault
 new_name earlier d = if_found (λ t. unused (is_given earlier t) t) (as_str d)
 
--- ---- steps that name a message
-
--- those that queue messages of their own, and `queue`
-abbrev pub naming_steps : List (List ℕ)
-naming_steps = codes "request" ∷ codes "repeat" ∷ codes "queue" ∷ codes "forge" ∷ codes "mangle" ∷ codes "raw" ∷ []
-
--- the name that a step of this kind gives
-abbrev pub name_in : List NamedStep → List ℕ → Members → Result (Option (List ℕ)) TableFault
-name_in earlier t members = if is_one_of naming_steps t then optional_key (new_name earlier) (codes "as") members else Ok None
+-- ---- a step with a name
 
 abbrev pub named_from : Result (Step × Option (List ℕ)) TableFault → Result NamedStep TableFault
 named_from (Ok r) = Ok (record { step = r.0; name = r.1 })

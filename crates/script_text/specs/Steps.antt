@@ -24,11 +24,19 @@ use Rattle.script_text.specs.declared.script.Order.{Order}
 use Rattle.script_text.specs.declared.script.Payload.{Payload}
 use Rattle.script_text.specs.declared.script.Payload.TheVariants.{Bytes, Message}
 use Rattle.script_text.specs.declared.script.Node.{Node}
+use Rattle.script_text.specs.declared.script.Printout.{Printout}
+use Rattle.script_text.specs.declared.script.Printout.TheVariants as printouts
+use Rattle.script_text.specs.declared.script.QueueEdit.TheVariants as edits
 use Rattle.script_text.specs.declared.script.Step.{Step}
 use Rattle.script_text.specs.declared.script.Step.TheVariants as steps
 use Rattle.script_text.specs.declared.kind.Kind.{Kind}
-use Rattle.script_text.specs.Naming.{given_name}
-use Rattle.script_text.specs.Forms.{assembler_text, pair_of, client_name, faulty_index, hex_bytes, digest, forged_kind, kind_name, lines, list_of, needed_key, only_keys, optional_key, node, replica, sequence_number, up_to, yes}
+use Rattle.script_text.specs.Naming.{given_name, new_name}
+use Rattle.script_text.specs.Forms.{assembler_text, pair_of, client_name, faulty_index, hex_bytes, digest, forged_kind, is_one_of, kind_name, lines, list_of, needed_key, only_keys, optional_key, node, replica, sequence_number, up_to, yes}
+
+-- what a reading says, put into a step
+abbrev pub as_step : {A : Type 0} → (A → Step) → Result A TableFault → Result Step TableFault
+as_step step_of (Ok x) = Ok (step_of x)
+as_step step_of (Err fault) = Err fault
 
 -- whose messages of the queue, for whom and of which kinds
 abbrev pub Selection : Type 0
@@ -68,10 +76,20 @@ deliver_in count clients members =
     (pair_of (optional_key (up_to 9223372036854775807) (codes "order") members) (selection_in count clients members))
     (codes "do" ∷ codes "from" ∷ codes "to" ∷ codes "kinds" ∷ codes "order" ∷ []) members)
 
+-- which messages are lost, which are queued once more, and which are printed
+abbrev pub drop_in : ℕ → List Client → Members → Result Step TableFault
+drop_in count clients members = as_step (λ f. steps.Edit (edits.Drop f)) (filter_in filter_keys count clients members)
+
+abbrev pub repeat_in : ℕ → List Client → Members → Result Step TableFault
+repeat_in count clients members = as_step (λ f. steps.Edit (edits.Repeat f)) (filter_in named_filter_keys count clients members)
+
+abbrev pub queue_in : ℕ → List Client → Members → Result Step TableFault
+queue_in count clients members = as_step (λ f. steps.Print (printouts.Queue f)) (filter_in named_filter_keys count clients members)
+
 -- ---- changed copies
 
 abbrev pub mangle_from : Result (Damage × Selection) TableFault → Result Step TableFault
-mangle_from (Ok r) = Ok (steps.Mangle (filter_of r.1) r.0)
+mangle_from (Ok r) = Ok (steps.Edit (edits.Mangle (filter_of r.1) r.0))
 mangle_from (Err fault) = Err fault
 
 abbrev pub mangle_with : Result Damage TableFault → List (List ℕ) → ℕ → List Client → Members → Result Step TableFault
@@ -104,7 +122,7 @@ timeout_in count members =
 
 -- whose state is shown
 abbrev pub state_from : Result ReplicaId TableFault → Result Step TableFault
-state_from (Ok id) = Ok (steps.State id)
+state_from (Ok id) = Ok (steps.Print (printouts.State id))
 state_from (Err fault) = Err fault
 
 abbrev pub state_in : ℕ → Members → Result Step TableFault
@@ -113,7 +131,7 @@ state_in count members =
 
 -- bytes of a state
 abbrev pub upgrade_from : Result (List ℕ) TableFault → Result Step TableFault
-upgrade_from (Ok bytes) = Ok (steps.Upgrade bytes)
+upgrade_from (Ok bytes) = Ok (steps.Print (printouts.Upgrade bytes))
 upgrade_from (Err fault) = Err fault
 
 abbrev pub upgrade_in : Members → Result Step TableFault
@@ -133,7 +151,7 @@ expect_in members =
 
 -- bytes, and for whom they are queued
 abbrev pub raw_from : Result (Payload × List Node) TableFault → Result Step TableFault
-raw_from (Ok r) = Ok (steps.Raw r.1 r.0)
+raw_from (Ok r) = Ok (steps.Edit (edits.Raw r.1 r.0))
 raw_from (Err fault) = Err fault
 
 abbrev pub raw_with : Result Payload TableFault → List (List ℕ) → ℕ → List Client → Members → Result Step TableFault
@@ -310,31 +328,36 @@ forgery_in count faulty clients members = forgery_of (needed_key forged_kind (co
 
 -- ---- a step
 
--- what a reading says, put into a step
-abbrev pub as_step : {A : Type 0} → (A → Step) → Result A TableFault → Result Step TableFault
-as_step step_of (Ok x) = Ok (step_of x)
-as_step step_of (Err fault) = Err fault
-
--- a step of no keys but its name
-abbrev pub bare : Step → Members → Result Step TableFault
-bare said members = only_keys (Ok said) (codes "do" ∷ []) members
+-- what is printed by a step of no keys but its name
+abbrev pub bare : Printout → Members → Result Step TableFault
+bare said members = only_keys (Ok (steps.Print said)) (codes "do" ∷ []) members
 
 -- a step of this name, under so many replicas, these faulty ones and these clients, behind these steps
 abbrev pub step_named : List ℕ → ℕ → List ReplicaId → List Client → List NamedStep → Members → Result Step TableFault
 step_named t count faulty clients earlier members =
     if bytes_eq t (codes "request") then as_step steps.Request (order_in count clients members)
     else if bytes_eq t (codes "deliver") then deliver_in count clients members
-    else if bytes_eq t (codes "drop") then as_step steps.Drop (filter_in filter_keys count clients members)
-    else if bytes_eq t (codes "repeat") then as_step steps.Repeat (filter_in named_filter_keys count clients members)
-    else if bytes_eq t (codes "queue") then as_step steps.Queue (filter_in named_filter_keys count clients members)
+    else if bytes_eq t (codes "drop") then drop_in count clients members
+    else if bytes_eq t (codes "repeat") then repeat_in count clients members
+    else if bytes_eq t (codes "queue") then queue_in count clients members
     else if bytes_eq t (codes "timeout") then timeout_in count members
     else if bytes_eq t (codes "forge") then as_step steps.Forge (forgery_in count faulty clients members)
     else if bytes_eq t (codes "mangle") then mangle_in count clients members
     else if bytes_eq t (codes "raw") then raw_in count clients earlier members
-    else if bytes_eq t (codes "show") then bare steps.Show members
-    else if bytes_eq t (codes "digest") then bare steps.Digest members
+    else if bytes_eq t (codes "show") then bare printouts.Show members
+    else if bytes_eq t (codes "digest") then bare printouts.Digest members
     else if bytes_eq t (codes "state") then state_in count members
     else if bytes_eq t (codes "upgrade") then upgrade_in members
     else if bytes_eq t (codes "expect") then expect_in members
-    else if bytes_eq t (codes "audit") then bare steps.Audit members
+    else if bytes_eq t (codes "audit") then bare printouts.Audit members
     else Err WrongValue
+
+-- ---- steps that name a message
+
+-- those that queue messages of their own, and `queue`
+abbrev pub naming_steps : List (List ℕ)
+naming_steps = codes "request" ∷ codes "repeat" ∷ codes "queue" ∷ codes "forge" ∷ codes "mangle" ∷ codes "raw" ∷ []
+
+-- the name that a step of this kind gives
+abbrev pub name_in : List NamedStep → List ℕ → Members → Result (Option (List ℕ)) TableFault
+name_in earlier t members = if is_one_of naming_steps t then optional_key (new_name earlier) (codes "as") members else Ok None

@@ -13,8 +13,7 @@ ghost use Rattle.script_text.specs.Scripts.{IsScriptUnlessMemory, count_in, docu
 use crate::dialect::Dialect;
 use crate::fault::{ScriptFault, ScriptKind, TableFault};
 use crate::form::value_at;
-use crate::head::Head;
-use crate::head_keys::read_head;
+use crate::head::{Head, read_head};
 use crate::script::{NamedStep, Script};
 use crate::step_keys::read_step;
 use pbft_codec::Sequence;

@@ -1,28 +1,63 @@
-//! The head of a script.
+//! The head of a script, and its keys.
 
-ghost use Rattle.std.specs.Prelude.{◌≡◌, ◌≤◌};
-ghost use Rattle.host_types.specs.Configuration.{replicas_for};
-ghost use Rattle.script_text.specs.Heads.{IsLegal, client_shape};
-ghost use Rattle.script_text.specs.KeyShapes.{leaves_of, shape_at};
+ghost use Rattle.std.specs.Prelude.{◌≡◌, ◌≤◌, IfOk, is_none, map, replicate};
+ghost use Rattle.host_types.specs.Configuration.{fault_of, replicas_for};
+ghost use Rattle.toml.specs.Data.{as_array};
+ghost use Rattle.toml.specs.View.{table_view, view};
+ghost use Rattle.script_text.specs.Dialects.{has_item, head_for, names_faulty};
+ghost use Rattle.script_text.specs.Faults.{IsUnlessMemory};
+ghost use Rattle.script_text.specs.Heads.{IsLegal, byte_of, client_heights_in, client_shape, count_of_faulty, head_from, head_in, head_of, if_legal, keys_in, keyless, keyless_configuration, listed_clients, named_count, needed_head, no_key, optional_faulty, optional_head, optional_list, replica_count};
+ghost use Rattle.script_text.specs.KeyShapes.{given_or, leaves_of, shape_at};
 
+use crate::dialect::Dialect;
+use crate::fault::TableFault;
+use crate::form::{Form, needed, optional, pair, unknown_where, value_at, with_only, wrong_where};
 use crate::replica_keys::{KeyShape, ReplicaKeys};
 use crate::script::{Client, Secret};
-use host_types::ReplicaId;
+use crate::values::{
+    AnyTable, BottomHeight, Integer, KeyHeight, ListOf, PerReplica, ReplicaIndex, SecretDigits,
+    SpentLeaves, Word, table_of,
+};
+use host_types::limits::MAX_FAULTY;
+use host_types::{ClientEntry, ClientId, Config, PublicKey, ReplicaId, TenantId};
 use lms_tree::Height;
 use pbft_codec::Sequence;
+use std::alloc::{AllocError, Global};
 use std::marker::Model;
+use toml::{Table, Value};
+
+/// The keys of a head.
+const HEAD_KEYS: [&str; 11] = [
+    "f",
+    "k",
+    "secret",
+    "heights",
+    "bottom",
+    "spent",
+    "client_height",
+    "client_bottom",
+    "faulty",
+    "client",
+    "step",
+];
+
+/// The keys of a client.
+const CLIENT_KEYS: [&str; 2] = ["id", "tenant"];
+
+/// A key that no signature verifies under.
+const NO_KEY: PublicKey = PublicKey::Lms([0; 56]);
 
 /// The head of a script: who takes part.
 #[derive(Drop)]
 pub struct Head {
-    pub(crate) f: u8,
-    pub(crate) k: u8,
-    pub(crate) secret: Secret,
-    pub(crate) keys: ReplicaKeys,
-    pub(crate) client_height: Height,
-    pub(crate) client_bottom: Option<Height>,
-    pub(crate) faulty: Sequence<ReplicaId>,
-    pub(crate) clients: Sequence<Client>,
+    f: u8,
+    k: u8,
+    secret: Secret,
+    keys: ReplicaKeys,
+    client_height: Height,
+    client_bottom: Option<Height>,
+    faulty: Sequence<ReplicaId>,
+    clients: Sequence<Client>,
 }
 
 impl Model for Head {
@@ -96,5 +131,317 @@ impl Head {
         ensures { result.now ≡ self.now.clients }
     {
         self.clients.as_slice()
+    }
+}
+
+// ---- what its keys say
+
+/// What is needed of a head, as it is written.
+#[derive(Drop)]
+struct Needed {
+    f: i64,
+    k: i64,
+    secret: Secret,
+}
+
+/// What may be left out.
+#[derive(Drop)]
+struct Optional {
+    keys: ReplicaKeys,
+    client_height: Height,
+    client_bottom: Option<Height>,
+    faulty: Option<Sequence<ReplicaId>>,
+}
+
+/// The head of a document in a dialect. Its first fault is reported.
+pub(crate) fn read_head(alloc: Global, dialect: Dialect, table: &Table) -> Result<Head, TableFault>
+    ensures { IsUnlessMemory result (head_for dialect (table_view table.now)) }
+{
+    match dialect {
+        Dialect::World => read_any_head(alloc, table),
+        Dialect::Threads => unknown_where(
+            value_at(table, "spent").is_some(),
+            wrong_where(names_faulty(table), read_any_head(alloc, table)),
+        ),
+    }
+}
+
+/// Whether a document lists a faulty replica.
+fn names_faulty(table: &Table) -> bool
+    ensures { result ≡ names_faulty (table_view table.now) }
+{
+    match value_at(table, "faulty") {
+        Some(value) => has_item(value),
+        None => false,
+    }
+}
+
+fn has_item(value: &Value) -> bool
+    ensures { result ≡ has_item (as_array (view value.now)) }
+{
+    match value.as_array() {
+        Some(items) => !items.is_empty(),
+        None => false,
+    }
+}
+
+/// The head of a document.
+fn read_any_head(alloc: Global, table: &Table) -> Result<Head, TableFault>
+    ensures { IsUnlessMemory result (head_in (table_view table.now)) }
+{
+    let named = pair(
+        read_needed(alloc, table),
+        pair(read_optional(alloc, table), read_lists(alloc, table)),
+    );
+    let (needed, (optional, clients)) = with_only(named, table, &HEAD_KEYS)?;
+    head_from(alloc, needed, optional, clients)
+}
+
+/// The head of these values, or `BadConfig`.
+fn head_from(
+    alloc: Global,
+    needed: Needed,
+    optional: Optional,
+    clients: Option<Sequence<Client>>,
+) -> Result<Head, TableFault>
+    ensures { IsUnlessMemory result (head_from (byte_of needed.f) (byte_of needed.k) needed.secret optional clients) }
+{
+    match (byte_of(needed.f), byte_of(needed.k)) {
+        (Some(f), Some(k)) => legal_head(alloc, f, k, needed.secret, optional, clients),
+        _ => Err(TableFault::BadConfig),
+    }
+}
+
+/// An integer that is a byte.
+fn byte_of(integer: i64) -> Option<u8>
+    ensures { result ≡ byte_of integer }
+{
+    match u8::try_from(integer) {
+        Ok(byte) => Some(byte),
+        Err(_) => None,
+    }
+}
+
+/// The head of these values, if it is that of a configuration.
+fn legal_head(
+    alloc: Global,
+    f: u8,
+    k: u8,
+    secret: Secret,
+    optional: Optional,
+    clients: Option<Sequence<Client>>,
+) -> Result<Head, TableFault>
+    ensures { IsUnlessMemory result (if_legal (head_of f k secret optional clients)) }
+{
+    let clients = given_or(clients, Sequence::from_vec(Vec::new(alloc)));
+    let legal = is_legal(alloc, f, k, clients.as_slice())?;
+    let faulty = given_or(optional.faulty, Sequence::from_vec(Vec::new(alloc)));
+    if !legal {
+        return Err(TableFault::BadConfig);
+    }
+    Ok(Head {
+        f,
+        k,
+        secret,
+        keys: optional.keys,
+        client_height: optional.client_height,
+        client_bottom: optional.client_bottom,
+        faulty,
+        clients,
+    })
+}
+
+/// The number of replicas for a legal number of faulty ones.
+fn replica_count(f: i64) -> Option<u8>
+    ensures { result ≡ replica_count f }
+{
+    match f {
+        1 => Some(4),
+        2 => Some(7),
+        3 => Some(10),
+        _ => None,
+    }
+}
+
+/// The number of replicas for the number of faulty ones that a table names.
+fn named_count(table: &Table) -> Option<u8>
+    ensures { result ≡ named_count (table_view table.now) }
+{
+    let value = value_at(table, "f")?;
+    replica_count(value.as_integer()?)
+}
+
+fn read_needed(alloc: Global, table: &Table) -> Result<Needed, TableFault>
+    ensures { IsUnlessMemory result (needed_head (table_view table.now)) }
+{
+    let (f, (k, secret)) = pair(
+        needed(alloc, table, "f", &Integer),
+        pair(
+            needed(alloc, table, "k", &Integer),
+            needed(alloc, table, "secret", &SecretDigits),
+        ),
+    )?;
+    Ok(Needed { f, k, secret })
+}
+
+fn read_optional(alloc: Global, table: &Table) -> Result<Optional, TableFault>
+    ensures { IsUnlessMemory result (optional_head (table_view table.now)) }
+{
+    let (keys, ((client_height, client_bottom), faulty)) = pair(
+        read_keys(alloc, table),
+        pair(read_client_heights(alloc, table), read_faulty(alloc, table)),
+    )?;
+    Ok(Optional {
+        keys,
+        client_height,
+        client_bottom,
+        faulty,
+    })
+}
+
+/// How the replicas' keys are made.
+fn read_keys(alloc: Global, table: &Table) -> Result<ReplicaKeys, TableFault>
+    ensures { IsUnlessMemory result (keys_in (table_view table.now)) }
+{
+    let (heights, (bottoms, spent)) = pair(
+        read_list(alloc, table, "heights", KeyHeight),
+        pair(
+            read_list(alloc, table, "bottom", BottomHeight),
+            read_list(alloc, table, "spent", SpentLeaves),
+        ),
+    )?;
+    ReplicaKeys::new(heights, bottoms, spent).ok_or(TableFault::WrongValue)
+}
+
+/// A list with an entry for each replica.
+fn read_list<F: Form + Copy>(
+    alloc: Global,
+    table: &Table,
+    key: &str,
+    form: F,
+) -> Result<Option<Sequence<F::Says>>, TableFault>
+    ensures { IsUnlessMemory result (optional_list (F.reads form) key.now (table_view table.now)) }
+{
+    let form = PerReplica {
+        count: named_count(table),
+        form,
+    };
+    optional(alloc, table, key, &form)
+}
+
+/// The heights of the clients' keys.
+fn read_client_heights(alloc: Global, table: &Table) -> Result<(Height, Option<Height>), TableFault>
+    ensures { IsUnlessMemory result (client_heights_in (table_view table.now)) }
+{
+    let (height, bottom) = pair(
+        optional(alloc, table, "client_height", &KeyHeight),
+        optional(alloc, table, "client_bottom", &BottomHeight),
+    )?;
+    Ok((given_or(height, Height::H5), given_or(bottom, None)))
+}
+
+/// The faulty ones among the replicas.
+fn read_faulty(alloc: Global, table: &Table) -> Result<Option<Sequence<ReplicaId>>, TableFault>
+    ensures { IsUnlessMemory result (optional_faulty (table_view table.now)) }
+{
+    let form = ReplicaIndex {
+        count: count_of_faulty(table),
+    };
+    optional(alloc, table, "faulty", &ListOf(form))
+}
+
+/// Below which count a faulty replica's index is: any byte's where the number of replicas isn't known.
+fn count_of_faulty(table: &Table) -> u8
+    ensures { result ≡ count_of_faulty (table_view table.now) }
+{
+    match named_count(table) {
+        Some(count) => count,
+        None => u8::MAX,
+    }
+}
+
+/// The clients, if the steps are a list of tables too.
+fn read_lists(alloc: Global, table: &Table) -> Result<Option<Sequence<Client>>, TableFault>
+    ensures { IsUnlessMemory result (listed_clients (table_view table.now)) }
+{
+    let (clients, _) = pair(
+        optional(alloc, table, "client", &ListOf(ClientTable)),
+        optional(alloc, table, "step", &ListOf(AnyTable)),
+    )?;
+    Ok(clients)
+}
+
+/// A client's table.
+#[derive(Clone, Copy)]
+struct ClientTable;
+
+impl Form for ClientTable {
+    ghost use Rattle.script_text.specs.Forms.{client};
+
+    ghost reads = { λ _ d. client d };
+
+    type Says = Client;
+
+    fn read(&self, alloc: Global, value: &Value) -> Result<Client, TableFault> {
+        let table = table_of(value)?;
+        let named = pair(
+            needed(alloc, table, "id", &Word),
+            needed(alloc, table, "tenant", &Word),
+        );
+        let (id, tenant) = with_only(named, table, &CLIENT_KEYS)?;
+        Ok(Client {
+            id: ClientId(id),
+            tenant: TenantId(tenant),
+        })
+    }
+}
+
+/// Whether this is the head of a configuration, whatever the keys.
+fn is_legal(alloc: Global, f: u8, k: u8, clients: &[Client]) -> Result<bool, AllocError>
+    ensures { IfOk result (λ legal. legal ≡ is_none (fault_of (keyless_configuration f k clients.now))) }
+{
+    if f > MAX_FAULTY {
+        return Ok(false);
+    }
+    let keys = no_keys(alloc, 3 * f + 1)?;
+    let clients = keyless_entries(alloc, clients)?;
+    Ok(Config::new(f, k, keys, clients).is_ok())
+}
+
+/// So many keys that no signature verifies under.
+fn no_keys(alloc: Global, count: u8) -> Result<Vec<PublicKey>, AllocError>
+    ensures { IfOk result (λ keys. keys.items ≡ replicate count no_key) }
+{
+    let mut keys = Vec::new(alloc);
+    for _ in 0..count {
+        keys.push(NO_KEY)?;
+    }
+    Ok(keys)
+}
+
+/// Entries of clients whose keys no signature verifies under.
+fn keyless_entries(alloc: Global, clients: &[Client]) -> Result<Vec<ClientEntry>, AllocError>
+    ensures { IfOk result (λ entries. entries.items ≡ map keyless clients.now) }
+{
+    clients.iter().map(keyless).collect(alloc)
+}
+
+fn keyless(client: &Client) -> ClientEntry
+    ensures { result ≡ keyless client.now }
+{
+    ClientEntry {
+        id: client.id,
+        tenant: client.tenant,
+        key: NO_KEY,
+    }
+}
+
+/// What is given, or else another.
+fn given_or<T: Drop>(given: Option<T>, other: T) -> T
+    ensures { result ≡ given_or given other }
+{
+    match given {
+        Some(given) => given,
+        None => other,
     }
 }

@@ -14,7 +14,6 @@ mod fault;
 mod forgery_keys;
 mod form;
 mod head;
-mod head_keys;
 mod kind;
 mod lines;
 mod naming;
@@ -32,5 +31,5 @@ pub use kind::Kind;
 pub use replica_keys::KeyShape;
 pub use script::{
     Client, Damage, Filter, ForgedMessage, ForgedVote, Forgery, MessageName, NamedStep, Node,
-    Number, Operation, Order, Payload, Script, ScriptBytes, Secret, Step,
+    Number, Operation, Order, Payload, Printout, QueueEdit, Script, ScriptBytes, Secret, Step,
 };

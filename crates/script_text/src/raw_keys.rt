@@ -13,7 +13,7 @@ ghost use Rattle.script_text.specs.Steps.{bytes_in, change_at, message_with, raw
 use crate::fault::TableFault;
 use crate::form::{needed, optional, pair, value_at, with_only};
 use crate::naming::GivenName;
-use crate::script::{Damage, Node, Payload, Step};
+use crate::script::{Damage, Node, Payload, QueueEdit, Step};
 use crate::step_keys::{MAX_INTEGER, Names};
 use crate::values::{HexBytes, ListOf, NodeName, UpTo};
 use pbft_codec::Sequence;
@@ -65,7 +65,7 @@ fn as_raw(read: Result<(Payload, Sequence<Node>), TableFault>) -> Result<Step, T
     ensures { (r : Result (PayloadSaid × List NodeSaid) TableFault) → IsUnlessMemory read r → IsUnlessMemory result (raw_from r) }
 {
     match read {
-        Ok((payload, to)) => Ok(Step::Raw { to, payload }),
+        Ok((payload, to)) => Ok(Step::Edit(QueueEdit::Raw { to, payload })),
         Err(fault) => Err(fault),
     }
 }

@@ -261,16 +261,25 @@ pub enum Step {
         /// The seed of an order that is drawn; the oldest message first where it is left out.
         order: Option<u64>,
     },
+    /// Timeouts at these replicas, in this order.
+    Timeout(Sequence<ReplicaId>),
+    /// Queues a message that a faulty replica signs.
+    Forge(Forgery),
+    /// Changes the queue, and nothing else.
+    Edit(QueueEdit),
+    /// Prints, and changes nothing.
+    Print(Printout),
+    /// Goes on if this is what has been printed since the last `expect`. Each of its lines has an end.
+    Expect(Bytes),
+}
+
+/// What a step does that changes the queue alone.
+#[derive(Drop)]
+pub enum QueueEdit {
     /// Removes each message that is meant.
     Drop(Filter),
     /// Queues each message that is meant once more.
     Repeat(Filter),
-    /// Timeouts at these replicas, in this order.
-    Timeout(Sequence<ReplicaId>),
-    /// Prints each message that is meant, the oldest first.
-    Queue(Filter),
-    /// Queues a message that a faulty replica signs.
-    Forge(Forgery),
     /// Queues a changed copy of each message that is meant.
     Mangle {
         filter: Filter,
@@ -281,16 +290,21 @@ pub enum Step {
         to: Sequence<Node>,
         payload: Payload,
     },
-    /// Prints where each correct replica stands.
+}
+
+/// What a step prints that changes nothing.
+#[derive(Drop)]
+pub enum Printout {
+    /// Each message that is meant, the oldest first.
+    Queue(Filter),
+    /// Where each correct replica stands.
     Show,
-    /// Prints the digest of each correct replica's state.
+    /// The digest of each correct replica's state.
     Digest,
-    /// Prints the bytes of a replica's state.
+    /// The bytes of a replica's state.
     State(ReplicaId),
-    /// Prints the canonical encoding of the state that these bytes encode.
+    /// The canonical encoding of the state that these bytes encode.
     Upgrade(ScriptBytes),
-    /// Goes on if this is what has been printed since the last `expect`. Each of its lines has an end.
-    Expect(Bytes),
-    /// Prints whether the rows of the correct replicas agree so far.
+    /// Whether the rows of the correct replicas agree so far.
     Audit,
 }

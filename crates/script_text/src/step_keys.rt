@@ -8,8 +8,8 @@ ghost use Rattle.script_text.specs.declared.script.Damage.{Damage as DamageSaid}
 ghost use Rattle.script_text.specs.declared.script.Damage.TheVariants as damages;
 ghost use Rattle.script_text.specs.declared.script.Step.{Step as StepSaid};
 ghost use Rattle.script_text.specs.Faults.{IsUnlessMemory};
-ghost use Rattle.script_text.specs.Naming.{name_in, named};
-ghost use Rattle.script_text.specs.Steps.{Selection as SelectionSaid, asm_in, bare, call_in, damage_at, deliver_in, expect_in, filter_in, filter_of, install_in, mangle_from, mangle_in, mangle_with, order_in, order_with, selection_in, state_in, step_named, timeout_in, upgrade_in};
+ghost use Rattle.script_text.specs.Naming.{named};
+ghost use Rattle.script_text.specs.Steps.{Selection as SelectionSaid, asm_in, bare, call_in, damage_at, deliver_in, drop_in, expect_in, filter_in, filter_of, install_in, mangle_from, mangle_in, mangle_with, name_in, order_in, order_with, queue_in, repeat_in, selection_in, state_in, step_named, timeout_in, upgrade_in};
 ghost use Rattle.script_text.specs.Dialects.{step, step_named_for, thread_step};
 
 use crate::assembly::AssemblerText;
@@ -25,7 +25,8 @@ use crate::lines::Lines;
 use crate::naming::NewName;
 use crate::raw_keys::read_raw;
 use crate::script::{
-    Client, Damage, Filter, MessageName, NamedStep, Node, Operation, Order, ScriptBytes, Step,
+    Client, Damage, Filter, MessageName, NamedStep, Node, Operation, Order, Printout, QueueEdit,
+    ScriptBytes, Step,
 };
 use crate::values::{
     ClientName, HexBytes, KindName, ListOf, NodeName, ReplicaIndex, UpTo, Word, table_of,
@@ -196,28 +197,28 @@ fn read_named_step(
     match name {
         "request" => Ok(Step::Request(read_request(alloc, names, table)?)),
         "deliver" => read_deliver(alloc, names, table),
-        "drop" => Ok(Step::Drop(read_filter(alloc, names, table, &FILTER_KEYS)?)),
-        "repeat" => Ok(Step::Repeat(read_filter(alloc, names, table, &NAMED_FILTER_KEYS)?)),
-        "queue" => Ok(Step::Queue(read_filter(alloc, names, table, &NAMED_FILTER_KEYS)?)),
+        "drop" => read_drop(alloc, names, table),
+        "repeat" => read_repeat(alloc, names, table),
+        "queue" => read_queue(alloc, names, table),
         "timeout" => read_timeout(alloc, names, table),
         "forge" => Ok(Step::Forge(read_forgery(alloc, names, table)?)),
         "mangle" => read_mangle(alloc, names, table),
         "raw" => read_raw(alloc, names, table),
-        "show" => read_bare(table, Step::Show),
-        "digest" => read_bare(table, Step::Digest),
+        "show" => read_bare(table, Printout::Show),
+        "digest" => read_bare(table, Printout::Digest),
         "state" => read_state(alloc, names, table),
         "upgrade" => read_upgrade(alloc, table),
         "expect" => read_expect(alloc, table),
-        "audit" => read_bare(table, Step::Audit),
+        "audit" => read_bare(table, Printout::Audit),
         _ => Err(TableFault::WrongValue),
     }
 }
 
-/// A step of no keys but its name.
-fn read_bare(table: &Table, step: Step) -> Result<Step, TableFault>
-    ensures { IsUnlessMemory result (bare step (table_view table.now)) }
+/// What is printed by a step of no keys but its name.
+fn read_bare(table: &Table, printout: Printout) -> Result<Step, TableFault>
+    ensures { IsUnlessMemory result (bare printout (table_view table.now)) }
 {
-    with_only(Ok(step), table, &BARE_KEYS)
+    with_only(Ok(Step::Print(printout)), table, &BARE_KEYS)
 }
 
 /// A request, which installs code or calls a procedure.
@@ -321,6 +322,30 @@ fn read_deliver(alloc: Global, names: &Names<'_>, table: &Table) -> Result<Step,
     })
 }
 
+/// Which messages are lost.
+fn read_drop(alloc: Global, names: &Names<'_>, table: &Table) -> Result<Step, TableFault>
+    ensures { IsUnlessMemory result (drop_in names.now.count names.now.clients.now (table_view table.now)) }
+{
+    let filter = read_filter(alloc, names, table, &FILTER_KEYS)?;
+    Ok(Step::Edit(QueueEdit::Drop(filter)))
+}
+
+/// Which messages are queued once more.
+fn read_repeat(alloc: Global, names: &Names<'_>, table: &Table) -> Result<Step, TableFault>
+    ensures { IsUnlessMemory result (repeat_in names.now.count names.now.clients.now (table_view table.now)) }
+{
+    let filter = read_filter(alloc, names, table, &NAMED_FILTER_KEYS)?;
+    Ok(Step::Edit(QueueEdit::Repeat(filter)))
+}
+
+/// Which messages are printed.
+fn read_queue(alloc: Global, names: &Names<'_>, table: &Table) -> Result<Step, TableFault>
+    ensures { IsUnlessMemory result (queue_in names.now.count names.now.clients.now (table_view table.now)) }
+{
+    let filter = read_filter(alloc, names, table, &NAMED_FILTER_KEYS)?;
+    Ok(Step::Print(Printout::Queue(filter)))
+}
+
 /// Which messages of the queue are meant, in a table of these keys.
 fn read_filter(
     alloc: Global,
@@ -390,10 +415,10 @@ fn as_mangle(read: Result<(Damage, Selection), TableFault>) -> Result<Step, Tabl
     ensures { (r : Result (DamageSaid × SelectionSaid) TableFault) → IsUnlessMemory read r → IsUnlessMemory result (mangle_from r) }
 {
     match read {
-        Ok((damage, selection)) => Ok(Step::Mangle {
+        Ok((damage, selection)) => Ok(Step::Edit(QueueEdit::Mangle {
             filter: filter_of(selection),
             damage,
-        }),
+        })),
         Err(fault) => Err(fault),
     }
 }
@@ -423,14 +448,16 @@ fn read_state(alloc: Global, names: &Names<'_>, table: &Table) -> Result<Step, T
 {
     let replica = ReplicaIndex { count: names.count };
     let named = needed(alloc, table, "at", &replica);
-    Ok(Step::State(with_only(named, table, &STATE_KEYS)?))
+    let id = with_only(named, table, &STATE_KEYS)?;
+    Ok(Step::Print(Printout::State(id)))
 }
 
 fn read_upgrade(alloc: Global, table: &Table) -> Result<Step, TableFault>
     ensures { IsUnlessMemory result (upgrade_in (table_view table.now)) }
 {
     let named = needed(alloc, table, "bytes", &HexBytes);
-    Ok(Step::Upgrade(with_only(named, table, &UPGRADE_KEYS)?))
+    let bytes = with_only(named, table, &UPGRADE_KEYS)?;
+    Ok(Step::Print(Printout::Upgrade(bytes)))
 }
 
 fn read_expect(alloc: Global, table: &Table) -> Result<Step, TableFault>

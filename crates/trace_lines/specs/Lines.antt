@@ -17,6 +17,8 @@ use Rattle.seal.specs.Faults as faults
 use Rattle.seal.specs.declared.fault.SealFault.{SealFault}
 use Rattle.seal.specs.declared.vote.VoteKind.{VoteKind}
 use Rattle.seal.specs.declared.vote.VoteKind.TheVariants as votes
+use Rattle.trace_lines.specs.declared.happening.Cause.{Cause}
+use Rattle.trace_lines.specs.declared.happening.Cause.TheVariants as causes
 use Rattle.trace_lines.specs.declared.happening.Happening.{Happening}
 use Rattle.trace_lines.specs.declared.happening.Happening.TheVariants as happens
 use Rattle.trace_lines.specs.declared.saying.Saying.{Saying}
@@ -72,6 +74,13 @@ abbrev pub handed_line : Option Node → List ℕ → Node → Saying → List �
 handed_line from arrow to saying =
     node_text from ++ (codes " " ++ (arrow ++ (codes " " ++ (node_text (Some to) ++ (codes " " ++ (saying_words saying ++ codes "\n"))))))
 
+-- that a step queues nothing, and why
+abbrev pub unqueued_line : Cause → List ℕ
+unqueued_line (causes.Exhausted node) = codes "nothing to queue: " ++ (node_text (Some node) ++ codes " has no leaf left\n")
+unqueued_line (causes.NeverMade client time) =
+    codes "nothing to queue: " ++ (decimal client.0 ++ (codes " made no request at time " ++ (decimal time ++ codes "\n")))
+unqueued_line causes.NoMessage = codes "nothing to queue: the name has no message\n"
+
 -- what a replica does, with a number
 abbrev pub at_line : ReplicaId → List ℕ → ℕ → List ℕ
 at_line at words number = decimal at.0 ++ (codes " " ++ (words ++ (codes " " ++ (decimal number ++ codes "\n"))))
@@ -107,6 +116,7 @@ abbrev pub happening_line : Happening → List ℕ
 happening_line (happens.Handed from to saying) = handed_line from (codes "->") to saying
 happening_line (happens.Lost from to saying) = handed_line from (codes "-x") to saying
 happening_line (happens.Refused at from kind fault part) = refusal_line at from kind fault part
+happening_line (happens.Unqueued cause) = unqueued_line cause
 happening_line (happens.TimedOut at) = decimal at.0 ++ codes " times out\n"
 happening_line (happens.Executed at number) = at_line at (codes "executes") number.0
 happening_line (happens.Installed at number) = at_line at (codes "installs") number.0

@@ -7,6 +7,17 @@ use replica_core::Halt;
 use script_text::{Kind, Node};
 use seal::SealFault;
 
+/// Why a step queues nothing.
+#[derive(Clone, Copy, Debug, PartialEq, Eq)]
+pub enum Cause {
+    /// The signer has no leaf left.
+    Exhausted(Node),
+    /// The request that a vote is to name was never made.
+    NeverMade { client: ClientId, time: u64 },
+    /// The name has no message.
+    NoMessage,
+}
+
 /// One thing that happens in a world.
 #[derive(Clone, Copy, Debug, PartialEq, Eq)]
 pub enum Happening {
@@ -31,6 +42,8 @@ pub enum Happening {
         fault: SealFault,
         part: Option<usize>,
     },
+    /// A step queues nothing.
+    Unqueued(Cause),
     /// A replica's timer expires.
     TimedOut {
         at: ReplicaId,

@@ -12,7 +12,7 @@ mod saying;
 mod standing;
 mod words;
 
-pub use happening::Happening;
+pub use happening::{Cause, Happening};
 pub use lines::line_of;
 pub use said::{saying_in, saying_of};
 pub use saying::Saying;

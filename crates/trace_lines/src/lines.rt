@@ -1,9 +1,9 @@
 //! The line of what happens.
 
 ghost use Rattle.std.specs.Prelude.{◌≡◌, IfOk, codes, decimal, string_bytes};
-ghost use Rattle.trace_lines.specs.Lines.{at_line, blame_line, fault_words, happening_line, handed_line, left_line, raised_line, refusal_line, refused_words, topic_words};
+ghost use Rattle.trace_lines.specs.Lines.{at_line, blame_line, fault_words, happening_line, handed_line, left_line, raised_line, refusal_line, refused_words, topic_words, unqueued_line};
 
-use crate::happening::Happening;
+use crate::happening::{Cause, Happening};
 use crate::saying::Saying;
 use crate::words::{node_text, short, vote_name, words_of};
 use blame::{Claim, Topic};
@@ -26,6 +26,7 @@ pub fn line_of(alloc: Global, happening: &Happening) -> Result<String, AllocErro
             fault,
             part,
         } => refusal_line(alloc, at, from, kind, fault, part),
+        Happening::Unqueued(cause) => unqueued_line(alloc, cause),
         Happening::TimedOut { at } => {
             let at = at.0;
             format!(in alloc; "{at} times out\n")
@@ -61,6 +62,23 @@ fn handed_line(
     let to = node_text(alloc, Some(to))?;
     let words = words_of(alloc, saying)?;
     format!(in alloc; "{from} {arrow} {to} {words}\n")
+}
+
+/// That a step queues nothing, and why.
+fn unqueued_line(alloc: Global, cause: Cause) -> Result<String, AllocError>
+    ensures { IfOk result (λ line. string_bytes line ≡ unqueued_line cause) }
+{
+    match cause {
+        Cause::Exhausted(node) => {
+            let node = node_text(alloc, Some(node))?;
+            format!(in alloc; "nothing to queue: {node} has no leaf left\n")
+        }
+        Cause::NeverMade { client, time } => {
+            let client = client.0;
+            format!(in alloc; "nothing to queue: {client} made no request at time {time}\n")
+        }
+        Cause::NoMessage => String::from_str(alloc, "nothing to queue: the name has no message\n"),
+    }
 }
 
 /// What a replica does, with a number.

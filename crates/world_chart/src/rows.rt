@@ -5,7 +5,7 @@ use blame::Claim;
 use host_types::{ReplicaId, View};
 use script_text::Node;
 use std::alloc::{AllocError, Global};
-use trace_lines::{Happening, Saying, line_of, words_of};
+use trace_lines::{Cause, Happening, Saying, line_of, words_of};
 
 /// The most messages that are drawn one by one.
 const MAX_MESSAGES: usize = 100;
@@ -165,6 +165,9 @@ impl Rows<'_> {
             return String::from_str(self.alloc, "accepts");
         }
         let line = line_words(self.alloc, happening)?;
+        if let Happening::Unqueued(_) = happening {
+            return Ok(line);
+        }
         match line.as_str().split_once(' ') {
             Some((_, words)) => String::from_str(self.alloc, words),
             None => Ok(line),
@@ -183,7 +186,8 @@ impl Rows<'_> {
             | Happening::Halted { at, .. } => self.lanes.lane_of_replica(at),
             Happening::Accepted { client } => self.lanes.lane_of(Node::Client(client)),
             Happening::Handed { to, .. } | Happening::Lost { to, .. } => self.lanes.lane_of(to),
-            Happening::Blamed { .. } => 0,
+            Happening::Unqueued(Cause::Exhausted(node)) => self.lanes.lane_of(node),
+            Happening::Unqueued(_) | Happening::Blamed { .. } => 0,
         }
     }
 }

@@ -11,7 +11,8 @@ use Rattle.byz_world.specs.Worlds.{Answer, Delivers, Gives, Refuses, Where, Worl
 use Rattle.byz_world.specs.declared.event.Event.TheVariants as events
 use Rattle.world_script.specs.Parts.{Happened}
 use Rattle.world_script.specs.Stages as stages
-use Rattle.world_script.specs.Stages.{Occurs, Receives, StageFacts, Turn, is_running, letters_in, queued, refusal_of}
+use Rattle.world_script.specs.Facts.{StageFacts}
+use Rattle.world_script.specs.Stages.{Occurs, Receives, Turn, is_running, letters_in, queued, refusal_of}
 
 same_row : (x y : Option RowFacts) → ◌≡◌ {A = Answer} (Ok x) (Ok y) → x ≡ y
 same_row x y h = cc h

@@ -21,7 +21,8 @@ use Rattle.world_script.specs.Parts.{IsTaken, ahead}
 use Rattle.world_script.specs.Writing.{AppendsFront}
 use Rattle.world_script.specs.declared.fault.RunFault.TheVariants.{TooManyDeliveries, Write}
 use Rattle.world_script.proofs.Written.{both, front_then}
-use Rattle.world_script.specs.Stages.{Deliveries, Delivers, HandsTo, Receives, StageFacts, Turn, at_client, is_running, letters_in, max_deliveries}
+use Rattle.world_script.specs.Facts.{StageFacts}
+use Rattle.world_script.specs.Stages.{Deliveries, Delivers, HandsTo, Receives, Turn, at_client, is_running, letters_in, max_deliveries}
 
 abbrev turned : List LetterFacts → Turn → Turn
 turned os p = (p.0, ahead os p.1)

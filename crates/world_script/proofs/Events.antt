@@ -21,11 +21,13 @@ use Rattle.script_text.specs.declared.script.Script.{Script}
 use Rattle.script_text.specs.declared.script.Step.{Step}
 use Rattle.script_text.specs.declared.script.Step.TheVariants as steps
 use Rattle.world_script.specs.declared.forging.Forger.{Forger}
+use Rattle.world_script.specs.Edits.{edited}
 use Rattle.world_script.specs.Expecting.{Scene, behind, first_scene}
 use Rattle.world_script.specs.Keys.{configuration_of}
 use Rattle.world_script.specs.Passing.{DoesPart, DoesPartOfFirst, IsOnRun, Passes, correct_signers}
 use Rattle.world_script.specs.Scripts.{Plays}
-use Rattle.world_script.specs.Stages.{AllTimeOut, Deliveries, Delivers, HandsTo, Occurs, Prints, Receives, StageFacts, TimesOut, Turn, at_client, forged_body, forged_by, forged_for, is_running, message_of, payload_bytes, quiet, raw_by, requested_by, signing_forger, signing_session, with_named}
+use Rattle.world_script.specs.Facts.{StageFacts}
+use Rattle.world_script.specs.Stages.{AllTimeOut, Deliveries, Delivers, HandsTo, Occurs, Prints, Receives, TimesOut, Turn, at_client, forged_body, forged_by, forged_for, is_running, message_of, quiet, requested_by, signing_forger, signing_session, with_named, with_queue}
 use Rattle.world_script.specs.Letters.{LetterFacts, meant_count, passed_over}
 use Rattle.world_script.specs.Starts.{is_faulty, start_of}
 use Rattle.world_script.proofs.Hearing.{passed_hears}
@@ -100,19 +102,12 @@ forged_for_world : (s : StageFacts) (f : Forgery) (body : Option Body) → (forg
 forged_for_world s f None = refl
 forged_for_world s f (Some body) = forged_world s f body (signing_forger s.forgers f.from)
 
-raw_world : (s : StageFacts) (to : List Node) (bytes : Option (List ℕ)) → (raw_by s to bytes).1.world ≡ s.world
-raw_world s to None = refl
-raw_world s to (Some bytes) = refl
-
 prints_leads : (s : StageFacts) (step : Step) (text : List ℕ) (t : StageFacts) → Prints s step text t → Leads s.world t.world
 prints_leads s (steps.Request o) text t h = turned s t text (requested_by s o (signing_session s.sessions o.client)) (requested_world s o (signing_session s.sessions o.client)) h
 prints_leads s (steps.Deliver f order) text t h = deliveries_lead f order h.0 s text t h.2
-prints_leads s (steps.Drop f) text t h = turned s t text _ refl h
-prints_leads s (steps.Repeat f) text t h = turned s t text _ refl h
 prints_leads s (steps.Timeout at) text t h = all_time_leads s at t h.1
 prints_leads s (steps.Forge f) text t h = turned s t text (forged_for s f (forged_body s f.message)) (forged_for_world s f (forged_body s f.message)) h
-prints_leads s (steps.Mangle f damage) text t h = turned s t text _ refl h
-prints_leads s (steps.Raw to payload) text t h = turned s t text (raw_by s to (payload_bytes s.named payload)) (raw_world s to (payload_bytes s.named payload)) h
+prints_leads s (steps.Edit e) text t h = turned s t text (with_queue s (edited s e)) refl h
 prints_leads s other text t h = stays s.world t.world (ap (λ (x : StageFacts). x.world) h.1)
 
 named_world : (t : StageFacts) (name : Option (List ℕ)) (letter : Option LetterFacts) → t.world ≡ (with_named t name letter).world

@@ -37,12 +37,14 @@ use Rattle.script_text.specs.declared.script.Step.{Step}
 use Rattle.script_text.specs.declared.script.Step.TheVariants as steps
 use Rattle.script_text.specs.Heads.{HeadFacts}
 use Rattle.world_script.specs.declared.forging.Forger.{Forger}
+use Rattle.world_script.specs.Edits.{edited}
 use Rattle.world_script.specs.Expecting.{Scene, behind, first_scene}
 use Rattle.world_script.specs.Keys.{configuration_of}
 use Rattle.world_script.specs.Letters.{LetterFacts, meant_count, passed_over}
 use Rattle.world_script.specs.Passing.{DoesPart, DoesPartOfFirst, HasHeard, Passes}
 use Rattle.world_script.specs.Scripts.{Plays}
-use Rattle.world_script.specs.Stages.{AllTimeOut, Deliveries, Delivers, HandsTo, Occurs, Prints, Receives, StageFacts, TimesOut, Turn, after_asking, at_client, at_first, forged_body, forged_by, forged_for, is_of, is_running, message_of, payload_bytes, quiet, raw_by, requested_by, signing_forger, signing_session, with_named}
+use Rattle.world_script.specs.Facts.{StageFacts}
+use Rattle.world_script.specs.Stages.{AllTimeOut, Deliveries, Delivers, HandsTo, Occurs, Prints, Receives, TimesOut, Turn, after_asking, at_client, at_first, forged_body, forged_by, forged_for, is_of, is_running, message_of, quiet, requested_by, signing_forger, signing_session, with_named, with_queue}
 use Rattle.world_script.specs.Starts.{session_for, start_of}
 
 -- ---- an event keeps the configuration
@@ -216,19 +218,12 @@ forged_for_hears : (c : Configuration) (s : StageFacts) (f : Forgery) (body : Op
 forged_for_hears c s f None h = h
 forged_for_hears c s f (Some body) h = forged_hears c s f body (signing_forger s.forgers f.from) h
 
-raw_hears : (c : Configuration) (s : StageFacts) (to : List Node) (bytes : Option (List ℕ)) → Hears c s → Hears c (raw_by s to bytes).1
-raw_hears c s to None h = h
-raw_hears c s to (Some bytes) h = record { config = h.config; heard = h.heard }
-
 prints_hears : (c : Configuration) (s : StageFacts) (step : Step) (text : List ℕ) (t : StageFacts) → Prints s step text t → Hears c s → Hears c t
 prints_hears c s (steps.Request o) text t p h = turn_hears c t text (requested_by s o (signing_session s.sessions o.client)) (requested_hears c s o (signing_session s.sessions o.client) h) p
 prints_hears c s (steps.Deliver f order) text t p h = deliveries_hear c f order p.0 s text t p.2 h
-prints_hears c s (steps.Drop f) text t p h = turn_hears c t text _ (record { config = h.config; heard = h.heard }) p
-prints_hears c s (steps.Repeat f) text t p h = turn_hears c t text _ (record { config = h.config; heard = h.heard }) p
 prints_hears c s (steps.Timeout at) text t p h = all_time_hears c s at t p.1 h
 prints_hears c s (steps.Forge f) text t p h = turn_hears c t text (forged_for s f (forged_body s f.message)) (forged_for_hears c s f (forged_body s f.message) h) p
-prints_hears c s (steps.Mangle f damage) text t p h = turn_hears c t text _ (record { config = h.config; heard = h.heard }) p
-prints_hears c s (steps.Raw to payload) text t p h = turn_hears c t text (raw_by s to (payload_bytes s.named payload)) (raw_hears c s to (payload_bytes s.named payload) h) p
+prints_hears c s (steps.Edit e) text t p h = turn_hears c t text (with_queue s (edited s e)) (record { config = h.config; heard = h.heard }) p
 prints_hears c s other text t p h = subst (Hears c) (sym p.1) h
 
 named_hears : (c : Configuration) (t : StageFacts) (name : Option (List ℕ)) (letter : Option LetterFacts) → Hears c t → Hears c (with_named t name letter)

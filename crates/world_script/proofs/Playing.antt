@@ -19,7 +19,8 @@ use Rattle.world_script.specs.Running.{Compares, Fails, RunsSteps, StepEnds}
 use Rattle.world_script.specs.Scripts.{BreaksOff, Plays}
 use Rattle.world_script.specs.Parts.{Performs}
 use Rattle.world_script.specs.Letters.{LetterFacts}
-use Rattle.world_script.specs.Stages.{Begins, Overruns, Prints, StageFacts, Upgrades, after_naming, with_named}
+use Rattle.world_script.specs.Facts.{StageFacts}
+use Rattle.world_script.specs.Stages.{Begins, Overruns, Prints, after_naming, with_named}
 use Rattle.world_script.specs.Writing.{AppendsFront}
 use Rattle.world_script.specs.declared.fault.RunFault.{RunFault}
 use Rattle.world_script.specs.declared.fault.RunFault.TheVariants.{TooManyDeliveries, Write, Memory}
@@ -165,11 +166,6 @@ module _ (number : ℕ) (s : Scene) (x : NamedStep) (old new : Option (List ℕ)
   -- It is done, but memory runs out for its text or its message.
   pub step_unnoted : (text : List ℕ) (u : StageFacts) → Prints s.stage x.step text u → Appends old new text → StepEnds number s x old new (Err Memory) t
   step_unnoted text u p a = (text, begun s.stage x.step text u p, a)
-
--- the canonical encoding of a state is printed, or that there is none
-pub upgraded : (s t : StageFacts) (step : Step) (bytes given text : List ℕ) → step ≡ steps.Upgrade bytes → given ≡ bytes → t ≡ s → Upgrades s.world.config given text → Performs s step text t
-upgraded s t step bytes given text is same stays u =
-    subst (λ (x : Step). Performs s x text t) (sym is) (subst (λ (xs : List ℕ). Upgrades s.world.config xs text) same u, stays)
 
 -- ---- a step that delivers nothing
 

@@ -1,8 +1,12 @@
--- The lines of the first replicas.
-use Rattle.std.proofs.Common.{◌≡◌, ℕ, ◌+◌, List, [], ◌∷◌, ◌++◌, map, sym, ap, ◌∙◌, arith}
+-- What is printed: the lines of the first replicas, and an `upgrade`.
+use Rattle.std.proofs.Common.{◌≡◌, ℕ, ◌+◌, List, [], ◌∷◌, ◌++◌, map, sym, ap, subst, ◌∙◌, arith}
 use Rattle.std.specs.List.{flat_map, range_with_len}
 use Rattle.std.proofs.lemmas.List.{flat_map_more, map-append}
 use Rattle.host_types.specs.declared.ReplicaId.{ReplicaId}
+use Rattle.script_text.specs.declared.script.Printout.{Printout}
+use Rattle.script_text.specs.declared.script.Printout.TheVariants as printouts
+use Rattle.world_script.specs.Facts.{StageFacts}
+use Rattle.world_script.specs.Printing.{Shows, Upgrades}
 use Rattle.world_script.proofs.Lists.{range_push}
 
 abbrev id_of : ℕ → ReplicaId
@@ -24,3 +28,8 @@ module _ (line : ReplicaId → List ℕ) where
 
   pub more_text : (n : ℕ) → text_of n ++ line (id_of n) ≡ text_of (n + 1)
   more_text n = flat_map_more line [] (first_ids n) (id_of n) ∙ ap (flat_map line) (sym (push n))
+
+-- the canonical encoding of a state is printed, or that there is none
+pub upgraded : (s : StageFacts) (p : Printout) (bytes given text : List ℕ) → p ≡ printouts.Upgrade bytes → given ≡ bytes → Upgrades s.world.config given text → Shows s p text
+upgraded s p bytes given text is same u =
+    subst (λ (x : Printout). Shows s x text) (sym is) (subst (λ (xs : List ℕ). Upgrades s.world.config xs text) same u)

@@ -1,7 +1,8 @@
 -- Timeouts, one after another.
 use Rattle.std.proofs.Common.{List, [], ◌∷◌, ◌++◌, refl, subst}
 use Rattle.host_types.specs.declared.ReplicaId.{ReplicaId}
-use Rattle.world_script.specs.Stages.{AllTimeOut, StageFacts, TimesOut}
+use Rattle.world_script.specs.Facts.{StageFacts}
+use Rattle.world_script.specs.Stages.{AllTimeOut, TimesOut}
 
 pub timed_more : (ids : List ReplicaId) (id : ReplicaId) (s u t : StageFacts) → AllTimeOut s ids u → TimesOut u id t → AllTimeOut s (ids ++ id ∷ []) t
 timed_more [] id s u t are one = (t, subst (λ (v : StageFacts). TimesOut v id t) are one, refl)

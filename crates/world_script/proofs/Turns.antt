@@ -15,7 +15,8 @@ use Rattle.world_script.specs.declared.forging.Forger.{Forger}
 use Rattle.world_script.specs.Letters.{LetterFacts, copies}
 use Rattle.world_script.specs.Lines.{nothing_queued_line}
 use Rattle.world_script.specs.Parts.{Forges, ForgesBy, Requests, RequestsBy, with_message}
-use Rattle.world_script.specs.Stages.{StageFacts, Turn, forged_body, forged_by, forged_for, forged_message, forges, requested, requested_by, signing_forger, signing_session}
+use Rattle.world_script.specs.Facts.{StageFacts}
+use Rattle.world_script.specs.Stages.{Turn, forged_body, forged_by, forged_for, forged_message, forges, requested, requested_by, signing_forger, signing_session}
 
 some_none : {X : Type 0} {x : X} → Some x ≡ None → ⊥
 some_none h = cc h

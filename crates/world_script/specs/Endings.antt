@@ -6,7 +6,8 @@ use Rattle.std.specs.declared.alloc.Global.{Global}
 use Rattle.script_text.specs.declared.script.Step.{Step}
 use Rattle.world_script.specs.declared.fault.RunFault.{RunFault}
 use Rattle.world_script.specs.declared.fault.RunFault.TheVariants.{TooManyDeliveries, Write, Memory}
-use Rattle.world_script.specs.Stages.{Begins, Overruns, Prints, StageFacts}
+use Rattle.world_script.specs.Facts.{StageFacts}
+use Rattle.world_script.specs.Stages.{Begins, Overruns, Prints}
 use Rattle.world_script.specs.Writing.{AppendsFront}
 
 -- A step is done, and its text is given; or it ends early: with whole lines of it where memory ran out, with the first bytes of such where a

@@ -4,7 +4,8 @@ use Rattle.script_text.specs.declared.script.NamedStep.{NamedStep}
 use Rattle.script_text.specs.declared.script.Step.{Step}
 use Rattle.script_text.specs.declared.script.Step.TheVariants as steps
 use Rattle.world_script.specs.Lines.{unexpected_line}
-use Rattle.world_script.specs.Stages.{Begins, StageFacts, after_naming}
+use Rattle.world_script.specs.Facts.{StageFacts}
+use Rattle.world_script.specs.Stages.{Begins, after_naming}
 use Rattle.world_script.specs.Starts.{start_of}
 use Rattle.script_text.specs.Heads.{HeadFacts}
 

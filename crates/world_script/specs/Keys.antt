@@ -88,3 +88,12 @@ configuration_of h = record {
   keys = map key_of (replica_signers h);
   clients = map (entry_of h) h.clients;
 }
+
+-- What a contract sees of the sources of a head's keys: the signers that they give.
+pub record KeyFacts : Type 0 where
+  pub replicas : List SigningState
+  pub clients : List SigningState
+
+-- The signers of a head, as they are before the first step.
+abbrev pub keys_of : HeadFacts → KeyFacts
+keys_of h = record { replicas = replica_signers h; clients = map (client_signer h) h.clients }

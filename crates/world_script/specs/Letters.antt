@@ -1,13 +1,11 @@
 -- Statement: messages on their way, and which of them a step means.
 use Rattle.std.proofs.Common.{zero, suc}
-use Rattle.std.specs.Prelude.{ℕ, ◌+◌, ◌*◌, ◌/◌, ◌%◌, ◌-◌, ◌==◌, nat_le, nat_lt, Bool, true, false, ◌&&◌, List, [], ◌∷◌, length, map, filter, find, take, slice_index, slice_set, bit_xor, Option, Some, None, if◌then◌else◌}
+use Rattle.std.specs.Prelude.{ℕ, ◌+◌, ◌*◌, ◌/◌, ◌%◌, ◌==◌, Bool, true, false, ◌&&◌, List, [], ◌∷◌, length, map, filter, find, Option, Some, None, if◌then◌else◌}
 use Rattle.std.specs.List.{list_any}
 use Rattle.pbft_codec.specs.declared.body.Body.{Body}
 use Rattle.pbft_codec.specs.declared.signed.Signed.{Signed}
 use Rattle.pbft_codec.specs.Encoding.{encoding}
 use Rattle.script_text.specs.declared.kind.Kind.{Kind}
-use Rattle.script_text.specs.declared.script.Damage.{Damage}
-use Rattle.script_text.specs.declared.script.Damage.TheVariants.{Cut, Flip}
 use Rattle.script_text.specs.declared.script.Filter.{Filter}
 use Rattle.script_text.specs.declared.script.Node.{Node}
 use Rattle.script_text.specs.declared.script.Node.TheVariants.{Replica, Client}
@@ -30,33 +28,6 @@ addressed l to = record l { to = to }
 -- a letter once for each of these nodes
 abbrev pub copies : LetterFacts → List Node → List LetterFacts
 copies l nodes = map (addressed l) nodes
-
--- ---- changed copies
-
--- without the last n bytes; as they are where there are fewer
-abbrev pub cut : ℕ → List ℕ → List ℕ
-cut n bytes = if nat_le n (length bytes) then take (length bytes - n) bytes else bytes
-
--- with the lowest bit of the byte at an index flipped
-abbrev pub with_flipped : ℕ → List ℕ → List ℕ
-with_flipped index bytes = slice_set bytes index (bit_xor (slice_index bytes index) 1)
-
--- the byte n places before the last one; none where there are no more than n
-abbrev pub flipped : ℕ → List ℕ → List ℕ
-flipped n bytes = if nat_lt n (length bytes) then with_flipped (length bytes - 1 - n) bytes else bytes
-
-abbrev pub damaged : Damage → List ℕ → List ℕ
-damaged (Cut n) bytes = cut n bytes
-damaged (Flip n) bytes = flipped n bytes
-
--- as they are where no change is named
-abbrev pub changed : Option Damage → List ℕ → List ℕ
-changed None bytes = bytes
-changed (Some damage) bytes = damaged damage bytes
-
--- a letter of the same sender, addressee and kind with changed bytes
-abbrev pub mangled : Damage → LetterFacts → LetterFacts
-mangled damage l = record l { bytes = damaged damage l.bytes }
 
 -- ---- which letters are meant
 

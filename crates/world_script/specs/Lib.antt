@@ -1,11 +1,14 @@
+pub mod Edits
 pub mod Endings
 pub mod Expecting
+pub mod Facts
 pub mod Faults
 pub mod Keys
 pub mod Letters
 pub mod Lines
 pub mod Parts
 pub mod Passing
+pub mod Printing
 pub mod Running
 pub mod Scripts
 pub mod Stages

@@ -24,7 +24,8 @@ use Rattle.world_script.specs.declared.forging.Forger.{Forger}
 use Rattle.replica_core.specs.Facts.{RowFacts}
 use Rattle.byz_world.specs.Worlds.{Gives, WorldFacts, member_of}
 use Rattle.byz_world.specs.declared.event.Event.{Event}
-use Rattle.world_script.specs.Stages.{Delivers, Prints, StageFacts, halt_in, lacked_memory, letters_in, queued, receivers, after_asking, after_forging, after_offer, at_first, forged_message, is_forger, is_of, signing_forger, signing_session, text_at}
+use Rattle.world_script.specs.Facts.{StageFacts}
+use Rattle.world_script.specs.Stages.{Delivers, Prints, halt_in, lacked_memory, letters_in, queued, receivers, after_asking, after_forging, after_offer, at_first, forged_message, is_forger, is_of, signing_forger, signing_session, text_at}
 
 -- A request is the session's next one.
 pub record IsRequestOf (session : SessionState) (op : List ℕ) (made : Option CheckedMessage) : Type 0 where

@@ -20,7 +20,8 @@ use Rattle.script_text.specs.declared.script.Step.TheVariants as steps
 use Rattle.world_script.specs.Expecting.{Scene, first_scene}
 use Rattle.world_script.specs.Keys.{configuration_of, correct_from, replica_signers}
 use Rattle.world_script.specs.Scripts.{Plays}
-use Rattle.world_script.specs.Stages.{AllTimeOut, Deliveries, StageFacts}
+use Rattle.world_script.specs.Facts.{StageFacts}
+use Rattle.world_script.specs.Stages.{AllTimeOut, Deliveries}
 use Rattle.world_script.specs.Starts.{is_faulty}
 
 -- A part of a step: some of its deliveries, or of its timeouts.

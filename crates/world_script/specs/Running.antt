@@ -10,7 +10,8 @@ use Rattle.script_text.specs.declared.script.NamedStep.{NamedStep}
 use Rattle.world_script.specs.Expecting.{Holds, IsUnexpected, MayPrint, Scene, behind, differing_line, first_scene}
 use Rattle.world_script.specs.Lines.{unexpected_line}
 use Rattle.world_script.specs.Scripts.{BreaksOff, IsPlayed, fault_line, Plays, WritesBefore}
-use Rattle.world_script.specs.Stages.{Begins, Overruns, Prints, StageFacts}
+use Rattle.world_script.specs.Facts.{StageFacts}
+use Rattle.world_script.specs.Stages.{Begins, Overruns, Prints}
 use Rattle.world_script.specs.declared.fault.RunFault.{RunFault}
 use Rattle.world_script.specs.declared.fault.RunFault.TheVariants.{TooManyDeliveries, Write, Memory}
 use Rattle.world_script.specs.declared.played.Played.{Played}

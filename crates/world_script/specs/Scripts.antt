@@ -10,7 +10,8 @@ use Rattle.script_text.specs.declared.script.Script.{Script}
 use Rattle.script_text.specs.declared.script.NamedStep.{NamedStep}
 use Rattle.script_text.specs.declared.script.Step.{Step}
 use Rattle.world_script.specs.Expecting.{Holds, IsUnexpected, MayPrint, Scene, behind, first_scene}
-use Rattle.world_script.specs.Stages.{Begins, Overruns, Prints, StageFacts}
+use Rattle.world_script.specs.Facts.{StageFacts}
+use Rattle.world_script.specs.Stages.{Begins, Overruns, Prints}
 use Rattle.world_script.specs.declared.played.Played.{Played}
 use Rattle.world_script.specs.declared.played.Played.TheVariants.{Whole, Unexpected}
 use Rattle.world_script.specs.Writing.{AppendsFront}

@@ -1,9 +1,8 @@
--- Statement: what a running script holds, and what each of its steps prints and makes of that.
+-- Statement: what each step of a script prints, and what it makes of a stage.
 use Rattle.std.proofs.Common.{zero, suc}
-use Rattle.std.specs.Prelude.{◌≡◌, ◌≢◌, ℕ, ◌+◌, ◌≤◌, ◌==◌, Bool, true, false, not, ◌&&◌, List, [], ◌∷◌, ◌++◌, map, filter, find, flat_map, Option, Some, None, is_some, Result, Ok, Err, ◌⊎◌, bytes_eq, slice_get, if◌then◌else◌}
-use Rattle.std.specs.List.{range_with_len}
+use Rattle.std.specs.Prelude.{◌≡◌, ◌≢◌, ℕ, ◌+◌, ◌≤◌, ◌==◌, Bool, true, false, not, ◌&&◌, List, [], ◌∷◌, ◌++◌, map, filter, find, flat_map, Option, Some, None, is_some, Result, Ok, Err, ◌⊎◌, slice_get, if◌then◌else◌}
 use Rattle.std.specs.Option.{option_map}
-use Rattle.host_types.specs.Configuration.{Configuration, replicas_for}
+use Rattle.host_types.specs.Configuration.{Configuration}
 use Rattle.host_types.specs.declared.ClientId.{ClientId}
 use Rattle.host_types.specs.declared.ReplicaId.{ReplicaId}
 use Rattle.host_types.specs.declared.View.{View}
@@ -21,54 +20,35 @@ use Rattle.seal.specs.declared.fault.SealFault.{SealFault}
 use Rattle.seal.specs.declared.vote.VoteKind.{VoteKind}
 use Rattle.seal.specs.declared.vote.VoteKind.TheVariants as votes
 use Rattle.sha2.specs.Sha256.{sha256}
-use Rattle.service_model.specs.Decoding.{Decodes}
-use Rattle.service_model.specs.TenantStates.{Service}
-use Rattle.pbft_model.specs.Core.{Core}
 use Rattle.replica_core.specs.Facts.{RowFacts}
 use Rattle.replica_core.specs.declared.halt.Halt.{Halt}
 use Rattle.replica_core.specs.declared.halt.Halt.TheVariants as halts
 use Rattle.replica_core.specs.declared.row.Dest.{Dest}
 use Rattle.replica_core.specs.declared.row.Dest.TheVariants as dests
 use Rattle.replica_core.specs.declared.row.Output.{Output}
-use Rattle.byz_world.specs.Audits.{IsAudit}
-use Rattle.byz_world.specs.declared.audit_fault.AuditFault.{AuditFault}
-use Rattle.byz_world.specs.declared.history.Execution.{Execution}
 use Rattle.byz_world.specs.Worlds.{Gives, MemberFacts, Where, WorldFacts, member_of}
 use Rattle.byz_world.specs.declared.event.Event.{Event}
 use Rattle.byz_world.specs.declared.event.Event.TheVariants as events
 use Rattle.client_session.specs.Sessions.{SessionState, accepted_by, asked, next_request, offered}
 use Rattle.script_text.specs.declared.script.Filter.{Filter}
-use Rattle.script_text.specs.declared.script.Damage.{Damage}
 use Rattle.script_text.specs.declared.script.ForgedMessage.{ForgedMessage}
 use Rattle.script_text.specs.declared.script.ForgedMessage.TheVariants as forged
 use Rattle.script_text.specs.declared.script.ForgedVote.{ForgedVote}
 use Rattle.script_text.specs.declared.script.Forgery.{Forgery}
 use Rattle.script_text.specs.declared.script.NamedStep.{NamedStep}
 use Rattle.script_text.specs.declared.script.Order.{Order}
-use Rattle.script_text.specs.declared.script.Payload.{Payload}
-use Rattle.script_text.specs.declared.script.Payload.TheVariants.{Bytes, Message}
 use Rattle.script_text.specs.declared.script.Node.{Node}
 use Rattle.script_text.specs.declared.script.Node.TheVariants.{Replica, Client}
+use Rattle.script_text.specs.declared.script.Printout.TheVariants as printouts
 use Rattle.script_text.specs.declared.script.Step.{Step}
 use Rattle.script_text.specs.declared.script.Step.TheVariants as steps
 use Rattle.world_script.specs.declared.forging.Forger.{Forger}
 use Rattle.world_script.specs.declared.made.Made.{Made}
-use Rattle.world_script.specs.declared.named.Named.{Named}
-use Rattle.world_script.specs.Letters.{LetterFacts, changed, copies, first_meant, is_meant, letter_of, mangled, meant_count, passed_over, same_node}
-use Rattle.world_script.specs.Lines.{IsAuditLine, digest_line, letter_line, no_state_line, nothing_queued_line, refusal_line, reply_line, state_line, status_line, upgraded_line}
-
--- What a running script holds.
-pub record StageFacts : Type 0 where
-  pub world : WorldFacts
-  -- the signers of the faulty replicas
-  pub forgers : List Forger
-  pub sessions : List SessionState
-  -- the requests that were made
-  pub made : List Made
-  -- the messages that steps gave names to
-  pub named : List Named
-  -- the messages on their way, the next one first
-  pub queue : List LetterFacts
+use Rattle.world_script.specs.Edits.{Edited, edited}
+use Rattle.world_script.specs.Facts.{StageFacts}
+use Rattle.world_script.specs.Letters.{LetterFacts, copies, first_meant, is_meant, letter_of, meant_count, passed_over, same_node}
+use Rattle.world_script.specs.Lines.{nothing_queued_line, refusal_line, reply_line}
+use Rattle.world_script.specs.Printing.{Shows, ids_of}
 
 abbrev pub queued : StageFacts → List LetterFacts → StageFacts
 queued s letters = record s { queue = s.queue ++ letters }
@@ -87,10 +67,6 @@ nothing_queued s = (nothing_queued_line, s)
 abbrev pub at_first : {A : Type 0} → (A → Bool) → (A → A) → List A → List A
 at_first is change [] = []
 at_first is change (x ∷ xs) = if is x then change x ∷ xs else x ∷ at_first is change xs
-
--- the ids of the replicas, ascending
-abbrev pub ids_of : Configuration → List ReplicaId
-ids_of c = map (λ (id : ℕ). record { 0 = id }) (range_with_len 0 (replicas_for c.f))
 
 abbrev pub all_replicas : Configuration → List Node
 all_replicas c = map Replica (ids_of c)
@@ -311,114 +287,28 @@ Deliveries f order (suc n) s text t =
 abbrev pub max_deliveries : ℕ
 max_deliveries = 1_000_000
 
--- ---- what `show` prints
-
-abbrev pub status_of : ReplicaId → Option MemberFacts → List ℕ
-status_of id None = []
-status_of id (Some m) = status_line id m.replica.status
-
-abbrev pub status_printed : WorldFacts → ReplicaId → List ℕ
-status_printed w id = status_of id (member_of w id.0)
-
--- the service of a correct replica that has not halted
-abbrev pub service_in : Option MemberFacts → Option Service
-service_in None = None
-service_in (Some m) = option_map (λ (c : Core). c.service) m.replica.core
-
-abbrev pub digest_of : ReplicaId → Option Service → List ℕ
-digest_of id None = []
-digest_of id (Some service) = digest_line id service
-
-abbrev pub digest_printed : WorldFacts → ReplicaId → List ℕ
-digest_printed w id = digest_of id (service_in (member_of w id.0))
-
-abbrev pub state_of : ReplicaId → Option Service → List ℕ
-state_of id None = []
-state_of id (Some service) = state_line id service
-
-abbrev pub state_printed : WorldFacts → ReplicaId → List ℕ
-state_printed w id = state_of id (service_in (member_of w id.0))
-
--- ---- what `upgrade` prints
-
--- The bytes encode a state in one of the versions, and its canonical encoding is printed; or they encode none.
-abbrev pub Upgrades : Configuration → List ℕ → List ℕ → Type 0
-Upgrades c bytes text =
-    ((state : Service) × Decodes c bytes state × (text ≡ upgraded_line state))
-    ⊎ (((state : Service) → Decodes c bytes state → ⊥) × (text ≡ no_state_line))
-
--- ---- what `audit` prints
-
--- the rows of the correct replicas so far
-abbrev pub records_of : WorldFacts → List (List RowFacts)
-records_of w = map (λ (m : MemberFacts). m.rows) w.members
-
--- What an audit of them answers is printed.
-abbrev pub Audits : WorldFacts → List ℕ → Type 0
-Audits w text = (answer : Result (List Execution) AuditFault) × IsAudit (records_of w) answer × IsAuditLine answer text
-
 -- ---- steps
 
--- The letters that are meant are removed, or queued once more.
-abbrev pub dropped : StageFacts → Filter → StageFacts
-dropped s f = record s { queue = filter (λ (l : LetterFacts). not (is_meant f l)) s.queue }
-
-abbrev pub repeated : StageFacts → Filter → StageFacts
-repeated s f = queued s (filter (is_meant f) s.queue)
-
--- A changed copy of each letter that is meant is queued.
-abbrev pub mangled_by : StageFacts → Filter → Damage → StageFacts
-mangled_by s f damage = queued s (map (mangled damage) (filter (is_meant f) s.queue))
-
-abbrev pub raw_letter : List ℕ → LetterFacts
-raw_letter bytes = record { to = Replica (record { 0 = 0 }); from = None; kind = None; bytes = bytes }
-
--- the message of a name: none where the step that gives the name had none
-abbrev pub message_named : List Named → List ℕ → Option LetterFacts
-message_named messages name = option_map (λ (n : Named). n.letter) (find (λ (n : Named). bytes_eq n.name name) messages)
-
--- the bytes of a step, or those of a message with their change
-abbrev pub payload_bytes : List Named → Payload → Option (List ℕ)
-payload_bytes messages (Bytes bytes) = Some bytes
-payload_bytes messages (Message name change) = option_map (λ (l : LetterFacts). changed change l.bytes) (message_named messages name)
-
-abbrev pub raw_by : StageFacts → List Node → Option (List ℕ) → Turn
-raw_by s to None = nothing_queued s
-raw_by s to (Some bytes) = quiet (queued s (copies (raw_letter bytes) to))
-
--- Bytes are queued; a message that there isn't is not.
-abbrev pub raws : StageFacts → List Node → Payload → Turn
-raws s to payload = raw_by s to (payload_bytes s.named payload)
-
--- What a step prints that changes nothing.
-abbrev pub Shows : StageFacts → Step → List ℕ → Type 0
-Shows s (steps.Queue f) text = text ≡ flat_map letter_line (filter (is_meant f) s.queue)
-Shows s steps.Show text = text ≡ flat_map (status_printed s.world) (ids_of s.world.config)
-Shows s steps.Digest text = text ≡ flat_map (digest_printed s.world) (ids_of s.world.config)
-Shows s (steps.State id) text = text ≡ state_printed s.world id
-Shows s (steps.Upgrade bytes) text = Upgrades s.world.config bytes text
-Shows s (steps.Expect expected) text = text ≡ []
-Shows s steps.Audit text = Audits s.world text
-Shows s other text = ⊥
+-- what an edit prints, and the same stage but for its queue
+abbrev pub with_queue : StageFacts → Edited → Turn
+with_queue s e = (e.0, record s { queue = e.1 })
 
 -- What a step prints, and what is held after it.
 abbrev pub Prints : StageFacts → Step → List ℕ → StageFacts → Type 0
 Prints s (steps.Request o) text t = (text, t) ≡ requested s o
 Prints s (steps.Deliver f order) text t = (n : ℕ) × (n ≤ max_deliveries) × Deliveries f order n s text t × (first_meant f t.queue ≡ None)
-Prints s (steps.Drop f) text t = (text, t) ≡ quiet (dropped s f)
-Prints s (steps.Repeat f) text t = (text, t) ≡ quiet (repeated s f)
 Prints s (steps.Timeout at) text t = (text ≡ []) × AllTimeOut s at t
 Prints s (steps.Forge f) text t = (text, t) ≡ forges s f
-Prints s (steps.Mangle f damage) text t = (text, t) ≡ quiet (mangled_by s f damage)
-Prints s (steps.Raw to payload) text t = (text, t) ≡ raws s to payload
-Prints s other text t = Shows s other text × (t ≡ s)
+Prints s (steps.Edit e) text t = (text, t) ≡ with_queue s (edited s e)
+Prints s (steps.Print p) text t = Shows s p text × (t ≡ s)
+Prints s (steps.Expect expected) text t = (text ≡ []) × (t ≡ s)
 
 -- ---- names
 
 -- The message that a step names before which so many letters were queued: the first that `queue` lists, or the first that
 -- the step queued.
 abbrev pub message_of : ℕ → Step → StageFacts → Option LetterFacts
-message_of before (steps.Queue f) t = first_meant f t.queue
+message_of before (steps.Print (printouts.Queue f)) t = first_meant f t.queue
 message_of before other t = slice_get t.queue before
 
 abbrev pub with_named : StageFacts → Option (List ℕ) → Option LetterFacts → StageFacts

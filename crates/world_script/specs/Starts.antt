@@ -10,7 +10,7 @@ use Rattle.script_text.specs.Heads.{HeadFacts}
 use Rattle.script_text.specs.declared.script.Client.{Client}
 use Rattle.world_script.specs.declared.forging.Forger.{Forger}
 use Rattle.world_script.specs.Keys.{client_signer, configuration_of, correct_from, replica_signers}
-use Rattle.world_script.specs.Stages.{StageFacts}
+use Rattle.world_script.specs.Facts.{StageFacts}
 
 -- the numbers of the faulty replicas
 abbrev pub numbers_of : List ReplicaId → set.FinSet nat_cmp

@@ -4,7 +4,7 @@ ghost use Rattle.std.specs.Prelude.{◌≡◌, ℕ, List, Ok};
 ghost use Rattle.script_text.specs.Scripts.{script_of};
 ghost use Rattle.script_text.specs.declared.script.Script.{Script};
 ghost use Rattle.world_script.specs.Passing.{IsOnRun, Passes};
-ghost use Rattle.world_script.specs.Stages.{StageFacts};
+ghost use Rattle.world_script.specs.Facts.{StageFacts};
 
 /// Each stage that a script passes, during its steps and behind them, has a world that its events led to:
 /// so the correct replicas agree there, unless somebody forged, and what `show`, `digest` and `state`

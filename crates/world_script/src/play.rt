@@ -11,6 +11,7 @@ use crate::expecting::{differing_line, line_of_unexpected};
 use crate::fault::RunFault;
 use crate::input::read_input;
 use crate::played::Played;
+use crate::progress::{Progress, Unwatched};
 use crate::stage::Stage;
 use crate::writing::{write_fault, write_text};
 use script_text::{NamedStep, Script, ScriptFault, ScriptKind, Step, read_script};
@@ -28,17 +29,30 @@ pub fn run_script<I: Read, O: Write>(
 ) -> Result<Played, ScriptFault>
     ensures { WritesWhatIsRead (I.remaining reader.old) (O.contents writer.old) (O.contents writer.new) result }
 {
-    match play(alloc, reader, writer) {
+    run_script_watched(alloc, reader, writer, &mut Unwatched)
+}
+
+/// Does the same, and tells how far the script is.
+pub fn run_script_watched<I: Read, O: Write, P: Progress>(
+    alloc: Global,
+    reader: &mut I,
+    writer: &mut O,
+    progress: &mut P,
+) -> Result<Played, ScriptFault>
+    ensures { WritesWhatIsRead (I.remaining reader.old) (O.contents writer.old) (O.contents writer.new) result }
+{
+    match play(alloc, reader, writer, progress) {
         Ok(played) => Ok(played),
         Err(fault) => Err(report(fault, writer)),
     }
 }
 
 /// Reads a script and runs its steps.
-fn play<I: Read, O: Write>(
+fn play<I: Read, O: Write, P: Progress>(
     alloc: Global,
     reader: &mut I,
     writer: &mut O,
+    progress: &mut P,
 ) -> Result<Played, ScriptFault>
     ensures { PlaysWhatIsRead (I.remaining reader.old) (O.contents writer.old) (O.contents writer.new) result }
 {
@@ -47,20 +61,21 @@ fn play<I: Read, O: Write>(
         Err(kind) => return Err(ScriptFault::at_head(kind)),
     };
     match read_script(alloc, &bytes) {
-        Ok(script) => run_steps(alloc, &script, writer),
+        Ok(script) => run_steps(alloc, &script, writer, progress),
         Err(fault) => Err(fault),
     }
 }
 
 /// Runs the steps of a script, one after another.
-fn run_steps<O: Write>(
+fn run_steps<O: Write, P: Progress>(
     alloc: Global,
     script: &Script,
     writer: &mut O,
+    progress: &mut P,
 ) -> Result<Played, ScriptFault>
     ensures { RunsSteps script.now (O.contents writer.old) (O.contents writer.new) result }
 {
-    let mut stage = match Stage::new(alloc, &script.head) {
+    let mut stage = match Stage::watched(alloc, &script.head, progress) {
         Ok(stage) => stage,
         Err(_) => return Err(ScriptFault::at_head(ScriptKind::Memory)),
     };
@@ -68,6 +83,7 @@ fn run_steps<O: Write>(
     let mut number: u32 = 0;
     for step in script.steps.as_slice() {
         number = number.saturating_add(1);
+        progress.step(number, script.steps.as_slice().len());
         match run_step(alloc, &mut stage, &mut unread, number, step, writer) {
             Ok(Played::Whole) => {}
             Ok(Played::Unexpected) => return Ok(Played::Unexpected),

@@ -1,17 +1,16 @@
 //! Messages on their way.
 
-ghost use Rattle.std.specs.Prelude.{◌≡◌, ◌<◌, ◌++◌, ◌∷◌, [], Some, None, IfNone, IsSomeAnd, IfOk, OnOk, MatchOption, filter as kept, flat_map, length, map, not, slice_get, string_bytes};
+ghost use Rattle.std.specs.Prelude.{◌≡◌, ◌<◌, ◌++◌, ◌∷◌, [], Some, None, IfNone, IsSomeAnd, IfOk, OnOk, MatchOption, length, slice_get};
 ghost use Rattle.std.specs.List.{list_any};
 ghost use Rattle.script_text.specs.declared.kind.Kind.{Kind};
 ghost use Rattle.script_text.specs.declared.script.Node.{Node};
 ghost use Rattle.world_script.specs.Stages.{all_but};
-ghost use Rattle.world_script.specs.Letters.{LetterFacts, addressed, changed, copies, cut, damaged, first_meant, flipped, is_among, is_meant, mangled, meant_count, same_kind, same_node, without_first};
-ghost use Rattle.world_script.specs.Lines.{kind_or_dash, letter_line, node_text};
+ghost use Rattle.world_script.specs.Letters.{LetterFacts, addressed, copies, first_meant, is_among, is_meant, meant_count, same_kind, same_node, without_first};
 ghost use Rattle.world_script.specs.Parts.{IsPlace, IsTaken};
 
 use host_types::Bytes;
 use pbft_codec::Sequence;
-use script_text::{Damage, Filter, Kind, Node};
+use script_text::{Filter, Kind, Node};
 use std::alloc::{AllocError, Global};
 use std::collections::VecDeque;
 use std::marker::Model;
@@ -20,10 +19,10 @@ use std::sync::Arc;
 /// A message on its way: bytes, with what the script knows of them. Raw bytes have no sender or kind.
 #[derive(Drop)]
 pub struct Letter {
-    to: Node,
-    from: Option<Node>,
-    kind: Option<Kind>,
-    bytes: Arc<Bytes>,
+    pub(crate) to: Node,
+    pub(crate) from: Option<Node>,
+    pub(crate) kind: Option<Kind>,
+    pub(crate) bytes: Arc<Bytes>,
 }
 
 impl Model for Letter {
@@ -84,7 +83,7 @@ impl Letter {
     }
 
     /// The same letter for this addressee; its bytes are not copied.
-    fn copy_to(&self, to: Node) -> Result<Letter, AllocError>
+    pub(crate) fn copy_to(&self, to: Node) -> Result<Letter, AllocError>
         ensures { IfOk result (λ l. l ≡ addressed self.now to) }
     {
         Ok(Letter {
@@ -95,114 +94,13 @@ impl Letter {
         })
     }
 
-    /// The same letter with changed bytes.
-    fn mangled(&self, alloc: Global, damage: Damage) -> Result<Letter, AllocError>
-        ensures { IfOk result (λ l. l ≡ mangled damage self.now) }
-    {
-        let bytes = damaged(alloc, self.bytes(), damage)?;
-        Ok(Letter {
-            to: self.to,
-            from: self.from,
-            kind: self.kind,
-            bytes: Arc::new(alloc, Bytes::from_vec(bytes))?,
-        })
-    }
-
-    /// Its line: the sender, the addressee, the kind and the bytes.
-    fn line(&self, alloc: Global) -> Result<String, AllocError>
-        ensures { IfOk result (λ line. string_bytes line ≡ letter_line self.now) }
-    {
-        let from = node_text(alloc, self.from)?;
-        let to = node_text(alloc, Some(self.to))?;
-        let kind = kind_or_dash(self.kind);
-        let bytes = hex::encode(alloc, self.bytes())?;
-        format!(in alloc; "queue {from} {to} {kind} {bytes}\n")
-    }
-
     /// Whether a filter means it.
-    fn is_meant_by(&self, filter: &Filter) -> bool
+    pub(crate) fn is_meant_by(&self, filter: &Filter) -> bool
         ensures { result ≡ is_meant filter.now self.now }
     {
         names_node(&filter.to, Some(self.to))
             && names_node(&filter.from, self.from)
             && names_kind(&filter.kinds, self.kind)
-    }
-}
-
-/// A node's id, or a dash where there is none.
-fn node_text(alloc: Global, node: Option<Node>) -> Result<String, AllocError>
-    ensures { IfOk result (λ text. string_bytes text ≡ node_text node) }
-{
-    match node {
-        Some(Node::Replica(id)) => {
-            let id = id.0;
-            format!(in alloc; "{id}")
-        }
-        Some(Node::Client(id)) => {
-            let id = id.0;
-            format!(in alloc; "{id}")
-        }
-        None => String::from_str(alloc, "-"),
-    }
-}
-
-/// The name of a kind, or a dash where there is none.
-fn kind_or_dash(kind: Option<Kind>) -> &'static str
-    ensures { result.now ≡ kind_or_dash kind }
-{
-    match kind {
-        Some(kind) => kind.name(),
-        None => "-",
-    }
-}
-
-/// A changed copy of bytes. Where there are too few of them it is the same.
-fn damaged(alloc: Global, bytes: &[u8], damage: Damage) -> Result<Vec<u8>, AllocError>
-    ensures { IfOk result (λ v. v.items ≡ damaged damage bytes.now) }
-{
-    match damage {
-        Damage::Cut(many) => Vec::from_slice(alloc, without_last(bytes, many)),
-        Damage::Flip(places) => {
-            let mut copy = Vec::from_slice(alloc, bytes)?;
-            flip(&mut copy, places);
-            Ok(copy)
-        }
-    }
-}
-
-/// A copy of bytes, changed where this says how.
-pub(crate) fn changed(
-    alloc: Global,
-    bytes: &[u8],
-    change: Option<Damage>,
-) -> Result<Vec<u8>, AllocError>
-    ensures { IfOk result (λ v. v.items ≡ changed change bytes.now) }
-{
-    match change {
-        Some(damage) => damaged(alloc, bytes, damage),
-        None => Vec::from_slice(alloc, bytes),
-    }
-}
-
-/// Bytes without so many of the last ones.
-fn without_last(bytes: &[u8], many: u64) -> &[u8]
-    ensures { result.now ≡ cut many bytes.now }
-{
-    match usize::try_from(many) {
-        Ok(many) if many <= bytes.len() => &bytes[..bytes.len() - many],
-        _ => bytes,
-    }
-}
-
-/// Flips the lowest bit of the byte so many places before the last one.
-fn flip(bytes: &mut [u8], places: u64)
-    ensures { bytes.new ≡ flipped places bytes.old }
-{
-    if let Ok(places) = usize::try_from(places) {
-        if places < bytes.len() {
-            let index = bytes.len() - 1 - places;
-            bytes[index] ^= 1;
-        }
     }
 }
 
@@ -259,8 +157,8 @@ fn is_same_kind(one: Kind, other: Kind) -> bool
 /// Messages on their way, the next one first.
 #[derive(Drop)]
 pub(crate) struct Queue {
-    alloc: Global,
-    letters: VecDeque<Letter>,
+    pub alloc: Global,
+    pub letters: VecDeque<Letter>,
 }
 
 impl Model for Queue {
@@ -325,43 +223,6 @@ impl Queue {
         Ok(())
     }
 
-    /// Removes the letters that are meant.
-    pub(crate) fn discard(&mut self, filter: &Filter)
-        ensures { self.new ≡ kept (λ l. not (is_meant filter.now l)) self.old }
-    {
-        self.letters.retain(|letter| !letter.is_meant_by(filter));
-    }
-
-    /// Queues each letter that is meant once more.
-    pub(crate) fn repeat(&mut self, filter: &Filter) -> Result<(), AllocError>
-        ensures { OnOk result (self.new ≡ self.old ++ kept (is_meant filter.now) self.old) }
-    {
-        for index in 0..self.letters.len() {
-            if let Some(letter) = self.letters.get(index) {
-                if letter.is_meant_by(filter) {
-                    let letter = letter.copy_to(letter.to)?;
-                    self.push(letter)?;
-                }
-            }
-        }
-        Ok(())
-    }
-
-    /// Queues a changed copy of each letter that is meant.
-    pub(crate) fn mangle(&mut self, filter: &Filter, damage: Damage) -> Result<(), AllocError>
-        ensures { OnOk result (self.new ≡ self.old ++ map (mangled damage) (kept (is_meant filter.now) self.old)) }
-    {
-        for index in 0..self.letters.len() {
-            if let Some(letter) = self.letters.get(index) {
-                if letter.is_meant_by(filter) {
-                    let letter = letter.mangled(self.alloc, damage)?;
-                    self.push(letter)?;
-                }
-            }
-        }
-        Ok(())
-    }
-
     /// Takes the first letter out that is meant; those before it go to `others`, of which none is.
     pub(crate) fn next_meant(
         &mut self,
@@ -381,21 +242,6 @@ impl Queue {
             others.push(letter)?;
         }
         Ok(None)
-    }
-
-    /// The lines of the letters that are meant, the oldest first.
-    pub(crate) fn lines(&self, filter: &Filter) -> Result<String, AllocError>
-        ensures { IfOk result (λ text. string_bytes text ≡ flat_map letter_line (kept (is_meant filter.now) self.now)) }
-    {
-        let mut text = String::new(self.alloc);
-        for index in 0..self.letters.len() {
-            if let Some(letter) = self.letters.get(index) {
-                if letter.is_meant_by(filter) {
-                    text.push_str(&letter.line(self.alloc)?)?;
-                }
-            }
-        }
-        Ok(text)
     }
 
     /// How many letters there are.

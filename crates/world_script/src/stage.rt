@@ -1,34 +1,33 @@
 //! A running script: the replicas, the clients, and the messages between them.
 
-ghost use Rattle.std.specs.Prelude.{◌≡◌, ◌<◌, ◌++◌, bytes_eq, None, Some, IfOk, IfSome, OnOk, filter as kept, find, flat_map, length, map, option_copied, option_map, string_bytes};
+mod edits;
+mod printing;
+
+ghost use Rattle.std.specs.Prelude.{◌≡◌, ◌<◌, ◌++◌, None, Some, IfOk, IfSome, OnOk, is_some, find, flat_map, length, map, option_copied, option_map, string_bytes};
 ghost use Rattle.std.specs.FinSet as set;
 ghost use Rattle.byz_world.specs.Worlds.{first_world, member_of};
 ghost use Rattle.world_script.specs.Starts.{forgers_from, numbers_of, start_of};
 ghost use Rattle.script_text.specs.declared.script.Step.TheVariants as steps;
 ghost use Rattle.script_text.specs.declared.script.Node.TheVariants as nodes;
-ghost use Rattle.world_script.specs.declared.named.Named.{Named as NamedMessage};
 ghost use Rattle.world_script.specs.Endings.{Ends};
-ghost use Rattle.world_script.specs.Lines.{letter_line, nothing_queued_line};
-ghost use Rattle.world_script.specs.Keys.{correct_from, key_of};
-ghost use Rattle.world_script.specs.Letters.{copies, first_meant, is_meant, letter_of, meant_count};
+ghost use Rattle.world_script.specs.Keys.{correct_from, key_of, keys_of};
+ghost use Rattle.world_script.specs.Letters.{copies, first_meant, letter_of, meant_count};
 ghost use Rattle.world_script.specs.Parts.{DeliversNext, Performs, Happened, HasMore, ahead, with_message};
 ghost use Rattle.pbft_codec.specs.declared.body.Body.TheVariants as bodies;
 ghost use Rattle.pbft_codec.specs.declared.body.request.RequestBody.{RequestBody};
 ghost use Rattle.pbft_codec.specs.WellFormed.{BodyWellFormed};
-ghost use Rattle.world_script.specs.Stages.{AllTimeOut, Delivers, HandsTo, TimesOut, AtReplica, Audits, Upgrades, at_client, digest_named, forged_body, forges, ids_of, is_request, is_running, letters_in, letters_of, lacked_memory, halt_in, refusal_of, all_replicas, after_naming, message_of, payload_bytes, raw_letter, raws, queued, requested, digest_printed, state_printed, status_printed};
+ghost use Rattle.world_script.specs.Stages.{AllTimeOut, Delivers, HandsTo, TimesOut, AtReplica, at_client, digest_named, forged_body, forges, is_request, is_running, letters_in, letters_of, lacked_memory, halt_in, refusal_of, all_replicas, after_naming, message_of, queued, requested};
 ghost use Rattle.seal.specs.Opening.{opening};
 
 use crate::drawing::{drawn, next_state};
 use crate::fault::RunFault;
 use crate::forging::{Forger, checkpoint_body, forge, view_change_body, vote_body};
-use crate::keys::make_keys;
-use crate::lines::{
-    line_of_audit, line_of_digest, line_of_no_state, line_of_refusal, line_of_state,
-    line_of_status, line_of_upgrade,
-};
+use crate::keys::KeySources;
+use crate::lines::{line_of_nothing_queued, line_of_refusal};
 use crate::made::Made;
 use crate::named::Named;
-use crate::queue::{Letter, Queue, changed};
+use crate::progress::{Progress, Unwatched};
+use crate::queue::{Letter, Queue};
 use crate::sessions::Sessions;
 use crate::writing::write_text;
 use byz_world::{Event, World};
@@ -37,10 +36,9 @@ use lms_tree::Signer;
 use pbft_codec::Body;
 use replica_core::{Dest, Halt, Output, Row};
 use script_text::{
-    Filter, ForgedMessage, Forgery, Head, Kind, MessageName, NamedStep, Node, Order, Payload, Step,
+    Filter, ForgedMessage, Forgery, Head, Kind, NamedStep, Node, Order, Printout, Step,
 };
 use seal::{Checked, SealFault, open, request_digest};
-use service_core::{State, StateFault};
 use sha2::{Digest as _, Sha256};
 use std::alloc::{AllocError, Global};
 use std::io::Write;
@@ -50,9 +48,6 @@ use std::sync::Arc;
 
 /// The most deliveries of one step.
 const MAX_DELIVERIES: u32 = 1_000_000;
-
-/// Whom a letter of raw bytes is for until it is copied for its addressees.
-const NOBODY: Node = Node::Replica(ReplicaId(0));
 
 /// A running script: the replicas, the clients, and what is on its way between them. Contracts see what the
 /// definitions call a stage.
@@ -76,7 +71,8 @@ impl Model for Stage {
     ghost use Rattle.std.specs.Prelude.{◌≡◌};
     ghost use Rattle.std.specs.Coded.{codes};
     ghost use Rattle.service_model.specs.Equality.{service_code};
-    ghost use Rattle.world_script.specs.Stages.{StageFacts, all_replicas};
+    ghost use Rattle.world_script.specs.Facts.{StageFacts};
+    ghost use Rattle.world_script.specs.Stages.{all_replicas};
 
     ghost Value = { StageFacts };
 
@@ -88,11 +84,31 @@ impl Model for Stage {
 }
 
 impl Stage {
-    /// The stage of a head, with an empty queue.
+    /// The stage of a head, with an empty queue. It makes the head's keys. The error is that memory ran out.
     pub fn new(alloc: Global, head: &Head) -> Result<Stage, AllocError>
         ensures { IfOk result (λ s. s ≡ start_of head.now) }
     {
-        let keys = make_keys(alloc, head)?;
+        Stage::watched(alloc, head, &mut Unwatched)
+    }
+
+    /// The same, and tells how many keys are made.
+    pub fn watched<P: Progress>(
+        alloc: Global,
+        head: &Head,
+        progress: &mut P,
+    ) -> Result<Stage, AllocError>
+        ensures { IfOk result (λ s. s ≡ start_of head.now) }
+    {
+        let sources = KeySources::watched(alloc, head, progress)?;
+        Stage::with_keys(alloc, head, &sources)
+    }
+
+    /// The same with the head's keys as they were made before, for a script that runs many times.
+    pub fn with_keys(alloc: Global, head: &Head, sources: &KeySources) -> Result<Stage, AllocError>
+        requires { sources.now ≡ keys_of head.now }
+        ensures { IfOk result (λ s. s ≡ start_of head.now) }
+    {
+        let keys = sources.keys(alloc, head)?;
         let config = Arc::new(alloc, keys.config)?;
         let faulty = faulty_set(head.faulty());
         let (world, forgers) = new_world(alloc, &config, &faulty, keys.replicas)?;
@@ -170,29 +186,12 @@ impl Stage {
         match step {
             Step::Request(order) => self.request(order),
             Step::Forge(forgery) => self.forge(forgery),
-            Step::Drop(filter) => {
-                self.queue.discard(filter);
-                Ok(nothing)
-            }
-            Step::Repeat(filter) => {
-                self.queue.repeat(filter)?;
-                Ok(nothing)
-            }
-            Step::Mangle { filter, damage } => {
-                self.queue.mangle(filter, *damage)?;
-                Ok(nothing)
-            }
-            Step::Queue(filter) => self.queue_text(filter),
             Step::Timeout(at) => {
                 self.time_out(at.as_slice())?;
                 Ok(nothing)
             }
-            Step::Raw { to, payload } => self.raw(to.as_slice(), payload),
-            Step::Show => self.statuses(),
-            Step::Digest => self.digests(),
-            Step::State(id) => self.state_text(*id),
-            Step::Upgrade(bytes) => self.upgrade_text(bytes.as_slice()),
-            Step::Audit => self.audit_text(),
+            Step::Edit(edit) => self.edit(edit),
+            Step::Print(printout) => self.printout_text(printout),
             Step::Deliver { .. } | Step::Expect(_) => Ok(nothing),
         }
     }
@@ -205,7 +204,7 @@ impl Stage {
     {
         let op = Bytes::from_vec(Vec::from_slice(self.alloc, order.op.as_slice())?);
         let Some(request) = self.sessions.request(order.client, op)? else {
-            return nothing_queued(self.alloc);
+            return line_of_nothing_queued(self.alloc);
         };
         self.queue_request(order, &request)?;
         Ok(String::new(self.alloc))
@@ -234,11 +233,11 @@ impl Stage {
         ensures { IfOk result (λ text. (string_bytes text, self.new) ≡ forges self.old forgery.now) }
     {
         let Some(body) = self.forged_body(&forgery.message) else {
-            return nothing_queued(self.alloc);
+            return line_of_nothing_queued(self.alloc);
         };
         let kind = Kind::of(&body);
         let Some(bytes) = forge(self.alloc, &mut self.forgers, forgery, body)? else {
-            return nothing_queued(self.alloc);
+            return line_of_nothing_queued(self.alloc);
         };
         let from = Node::Replica(forgery.from);
         let letter = Letter::new(self.alloc, from, Some(from), Some(kind), &bytes)?;
@@ -275,34 +274,11 @@ impl Stage {
         }
     }
 
-    /// Queues bytes that have no sender or kind. What is printed.
-    fn raw(&mut self, to: &[Node], payload: &Payload) -> Result<String, AllocError>
-        ensures { IfOk result (λ text. (string_bytes text, self.new) ≡ raws self.old to.now payload.now) }
+    /// Whether the client made a request of this time.
+    pub fn has_made(&self, client: ClientId, time: u64) -> bool
+        ensures { result ≡ is_some (find (is_request (client, time)) self.now.made) }
     {
-        let Some(letter) = self.raw_letter(payload)? else {
-            return nothing_queued(self.alloc);
-        };
-        self.queue.send(&letter, to)?;
-        Ok(String::new(self.alloc))
-    }
-
-    /// Bytes as a letter; none where they are to be those of a message that there isn't.
-    fn raw_letter(&self, payload: &Payload) -> Result<Option<Letter>, AllocError>
-        ensures { IfOk result (λ letter. letter ≡ option_map raw_letter (payload_bytes self.now.named payload.now)) }
-    {
-        match payload {
-            Payload::Bytes(bytes) => {
-                let letter = Letter::new(self.alloc, NOBODY, None, None, bytes.as_slice())?;
-                Ok(Some(letter))
-            }
-            Payload::Message { name, change } => match find_named(&self.named, name) {
-                Some(named) => {
-                    let bytes = changed(self.alloc, named.letter.bytes(), *change)?;
-                    Ok(Some(Letter::new(self.alloc, NOBODY, None, None, &bytes)?))
-                }
-                None => Ok(None),
-            },
-        }
+        find_made(&self.made, client, time).is_some()
     }
 
     // ---- names
@@ -333,7 +309,7 @@ impl Stage {
         ensures { IfOk result (λ letter. letter ≡ message_of before step.now self.now) }
     {
         match step {
-            Step::Queue(filter) => self.queue.first_meant(filter),
+            Step::Print(Printout::Queue(filter)) => self.queue.first_meant(filter),
             _ => self.queue.copy_of(before),
         }
     }
@@ -559,83 +535,6 @@ impl Stage {
             Dest::Client(to) => self.queue.send(&letter, &[Node::Client(to)]),
         }
     }
-
-    // ---- what `queue` and `show` print
-
-    /// The letters that are meant.
-    fn queue_text(&self, filter: &Filter) -> Result<String, AllocError>
-        ensures { IfOk result (λ text. string_bytes text ≡ flat_map letter_line (kept (is_meant filter.now) self.now.queue)) }
-    {
-        self.queue.lines(filter)
-    }
-
-    /// Where each correct replica stands.
-    fn statuses(&self) -> Result<String, AllocError>
-        ensures { IfOk result (λ text. string_bytes text ≡ flat_map (status_printed self.now.world) (ids_of self.now.world.config)) }
-    {
-        let mut text = String::new(self.alloc);
-        for id in 0..self.config.replica_count() {
-            text.push_str(&self.status_text(ReplicaId(id))?)?;
-        }
-        Ok(text)
-    }
-
-    fn status_text(&self, id: ReplicaId) -> Result<String, AllocError>
-        ensures { IfOk result (λ text. string_bytes text ≡ status_printed self.now.world id) }
-    {
-        match self.world.status(id) {
-            Some(status) => line_of_status(self.alloc, id, &status),
-            None => Ok(String::new(self.alloc)),
-        }
-    }
-
-    /// The number and the digest of each correct replica's state.
-    fn digests(&self) -> Result<String, AllocError>
-        ensures { IfOk result (λ text. string_bytes text ≡ flat_map (digest_printed self.now.world) (ids_of self.now.world.config)) }
-    {
-        let mut text = String::new(self.alloc);
-        for id in 0..self.config.replica_count() {
-            text.push_str(&self.digest_text(ReplicaId(id))?)?;
-        }
-        Ok(text)
-    }
-
-    fn digest_text(&self, id: ReplicaId) -> Result<String, AllocError>
-        ensures { IfOk result (λ text. string_bytes text ≡ digest_printed self.now.world id) }
-    {
-        match self.world.state(id) {
-            Some(state) => line_of_digest(self.alloc, id, state),
-            None => Ok(String::new(self.alloc)),
-        }
-    }
-
-    /// The bytes of a correct replica's state.
-    fn state_text(&self, id: ReplicaId) -> Result<String, AllocError>
-        ensures { IfOk result (λ text. string_bytes text ≡ state_printed self.now.world id) }
-    {
-        match self.world.state(id) {
-            Some(state) => line_of_state(self.alloc, id, state),
-            None => Ok(String::new(self.alloc)),
-        }
-    }
-
-    /// The canonical encoding of the state that bytes encode, or that they encode none.
-    fn upgrade_text(&self, bytes: &[u8]) -> Result<String, AllocError>
-        ensures { IfOk result (λ text. Upgrades self.now.world.config bytes.now (string_bytes text)) }
-    {
-        match State::from_bytes(self.alloc, Arc::try_clone(&self.config)?, bytes) {
-            Ok(state) => line_of_upgrade(self.alloc, &state),
-            Err(StateFault::BadState) => line_of_no_state(self.alloc),
-            Err(StateFault::Memory) => Err(AllocError),
-        }
-    }
-
-    /// Whether the correct replicas' rows agree so far.
-    fn audit_text(&self) -> Result<String, AllocError>
-        ensures { IfOk result (λ text. Audits self.now.world (string_bytes text)) }
-    {
-        line_of_audit(self.alloc, &self.world.audit())
-    }
 }
 
 /// The request of this client and time.
@@ -644,22 +543,6 @@ fn find_made(made: &[Made], client: ClientId, time: u64) -> Option<&Made>
 {
     made.iter()
         .find(|made| made.client.0 == client.0 && made.time == time)
-}
-
-/// The message of a name.
-fn find_named<'a>(named: &'a [Named], name: &MessageName) -> Option<&'a Named>
-    ensures { option_map (λ n. n.now) result ≡ find (λ (n : NamedMessage). bytes_eq n.name name.now) named.now }
-{
-    named
-        .iter()
-        .find(|named| named.name.as_slice() == name.as_slice())
-}
-
-/// What is printed where nothing is queued.
-fn nothing_queued(alloc: Global) -> Result<String, AllocError>
-    ensures { IfOk result (λ line. string_bytes line ≡ nothing_queued_line) }
-{
-    String::from_str(alloc, "nothing queued\n")
 }
 
 /// A message as a letter, addressed to its sender.

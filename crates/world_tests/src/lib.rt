@@ -6,7 +6,6 @@
 mod audits;
 #[cfg(test)]
 mod group;
-#[cfg(test)]
 mod listed;
 #[cfg(test)]
 mod reads;
@@ -16,3 +15,5 @@ mod rows;
 mod runs;
 #[cfg(test)]
 mod scripts;
+
+pub use listed::are_listed;

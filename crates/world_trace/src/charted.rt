@@ -8,7 +8,7 @@ use std::alloc::{AllocError, Global};
 use std::io::{Read, Write};
 use trace_lines::Happening;
 use world_chart::{Chart, Lanes};
-use world_script::{Played, RunFault, report, write_text};
+use world_script::{Played, Progress, RunFault, report, write_text};
 
 /// How a chart is written.
 #[derive(Clone, Copy, Debug, PartialEq, Eq)]
@@ -21,35 +21,37 @@ pub enum ChartForm {
 
 /// Reads a script to the end of the reader and runs its steps, and writes what happened as a chart, and none of the
 /// lines that the steps print. A script that ends early has a chart of what happened until then, and, as in `run_script`,
-/// the line of its fault or of its `expect` behind it.
-pub fn chart_script<I: Read, O: Write>(
+/// the line of its fault or of its `expect` behind it. It tells how far the script is.
+pub fn chart_script<I: Read, O: Write, P: Progress>(
     alloc: Global,
     form: ChartForm,
     reader: &mut I,
     writer: &mut O,
+    progress: &mut P,
 ) -> Result<Played, ScriptFault> {
     let script = match read_whole(alloc, reader) {
         Ok(script) => script,
         Err(fault) => return Err(report(fault, writer)),
     };
-    match chart_steps(alloc, form, &script, writer) {
+    match chart_steps(alloc, form, &script, writer, progress) {
         Ok(played) => Ok(played),
         Err(fault) => Err(report(fault, writer)),
     }
 }
 
-fn chart_steps<O: Write>(
+fn chart_steps<O: Write, P: Progress>(
     alloc: Global,
     form: ChartForm,
     script: &Script,
     writer: &mut O,
+    progress: &mut P,
 ) -> Result<Played, ScriptFault> {
-    let Ok(mut runner) = Runner::new(alloc, &script.head) else {
+    let Ok(mut runner) = Runner::new(alloc, &script.head, progress) else {
         return Err(ScriptFault::at_head(ScriptKind::Memory));
     };
     let mut tracer = Tracer::new(alloc);
     let mut text = String::new(alloc);
-    let (number, ended) = run_all(script, &mut runner, &mut tracer, &mut text);
+    let (number, ended) = run_all(script, &mut runner, &mut tracer, &mut text, progress);
     match write_chart(alloc, form, script, &runner, tracer.happened(), writer) {
         Ok(()) => {}
         Err(fault) => {
@@ -61,15 +63,17 @@ fn chart_steps<O: Write>(
 }
 
 /// Runs the steps. The number of the last one that ran, and how it ended.
-fn run_all(
+fn run_all<P: Progress>(
     script: &Script,
     runner: &mut Runner,
     tracer: &mut Tracer,
     text: &mut String,
+    progress: &mut P,
 ) -> (u32, Result<Played, RunFault>) {
     let mut number: u32 = 0;
     for step in script.steps.as_slice() {
         number = number.saturating_add(1);
+        progress.step(number, script.steps.as_slice().len());
         text.clear();
         match runner.run(number, step, None, tracer, text) {
             Ok(Played::Whole) => {}

@@ -1,5 +1,8 @@
 //! A script under many orders of its deliveries.
 
+ghost use Rattle.std.specs.Prelude.{◌≡◌};
+ghost use Rattle.world_script.specs.Keys.{keys_of};
+
 use crate::evidence::Evidence;
 use crate::runner::Runner;
 use crate::watcher::Watcher;
@@ -9,7 +12,8 @@ use host_types::ReplicaId;
 use replica_core::Row;
 use script_text::{NamedStep, Node, Script, ScriptFault, ScriptKind};
 use std::alloc::{AllocError, Global};
-use world_script::{Letter, Stage};
+use trace_lines::Cause;
+use world_script::{KeySources, Letter, Stage};
 
 /// The seeds from the first on, without the last.
 #[derive(Clone, Copy, Debug, PartialEq, Eq)]
@@ -39,9 +43,17 @@ pub struct Explored {
     pub blamed: Vec<(Claim, Claim)>,
 }
 
-/// Runs a script with all its deliveries in the order that a seed draws, and audits. The error is that memory ran out.
-pub fn explore_seed(alloc: Global, script: &Script, seed: u64) -> Result<Explored, AllocError> {
-    let mut runner = Runner::new(alloc, &script.head)?;
+/// Runs a script with all its deliveries in the order that a seed draws, and audits. The keys are its head's, which were
+/// made before. The error is that memory ran out.
+pub fn explore_seed(
+    alloc: Global,
+    script: &Script,
+    sources: &KeySources,
+    seed: u64,
+) -> Result<Explored, AllocError>
+    requires { sources.now ≡ keys_of script.now.head }
+{
+    let mut runner = Runner::at(alloc, Stage::with_keys(alloc, &script.head, sources)?);
     let mut listener = Listener {
         evidence: Evidence::new(alloc),
     };
@@ -140,6 +152,10 @@ impl Watcher for Listener {
     }
 
     fn losing(&mut self, _letter: &Letter) -> Result<(), AllocError> {
+        Ok(())
+    }
+
+    fn queued_nothing(&mut self, _cause: Cause) -> Result<(), AllocError> {
         Ok(())
     }
 

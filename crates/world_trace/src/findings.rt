@@ -1,5 +1,8 @@
 //! What is found under one seed after another.
 
+ghost use Rattle.std.specs.Prelude.{◌≡◌};
+ghost use Rattle.world_script.specs.Keys.{keys_of};
+
 use crate::explore::{Explored, Outcome, Seeds, explore_seed};
 use crate::trace::read_whole;
 use blame::Claim;
@@ -9,7 +12,7 @@ use std::cmp::min;
 use std::io::{Read, Write};
 use std::thread::{self, Threads};
 use trace_lines::{Happening, line_of};
-use world_script::{RunFault, report, write_text};
+use world_script::{KeySources, Progress, RunFault, report, write_text};
 
 /// What came of a script under all seeds.
 #[must_use]
@@ -21,21 +24,23 @@ pub enum Searched {
     Refused,
 }
 
-/// Reads a script to the end of the reader, and runs it under one seed after another, until one is found under which a
-/// step ends the script early, or the audit at its end finds a fault. Writes a line for it, and before it one for each two
-/// claims that blame a replica, with the first seed where they were heard; and how many seeds there were, where all
-/// agreed. What `run_script` refuses is refused with the same line.
-pub fn explore_script<I: Read, O: Write>(
+/// Reads a script to the end of the reader, makes its keys, and runs it under one seed after another, until one is found
+/// under which a step ends the script early, or the audit at its end finds a fault. Writes a line for it, and before it
+/// one for each two claims that blame a replica, with the first seed where they were heard; and how many seeds there
+/// were, where all agreed. What `run_script` refuses is refused with the same line. It tells how many keys are made, and
+/// under how many seeds the script was run.
+pub fn explore_script<I: Read, O: Write, P: Progress>(
     alloc: Global,
     seeds: Seeds,
     reader: &mut I,
     writer: &mut O,
+    progress: &mut P,
 ) -> Result<Searched, ScriptFault> {
     let script = match read_whole(alloc, reader) {
         Ok(script) => script,
         Err(fault) => return Err(report(fault, writer)),
     };
-    match explore_in_turn(alloc, &script, seeds, writer) {
+    match explore_in_turn(alloc, &script, seeds, writer, progress) {
         Ok(searched) => Ok(searched),
         Err(fault) => Err(report(ScriptFault::at_head(fault.into()), writer)),
     }
@@ -43,53 +48,65 @@ pub fn explore_script<I: Read, O: Write>(
 
 /// Does the same, with so many seeds side by side, each in a thread of its own where one can be made. What is written is
 /// the same.
-pub fn explore_side_by_side<R: Threads + Sync, I: Read, O: Write>(
+pub fn explore_side_by_side<R: Threads + Sync, I: Read, O: Write, P: Progress>(
     rt: &R,
     alloc: Global,
     workers: usize,
     seeds: Seeds,
     reader: &mut I,
     writer: &mut O,
+    progress: &mut P,
 ) -> Result<Searched, ScriptFault> {
     let script = match read_whole(alloc, reader) {
         Ok(script) => script,
         Err(fault) => return Err(report(fault, writer)),
     };
-    match explore_in_batches(rt, alloc, workers, &script, seeds, writer) {
+    match explore_in_batches(rt, alloc, workers, &script, seeds, writer, progress) {
         Ok(searched) => Ok(searched),
         Err(fault) => Err(report(ScriptFault::at_head(fault.into()), writer)),
     }
 }
 
-fn explore_in_turn<O: Write>(
+fn explore_in_turn<O: Write, P: Progress>(
     alloc: Global,
     script: &Script,
     seeds: Seeds,
     writer: &mut O,
+    progress: &mut P,
 ) -> Result<Searched, RunFault> {
+    let sources = KeySources::watched(alloc, &script.head, progress)?;
     let mut findings = Findings::new(alloc);
     for seed in seeds.first..seeds.end {
-        let explored = explore_seed(alloc, script, seed)?;
+        let explored = explore_seed(alloc, script, &sources, seed)?;
         if findings.take(seed, &explored, writer)? == Searched::Refused {
             return Ok(Searched::Refused);
         }
+        tell(seeds, seed.saturating_add(1), progress);
     }
     findings.end(seeds, writer)
 }
 
-fn explore_in_batches<R: Threads + Sync, O: Write>(
+/// Tells that the script was run under the seeds before this one.
+fn tell<P: Progress>(seeds: Seeds, next: u64, progress: &mut P) {
+    let Seeds { first, end } = seeds;
+    progress.seeds(next.saturating_sub(first), end.saturating_sub(first));
+}
+
+fn explore_in_batches<R: Threads + Sync, O: Write, P: Progress>(
     rt: &R,
     alloc: Global,
     workers: usize,
     script: &Script,
     seeds: Seeds,
     writer: &mut O,
+    progress: &mut P,
 ) -> Result<Searched, RunFault> {
+    let sources = KeySources::watched(alloc, &script.head, progress)?;
     let mut findings = Findings::new(alloc);
     let mut next = seeds.first;
     for _ in seeds.first..seeds.end {
         let left = usize::try_from(seeds.end.saturating_sub(next)).unwrap_or(usize::MAX);
-        let batch = run_batch(rt, alloc, script, next, min(workers, left))?;
+        let batch = run_batch(rt, alloc, script, &sources, next, min(workers, left))?;
         if batch.is_empty() {
             break;
         }
@@ -99,6 +116,7 @@ fn explore_in_batches<R: Threads + Sync, O: Write>(
             }
             next = next.saturating_add(1);
         }
+        tell(seeds, next, progress);
     }
     findings.end(seeds, writer)
 }
@@ -108,11 +126,14 @@ fn run_batch<R: Threads + Sync>(
     rt: &R,
     alloc: Global,
     script: &Script,
+    sources: &KeySources,
     first: u64,
     count: usize,
-) -> Result<Vec<Result<Explored, AllocError>>, AllocError> {
+) -> Result<Vec<Result<Explored, AllocError>>, AllocError>
+    requires { sources.now ≡ keys_of script.now.head }
+{
     let run = move |index: usize| -> Result<Explored, AllocError> {
-        explore_seed(alloc, script, first.saturating_add(index as u64))
+        explore_seed(alloc, script, sources, first.saturating_add(index as u64))
     };
     thread::map_indices(rt, alloc, count, &run)
 }

@@ -5,10 +5,11 @@ ghost use Rattle.world_script.specs.Letters.{meant_count};
 
 use crate::watcher::Watcher;
 use host_types::ReplicaId;
-use script_text::{Filter, Head, NamedStep, Node, Step};
+use script_text::{Filter, ForgedMessage, Forgery, Head, NamedStep, Node, QueueEdit, Step};
 use std::alloc::{AllocError, Global};
+use trace_lines::Cause;
 use world_script::{
-    Played, RunFault, Stage, differing_line, drawn, line_of_unexpected, next_state,
+    Played, Progress, RunFault, Stage, differing_line, drawn, line_of_unexpected, next_state,
 };
 
 /// The most deliveries of one step.
@@ -23,12 +24,22 @@ pub(crate) struct Runner {
 }
 
 impl Runner {
-    pub(crate) fn new(alloc: Global, head: &Head) -> Result<Runner, AllocError> {
-        Ok(Runner {
+    /// A script before its first step. It tells how many keys are made.
+    pub(crate) fn new<P: Progress>(
+        alloc: Global,
+        head: &Head,
+        progress: &mut P,
+    ) -> Result<Runner, AllocError> {
+        Ok(Runner::at(alloc, Stage::watched(alloc, head, progress)?))
+    }
+
+    /// A script at this stage.
+    pub(crate) fn at(alloc: Global, stage: Stage) -> Runner {
+        Runner {
             alloc,
-            stage: Stage::new(alloc, head)?,
+            stage,
             unread: String::new(alloc),
-        })
+        }
     }
 
     /// Runs the step of this number, and adds what it prints to a text. Where an order is given, it is that of a
@@ -86,20 +97,51 @@ impl Runner {
                 self.deliver(filter, order.or(*own), watcher, text)
             }
             Step::Timeout(at) => self.time_out(at.as_slice(), watcher),
-            Step::Drop(filter) => {
+            Step::Edit(QueueEdit::Drop(filter)) => {
                 self.lose(filter, watcher)?;
-                self.perform(step, text)
+                self.perform(step, watcher, text)
             }
-            _ => self.perform(step, text),
+            _ => self.perform(step, watcher, text),
         }
     }
 
     /// Runs a step in which nothing happens at a replica.
-    fn perform(&mut self, step: &Step, text: &mut String) -> Result<(), RunFault> {
+    fn perform<W: Watcher>(
+        &mut self,
+        step: &Step,
+        watcher: &mut W,
+        text: &mut String,
+    ) -> Result<(), RunFault> {
         let mut sink: Vec<u8> = Vec::new(self.alloc);
         let printed = self.stage.run(step, &mut sink)?;
         text.push_str(&printed)?;
+        if !printed.is_empty() {
+            if let Some(cause) = self.cause_in(step) {
+                watcher.queued_nothing(cause)?;
+            }
+        }
         Ok(())
+    }
+
+    /// Why a step that queues messages printed that there are none.
+    fn cause_in(&self, step: &Step) -> Option<Cause> {
+        match step {
+            Step::Request(order) => Some(Cause::Exhausted(Node::Client(order.client))),
+            Step::Forge(forgery) => Some(self.cause_in_forgery(forgery)),
+            Step::Edit(QueueEdit::Raw { .. }) => Some(Cause::NoMessage),
+            _ => None,
+        }
+    }
+
+    fn cause_in_forgery(&self, forgery: &Forgery) -> Cause {
+        if let ForgedMessage::Vote(vote) = &forgery.message {
+            if let Some((client, time)) = vote.request {
+                if !self.stage.has_made(client, time) {
+                    return Cause::NeverMade { client, time };
+                }
+            }
+        }
+        Cause::Exhausted(Node::Replica(forgery.from))
     }
 
     /// Delivers letters that are meant until none is: the oldest first, or in the order that a seed draws.

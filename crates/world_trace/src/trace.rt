@@ -6,28 +6,30 @@ use script_text::{NamedStep, Script, ScriptFault, ScriptKind, read_script};
 use std::alloc::Global;
 use std::io::{Read, Write};
 use trace_lines::line_of;
-use world_script::{Played, RunFault, read_input, report, write_text};
+use world_script::{Played, Progress, RunFault, read_input, report, write_text};
 
 /// Reads a script to the end of the reader and runs its steps. Of each step it writes a line for each thing that
-/// happened, and then what `run_script` writes; faults as `run_script` does.
-pub fn trace_script<I: Read, O: Write>(
+/// happened, and then what `run_script` writes; faults as `run_script` does. It tells how far the script is.
+pub fn trace_script<I: Read, O: Write, P: Progress>(
     alloc: Global,
     reader: &mut I,
     writer: &mut O,
+    progress: &mut P,
 ) -> Result<Played, ScriptFault> {
-    match trace(alloc, reader, writer) {
+    match trace(alloc, reader, writer, progress) {
         Ok(played) => Ok(played),
         Err(fault) => Err(report(fault, writer)),
     }
 }
 
-fn trace<I: Read, O: Write>(
+fn trace<I: Read, O: Write, P: Progress>(
     alloc: Global,
     reader: &mut I,
     writer: &mut O,
+    progress: &mut P,
 ) -> Result<Played, ScriptFault> {
     let script = read_whole(alloc, reader)?;
-    trace_steps(alloc, &script, writer)
+    trace_steps(alloc, &script, writer, progress)
 }
 
 /// Reads a script to the end of the reader.
@@ -38,18 +40,20 @@ pub(crate) fn read_whole<I: Read>(alloc: Global, reader: &mut I) -> Result<Scrip
     }
 }
 
-fn trace_steps<O: Write>(
+fn trace_steps<O: Write, P: Progress>(
     alloc: Global,
     script: &Script,
     writer: &mut O,
+    progress: &mut P,
 ) -> Result<Played, ScriptFault> {
-    let Ok(mut runner) = Runner::new(alloc, &script.head) else {
+    let Ok(mut runner) = Runner::new(alloc, &script.head, progress) else {
         return Err(ScriptFault::at_head(ScriptKind::Memory));
     };
     let mut tracer = Tracer::new(alloc);
     let mut number: u32 = 0;
     for step in script.steps.as_slice() {
         number = number.saturating_add(1);
+        progress.step(number, script.steps.as_slice().len());
         match trace_step(alloc, &mut runner, &mut tracer, number, step, writer) {
             Ok(Played::Whole) => {}
             Ok(Played::Unexpected) => return Ok(Played::Unexpected),

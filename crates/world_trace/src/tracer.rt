@@ -9,7 +9,7 @@ use script_text::{Kind, Node};
 use seal::{SealFault, open};
 use std::alloc::{AllocError, Global};
 use std::sync::Arc;
-use trace_lines::{Happening, Standing, changes, saying_in};
+use trace_lines::{Cause, Happening, Standing, changes, saying_in};
 use world_script::{Letter, Stage};
 
 /// Notes what happens, in order.
@@ -158,6 +158,11 @@ impl Watcher for Tracer {
             to: letter.to(),
             saying: saying_in(self.alloc, letter.kind(), letter.bytes())?,
         })?;
+        Ok(())
+    }
+
+    fn queued_nothing(&mut self, cause: Cause) -> Result<(), AllocError> {
+        self.happened.push(Happening::Unqueued(cause))?;
         Ok(())
     }
 

@@ -4,6 +4,7 @@ use host_types::ReplicaId;
 use replica_core::Row;
 use script_text::Node;
 use std::alloc::AllocError;
+use trace_lines::Cause;
 use world_script::{Letter, Stage};
 
 /// Is told of each event of a script, before and behind it.
@@ -22,6 +23,9 @@ pub(crate) trait Watcher {
 
     /// A letter is to be lost.
     fn losing(&mut self, letter: &Letter) -> Result<(), AllocError>;
+
+    /// A step queued nothing.
+    fn queued_nothing(&mut self, cause: Cause) -> Result<(), AllocError>;
 
     /// A replica's timer is to expire.
     fn about_timeout(&mut self, stage: &Stage, at: ReplicaId) -> Result<(), AllocError>;

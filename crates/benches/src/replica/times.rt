@@ -10,9 +10,9 @@ use std::alloc::{AllocError, Global};
 /// What requests may cost of their signatures.
 const LIMIT: Limit = Limit::Thousandths(1250);
 
-/// The same where the state is large and a checkpoint follows each request: each replica then hashes the whole
-/// state for each request, which takes about as long as the request's signatures, and once more as it is stable.
-const LIMIT_OF_HASHES: Limit = Limit::Thousandths(3000);
+/// The same where the state is large and a checkpoint follows each request: each replica then writes out and
+/// hashes the whole state for each request, which takes about as long as the request's signatures.
+const LIMIT_OF_HASHES: Limit = Limit::Thousandths(2500);
 
 /// The requests of a row.
 const REQUESTS: u32 = 300;

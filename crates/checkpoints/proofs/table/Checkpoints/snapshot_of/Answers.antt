@@ -6,7 +6,7 @@ use Rattle.checkpoints.proofs.table.Checkpoints.snapshot_of.Goals as goal
 
 pub returns-in-Some : goal.returns-in-Some
 returns-in-Some c =
-    ap Some c.as_slice.ensures ∙ sym (ap option_copied c.in-Some.is) ∙ c.get.ensures.value ∙ sym (snapshot_found c.self.inside.snapshots (number_key c.args.number.0))
+    ap Some c.bytes.ensures ∙ sym (ap option_copied c.in-Some.is) ∙ c.get.ensures.value ∙ sym (snapshot_found c.self.inside.snapshots (number_key c.args.number.0))
     ∙ ap (λ k. at k.snapshots (number_key c.args.number.0)) c.self.view_is
 
 pub returns-in-None : goal.returns-in-None

@@ -9,7 +9,6 @@ use Rattle.view_change.specs.Setups.{setup_of}
 use Rattle.replica_core.specs.Batching.{IsReporting}
 use Rattle.replica_core.specs.Replicas.{KeptReplica}
 use Rattle.replica_core.specs.Settling.{HaltsAfter}
-use Rattle.replica_core.specs.declared.halt.Halt.{Halt}
 use Rattle.replica_core.proofs.Batching.{batch_done, batch_halts, even, low_requests, memory_halts, short}
 use Rattle.replica_core.proofs.kept.Core.execute_batch.Goals as goal
 

@@ -4,7 +4,7 @@ use Rattle.pbft_model.specs.Tables.{at, number_key}
 use Rattle.view_change.specs.Setups.{setup_of}
 use Rattle.replica_core.specs.declared.duties.Duty.TheVariants as duties
 use Rattle.replica_core.proofs.Asking as asking
-use Rattle.replica_core.proofs.Asking.{as_duty, commits_low, executes_low, executes_next, fetches_low, following, higher, has_last_reply, leading, low_number, prepares_low, proposes_low, reads, request_held, rises_above, rises_to_reached, rises_to_stable, snapshot_kept, snapshot_low, snapshot_short, sound}
+use Rattle.replica_core.proofs.Asking.{as_duty, checkpoint_kept, commits_low, executes_low, executes_next, fetches_low, following, higher, has_last_reply, leading, low_number, prepares_low, proposes_low, reads, request_held, rises_above, rises_to_reached, rises_to_stable, snapshot_kept, snapshot_low, snapshot_short, sound}
 use Rattle.replica_core.proofs.Dispatch.{answers_due, executes_due, relays_due, rises_due, supplies_due}
 use Rattle.replica_core.proofs.kept.Core.fulfil.Goals as goal
 
@@ -15,7 +15,11 @@ change_to-requires-clause-higher c =
 
 pub send_checkpoint-requires : goal.send_checkpoint-requires
 send_checkpoint-requires c =
-    record { number = low_number (setup_of c.args.self.now.config) c.args.self.now.me c.args.self.now.core c.numbers.ensures.legal c.requires.reached }
+    record {
+      number = low_number (setup_of c.args.self.now.config) c.args.self.now.me c.args.self.now.core c.numbers.ensures.legal c.requires.reached;
+      kept = checkpoint_kept (setup_of c.args.self.now.config) c.args.self.now.me c.args.self.now.core c.numbers.ensures.legal c.requires.reached
+          (as_duty (setup_of c.args.self.now.config) c.args.self.now.me c.args.self.now.core c.args.duty duties.Checkpoint c.requires.due c.in-Checkpoint.is);
+    }
 
 pub answer_again-requires-clause-sound : goal.answer_again-requires-clause-sound
 answer_again-requires-clause-sound c =

@@ -1,7 +1,7 @@
 use Rattle.std.proofs.Common.{◌≡◌, ◌+◌, subst}
 use Rattle.lms_tree.specs.Keys.{leaf_count}
 use Rattle.replica_core.specs.Replicas.{KeptReplica}
-use Rattle.replica_core.proofs.Batching.{stopped, stopped_for_memory, turn}
+use Rattle.replica_core.proofs.Batching.{turn}
 use Rattle.replica_core.proofs.kept.Core.report_next.Goals as goal
 
 pub returns-clause-reported : goal.returns-clause-reported

@@ -1,5 +1,6 @@
 use Rattle.std.proofs.Common.{◌≡◌, ◌++◌, filter, map, take}
-use Rattle.world_script.specs.Letters.{is_meant, mangled}
+use Rattle.world_script.specs.Edits.{mangled}
+use Rattle.world_script.specs.Letters.{is_meant}
 use Rattle.world_script.proofs.queue.Queue.mangle.Given as goal
 
 abbrev pub invariant-loop-index : goal.invariant-loop-index

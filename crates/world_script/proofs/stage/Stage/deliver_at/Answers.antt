@@ -2,7 +2,8 @@ use Rattle.std.proofs.Common.{◌≡◌, ◌<◌, sym, subst}
 use Rattle.std.specs.String.{string_bytes}
 use Rattle.std.proofs.lemmas.Result.{IfOk-weaker}
 use Rattle.world_script.specs.Letters.{meant_count}
-use Rattle.world_script.specs.Stages.{Delivers, StageFacts}
+use Rattle.world_script.specs.Facts.{StageFacts}
+use Rattle.world_script.specs.Stages.{Delivers}
 use Rattle.world_script.proofs.Delivering.{delivered_at}
 use Rattle.world_script.proofs.stage.Stage.deliver_at.Goals as goal
 

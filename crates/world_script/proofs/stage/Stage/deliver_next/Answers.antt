@@ -3,7 +3,8 @@ use Rattle.std.specs.Prelude.{is_some}
 use Rattle.std.specs.String.{string_bytes}
 use Rattle.world_script.specs.Letters.{first_meant}
 use Rattle.world_script.specs.Parts.{ahead}
-use Rattle.world_script.specs.Stages.{Delivers, StageFacts}
+use Rattle.world_script.specs.Facts.{StageFacts}
+use Rattle.world_script.specs.Stages.{Delivers}
 use Rattle.world_script.proofs.Delivering.{delivered, restored}
 use Rattle.world_script.proofs.stage.Stage.deliver_next.Goals as goal
 

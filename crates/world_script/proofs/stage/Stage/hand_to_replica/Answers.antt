@@ -3,7 +3,8 @@ use Rattle.host_types.specs.Configuration.{Configuration}
 use Rattle.seal.specs.Opening.{opening}
 use Rattle.byz_world.specs.declared.event.Event.TheVariants as events
 use Rattle.world_script.specs.Parts.{Happened}
-use Rattle.world_script.specs.Stages.{StageFacts, refusal_of}
+use Rattle.world_script.specs.Facts.{StageFacts}
+use Rattle.world_script.specs.Stages.{refusal_of}
 use Rattle.world_script.proofs.Deliveries.{refused}
 use Rattle.world_script.proofs.stage.Stage.hand_to_replica.Goals as goal
 

@@ -1,0 +1,146 @@
+//! Which keys of a table a fault is about.
+
+use crate::keys::{Key, key_at, keys_at};
+use crate::probe::{Probe, set};
+use script_text::ScriptKind;
+use std::alloc::AllocError;
+use toml::Table;
+
+/// The key that has no meaning in the table: without it, and perhaps others like it, the reader finds no such fault.
+pub(crate) fn unknown_key(probe: &Probe) -> Result<Option<String>, AllocError> {
+    let mut left = probe.table.clone()?;
+    for key in probe.table.keys() {
+        let mut trial = left.clone()?;
+        trial.remove(key.as_str());
+        match probe.fault_with(&trial)? {
+            Some(ScriptKind::UnknownKey) => left = trial,
+            Some(ScriptKind::MissingKey | ScriptKind::WrongValue) => {}
+            _ => return Ok(Some(key.clone()?)),
+        }
+    }
+    Ok(None)
+}
+
+/// What is wrong with a key.
+#[derive(Clone, Copy, Debug)]
+pub(crate) enum Wrong {
+    /// It takes another value.
+    Value(Key),
+    /// It is not taken there, with any value.
+    Presence(Key),
+}
+
+/// The key whose value is wrong: with another value, or without it, the reader finds no such fault. Others before it may
+/// be wrong, too. Where no other value can be had, the key for which the script has none.
+pub(crate) fn wrong_key(probe: &Probe, keys: &[Key]) -> Result<Option<Wrong>, AllocError> {
+    if is_no_step(probe)? {
+        return Ok(key_at(keys, probe.place_name(), "do").map(Wrong::Value));
+    }
+    let mut mended = probe.table.clone()?;
+    let mut lacking = None;
+    for name in probe.table.keys() {
+        match key_at(keys, probe.place_name(), name.as_str()) {
+            Some(key) if key.name != "do" => {
+                if let Some(wrong) = mend(probe, key, &mut mended)? {
+                    return Ok(Some(wrong));
+                }
+                if probe.sample(key.sample)?.is_none() {
+                    lacking = Some(Wrong::Value(key));
+                }
+            }
+            _ => {}
+        }
+    }
+    Ok(lacking)
+}
+
+/// Whether there is no step of the table's name.
+fn is_no_step(probe: &Probe) -> Result<bool, AllocError> {
+    let mut alone = Table::new(probe.alloc);
+    match probe.table.get("do") {
+        Some(name) => set(probe.alloc, &mut alone, "do", name.clone()?)?,
+        None => return Ok(false),
+    }
+    is_refused_for(probe, &alone, ScriptKind::WrongValue)
+}
+
+/// Gives a key a value that it takes, or leaves it out. What was wrong with it, if nothing is wrong then.
+fn mend(probe: &Probe, key: Key, table: &mut Table) -> Result<Option<Wrong>, AllocError> {
+    let mut without = table.clone()?;
+    without.remove(key.name);
+    if let Some(value) = probe.sample(key.sample)? {
+        set(probe.alloc, table, key.name, value)?;
+        if !is_refused_for(probe, table, ScriptKind::WrongValue)? {
+            return Ok(Some(Wrong::Value(key)));
+        }
+    }
+    match probe.fault_with(&without)? {
+        Some(ScriptKind::WrongValue | ScriptKind::MissingKey) => Ok(None),
+        _ => Ok(Some(Wrong::Presence(key))),
+    }
+}
+
+/// The keys of which one is needed: with any of them the reader misses none. Where several are needed at once, none.
+pub(crate) fn missing_keys(probe: &Probe, keys: &[Key]) -> Result<Vec<Key>, AllocError> {
+    let mut missing = Vec::new(probe.alloc);
+    for key in &absent_keys(probe, keys)? {
+        if is_enough(probe, *key)? {
+            missing.push(*key)?;
+        }
+    }
+    Ok(missing)
+}
+
+/// The keys that the table may have and hasn't.
+fn absent_keys(probe: &Probe, keys: &[Key]) -> Result<Vec<Key>, AllocError> {
+    let mut absent = Vec::new(probe.alloc);
+    for key in &keys_at(probe.alloc, keys, probe.place_name())? {
+        if probe.table.get(key.name).is_none() {
+            absent.push(*key)?;
+        }
+    }
+    Ok(absent)
+}
+
+/// The keys that are needed together: the reader misses none once all of them are there, and misses one without any of
+/// them. Of keys that can stand for one another it is the first.
+pub(crate) fn missing_together(probe: &Probe, keys: &[Key]) -> Result<Vec<Key>, AllocError> {
+    let absent = absent_keys(probe, keys)?;
+    let mut filled = probe.table.clone()?;
+    for key in &absent {
+        if let Some(value) = probe.sample(key.sample)? {
+            set(probe.alloc, &mut filled, key.name, value)?;
+        }
+    }
+    let mut needed = Vec::new(probe.alloc);
+    for key in absent.iter().rev() {
+        let mut trial = filled.clone()?;
+        trial.remove(key.name);
+        if is_refused_for(probe, &trial, ScriptKind::MissingKey)? {
+            needed.push(*key)?;
+        } else {
+            filled = trial;
+        }
+    }
+    needed.reverse();
+    Ok(needed)
+}
+
+/// Whether no key is missing once this one is there.
+fn is_enough(probe: &Probe, key: Key) -> Result<bool, AllocError> {
+    let mut trial = probe.table.clone()?;
+    let Some(value) = probe.sample(key.sample)? else {
+        return Ok(false);
+    };
+    set(probe.alloc, &mut trial, key.name, value)?;
+    Ok(!is_refused_for(probe, &trial, ScriptKind::MissingKey)?)
+}
+
+/// Whether the reader refuses the script for this with a table in place of the probe's own.
+pub(crate) fn is_refused_for(
+    probe: &Probe,
+    table: &Table,
+    kind: ScriptKind,
+) -> Result<bool, AllocError> {
+    Ok(probe.fault_with(table)? == Some(kind))
+}

@@ -1,8 +1,0 @@
-use Rattle.std.proofs.Common.{◌≡◌}
-use Rattle.std.specs.String.{string_bytes}
-use Rattle.world_script.specs.Stages.{status_printed}
-use Rattle.world_script.proofs.Printed.{text_of}
-use Rattle.world_script.proofs.stage.Stage.statuses.Given as goal
-
-abbrev pub invariant-loop-id : goal.invariant-loop-id
-invariant-loop-id l = string_bytes l.text ≡ text_of (status_printed l.self.world) l.id

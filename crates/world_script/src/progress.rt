@@ -1,0 +1,25 @@
+//! How far a script is.
+
+/// Is told how far a script is. It has no part in what the script does.
+pub trait Progress {
+    /// So many of all its keys are made.
+    fn keys(&mut self, made: usize, all: usize);
+
+    /// The step of this number begins, of so many.
+    fn step(&mut self, number: u32, all: usize);
+
+    /// The script was run under so many of all its seeds.
+    fn seeds(&mut self, done: u64, all: u64);
+}
+
+/// Nobody is told.
+#[derive(Clone, Copy, Debug)]
+pub struct Unwatched;
+
+impl Progress for Unwatched {
+    fn keys(&mut self, _made: usize, _all: usize) {}
+
+    fn step(&mut self, _number: u32, _all: usize) {}
+
+    fn seeds(&mut self, _done: u64, _all: u64) {}
+}
