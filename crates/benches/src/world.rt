@@ -1,6 +1,7 @@
 //! Scripts. The part runs a script of eleven requests. For `time` it prints what scripts take of the
 //! processor's time against their keys, signatures and openings alone, and what twice as much of each
-//! takes; for `queue` and for `rows` the memory that a script has taken at most.
+//! takes; for `seeds` what a seed of `explore` takes against its signatures; for `queue` and for `rows` the memory that a
+//! script has taken at most.
 
 use anyhow::{Result, anyhow};
 
@@ -8,6 +9,7 @@ mod floor;
 mod memory;
 mod replies;
 mod scripts;
+mod seeds;
 mod times;
 
 /// Runs a script, or does what a word names.
@@ -15,8 +17,9 @@ pub(crate) fn run(rt: &HostRuntime, work: Option<&str>) -> Result<()> {
     match work {
         None => times::print_small(rt),
         Some("time") => times::print_times(rt),
+        Some("seeds") => seeds::print_seeds(rt),
         Some("queue") => memory::print_queue(rt),
         Some("rows") => memory::print_rows(rt),
-        Some(_) => Err(anyhow!("the word behind world is none of time, queue and rows")),
+        Some(_) => Err(anyhow!("the word behind world is none of time, seeds, queue and rows")),
     }
 }

@@ -13,6 +13,7 @@ use clap::{Arg, ArgAction, ArgMatches, Command, value_parser};
 use code_commands::{Profile, asm, disasm, exec, verify};
 use host_script::{Audited, Progress, Unwatched, run_threads};
 use host_types::ClientId;
+use script_hints::keys_help;
 use std::alloc::{AllocError, Global};
 use std::io::{self, Read, Write};
 use std::rt::Files;
@@ -137,8 +138,8 @@ pub(crate) fn report<O: Write>(failure: &Failure, writer: &mut O) -> u8
     }
 }
 
-/// The commands and their options.
-pub(crate) fn command_line<'a>(alloc: Global) -> Result<Command<'a>, AllocError> {
+/// The commands and their options; the help of `world` ends with these keys of scripts.
+pub(crate) fn command_line<'a>(alloc: Global, keys: &'a str) -> Result<Command<'a>, AllocError> {
     Command::new(alloc, "bpf_host")
         .about("Runs BPF procedures, alone or on replicas, read on standard input")
         .version(VERSION)
@@ -150,7 +151,7 @@ pub(crate) fn command_line<'a>(alloc: Global) -> Result<Command<'a>, AllocError>
         .subcommand(verify_command(alloc)?)?
         .subcommand(exec_command(alloc)?)?
         .subcommand(check_command(alloc)?)?
-        .subcommand(world_command(alloc)?)?
+        .subcommand(world_command(alloc, keys)?)?
         .subcommand(explore_command(alloc)?)?
         .subcommand(Command::new(alloc, "run").about(
             "Runs a script of requests and timeouts on replicas in threads",
@@ -228,7 +229,8 @@ fn dispatch<
     writer: &mut O,
     progress: &mut P,
 ) -> Result<(), Failure> {
-    let Some(matches) = parsed(rt.alloc(), words, writer)? else {
+    let keys = keys_help(rt.alloc())?;
+    let Some(matches) = parsed(rt.alloc(), words, keys.as_str(), writer)? else {
         return Ok(());
     };
     match matches.subcommand() {
@@ -243,7 +245,8 @@ fn dispatch_in_folder<
     I: Read,
     O: Write,
 >(rt: &R, words: &'a [&'a str], reader: &mut I, writer: &mut O) -> Result<(), Failure> {
-    let Some(matches) = parsed(rt.alloc(), words, writer)? else {
+    let keys = keys_help(rt.alloc())?;
+    let Some(matches) = parsed(rt.alloc(), words, keys.as_str(), writer)? else {
         return Ok(());
     };
     match matches.subcommand() {
@@ -257,9 +260,10 @@ fn dispatch_in_folder<
 fn parsed<'a, O: Write>(
     alloc: Global,
     words: &'a [&'a str],
+    keys: &'a str,
     writer: &mut O,
 ) -> Result<Option<ArgMatches<'a>>, Failure> {
-    match command_line(alloc)?.try_get_matches_from(words) {
+    match command_line(alloc, keys)?.try_get_matches_from(words) {
         Ok(matches) => Ok(Some(matches)),
         Err(error) if error.kind() == ErrorKind::DisplayVersion => {
             write!(writer, "{error}")?;

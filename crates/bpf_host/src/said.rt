@@ -35,7 +35,7 @@ fn why<'a, R: Files + AllocGlobal>(
     if let Some(sentence) = of_the_system(alloc, failure)? {
         return Ok(Some(sentence));
     }
-    let matches = command_line(alloc)?.try_get_matches_from(words)?;
+    let matches = command_line(alloc, "")?.try_get_matches_from(words)?;
     match (failure, input) {
         (Failure::Script(fault), _) => of_script(rt, &matches, *fault, input),
         (Failure::Code(failure), Some(input)) => of_code(alloc, &matches, failure, input),

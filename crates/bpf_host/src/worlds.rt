@@ -16,43 +16,8 @@ use world_trace::{
 /// The first number that is no seed.
 const SEEDS_END: u64 = 1 << 63;
 
-/// What `help world` says below the options: the keys of a script. docs/SCRIPTS.md says what each means.
-const STEPS: &str = "\
-A script is a TOML document: a head, clients, steps (docs/SCRIPTS.md).
-
-Head:
-  f = 1 to 3, k = 1 to 8, secret = 64 hex digits: needed
-  heights, bottom, spent = a number for each replica; client_height, client_bottom = a number
-  faulty = a list of replicas
-
-[[client]]
-  id = 16 or more, tenant = a number: needed
-
-[[step]]
-  do = \"request\"   client; install = hex, or asm = text, or call = a procedure with args = hex; to
-  do = \"deliver\"   from, to, kinds, order = a seed
-  do = \"drop\"      from, to, kinds
-  do = \"repeat\"    from, to, kinds
-  do = \"queue\"     from, to, kinds
-  do = \"mangle\"    from, to, kinds; cut = bytes, or flip = places
-  do = \"timeout\"   at = a list of replicas
-  do = \"forge\"     from = a faulty replica, to, kind; of pre-prepare, prepare, commit view, number, and
-                   client and time, or null = true; of checkpoint number, digest; of view-change view
-  do = \"raw\"       to; bytes = hex, or message = a name with cut = bytes, or flip = places
-  do = \"show\"
-  do = \"digest\"
-  do = \"state\"     at = a replica
-  do = \"upgrade\"   bytes = hex
-  do = \"expect\"    lines = a list of lines, or a text
-  do = \"audit\"
-
-as = a name, in a step that queues or in queue: its first message, for a later raw.
-
-from, to and kinds are lists; left out, they match all. Kinds: request, pre-prepare, prepare, commit, reply,
-checkpoint, view-change, new-view, fetch, snapshot.";
-
-/// `world` and its options.
-pub(crate) fn world_command<'a>(alloc: Global) -> Result<Command<'a>, AllocError> {
+/// `world` and its options; its help ends with these keys of scripts.
+pub(crate) fn world_command<'a>(alloc: Global, keys: &'a str) -> Result<Command<'a>, AllocError> {
     let trace = Arg::new(alloc, "trace")
         .long("trace")
         .action(ArgAction::SetTrue)
@@ -66,7 +31,7 @@ pub(crate) fn world_command<'a>(alloc: Global) -> Result<Command<'a>, AllocError
         .help("what happened as a chart of messages, in place of the lines [default: mermaid]");
     Command::new(alloc, "world")
         .about("Runs a script of replicas, some of them faulty")
-        .after_help(STEPS)
+        .after_help(keys)
         .arg(trace)?
         .arg(chart)
 }

@@ -4,7 +4,8 @@ use Rattle.std.specs.Prelude.{◌&&◌}
 use Rattle.std.specs.List.{list_all, range_with_len}
 use Rattle.std.proofs.lemmas.Bool.{cases_lt, leb-true}
 use Rattle.std.proofs.lemmas.Option.{slice_get_past}
-use Rattle.script_text.specs.KeyShapes.{KeyLists, can_be_spent, count_of, entry_at, given_or, has_leaves, leaves_of, shape_at}
+use Rattle.script_text.specs.declared.replica_keys.KeyLists.{KeyLists}
+use Rattle.script_text.specs.KeyShapes.{can_be_spent, count_of, entry_at, given_or, has_leaves, leaves_of, shape_at}
 
 both_first : (a b : Bool) → (a && b) ≡ true → a ≡ true
 both_first true b h = refl

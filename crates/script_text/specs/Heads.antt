@@ -1,6 +1,6 @@
 -- Statement: the head of a script: who takes part.
-use Rattle.std.specs.Prelude.{◌≡◌, codes, ℕ, ℤ, pos, negsuc, ◌==◌, nat_lt, List, [], ◌∷◌, map, replicate, Option, Some, None, is_none, option_and_then, Result, Ok, Err, if◌then◌else◌}
-use Rattle.toml.specs.Data.{Data, Members, as_integer, get_member}
+use Rattle.std.specs.Prelude.{◌≡◌, codes, ℕ, ℤ, pos, negsuc, ◌==◌, nat_lt, List, [], ◌∷◌, ◌++◌, map, replicate, Option, Some, None, is_none, option_and_then, Result, Ok, Err, if◌then◌else◌}
+use Rattle.toml.specs.Data.{Members, as_integer, get_member}
 use Rattle.host_types.specs.Configuration.{Configuration, fault_of, replicas_for}
 use Rattle.host_types.specs.declared.ReplicaId.{ReplicaId}
 use Rattle.host_types.specs.declared.config.ClientEntry.{ClientEntry}
@@ -9,14 +9,15 @@ use Rattle.host_types.specs.declared.key.PublicKey.TheVariants.{Lms}
 use Rattle.lms_tree.specs.declared.Height.{Height}
 use Rattle.lms_tree.specs.declared.Height.TheVariants.{H5}
 use Rattle.script_text.specs.declared.fault.TableFault.{TableFault}
-use Rattle.script_text.specs.declared.fault.TableFault.TheVariants.{BadConfig, WrongValue}
+use Rattle.script_text.specs.declared.fault.TableFault.TheVariants.{BadConfig}
 use Rattle.script_text.specs.declared.head.Needed.{Needed}
 use Rattle.script_text.specs.declared.head.Optional.{Optional}
 use Rattle.script_text.specs.declared.script.Client.{Client}
+use Rattle.script_text.specs.declared.replica_keys.KeyLists.{KeyLists}
 use Rattle.script_text.specs.declared.replica_keys.KeyShape.{KeyShape}
 use Rattle.script_text.specs.declared.script.Secret.{Secret}
-use Rattle.script_text.specs.KeyShapes.{KeyLists, can_be_spent, given_or}
-use Rattle.script_text.specs.Forms.{any_table, bottom, pair_of, client, height, integer, list_of, needed_key, only_keys, optional_key, per_replica, replica, secret, up_to}
+use Rattle.script_text.specs.KeyShapes.{given_or, key_lists, keys_in, unspent}
+use Rattle.script_text.specs.Forms.{any_table, bottom, pair_of, client, height, integer, list_of, needed_key, only_keys, optional_key, replica, secret}
 
 -- What a contract sees of a head.
 pub record HeadFacts : Type 0 where
@@ -50,7 +51,7 @@ IsLegal f k clients = fault_of (keyless_configuration f k clients) ≡ None
 
 -- how the key of each client is made: no leaf of it is used
 abbrev pub client_shape : HeadFacts → KeyShape
-client_shape h = record { height = h.client_height; bottom = h.client_bottom; spent = 0 }
+client_shape h = unspent h.client_height h.client_bottom
 
 -- ---- what is read
 
@@ -81,23 +82,6 @@ replica_count (negsuc n) = None
 abbrev pub named_count : Members → Option ℕ
 named_count members = option_and_then replica_count (option_and_then as_integer (get_member (codes "f") members))
 
--- a list has an entry for each replica
-abbrev pub optional_list : {A : Type 0} → (Data → Result A TableFault) → List ℕ → Members → Result (Option (List A)) TableFault
-optional_list form key members = optional_key (per_replica (named_count members) form) key members
-
--- what is said of the replicas' keys, if they have the leaves that are used
-abbrev pub if_spendable : KeyLists → Result KeyLists TableFault
-if_spendable keys = if can_be_spent keys then Ok keys else Err WrongValue
-
-abbrev pub keys_from : Result (Option (List Height) × (Option (List (Option Height)) × Option (List ℕ))) TableFault → Result KeyLists TableFault
-keys_from (Ok r) = if_spendable (record { heights = r.0; bottoms = r.1.0; spent = r.1.1 })
-keys_from (Err fault) = Err fault
-
-abbrev pub keys_in : Members → Result KeyLists TableFault
-keys_in members =
-    keys_from (pair_of (optional_list height (codes "heights") members)
-    (pair_of (optional_list bottom (codes "bottom") members) (optional_list (up_to 2048) (codes "spent") members)))
-
 -- the heights of a client's key: one tree of height 5 where nothing is given
 abbrev pub client_heights_from : Result (Option Height × Option (Option Height)) TableFault → Result (Height × Option Height) TableFault
 client_heights_from (Ok r) = Ok (given_or r.0 H5, given_or r.1 None)
@@ -119,7 +103,7 @@ optional_from (Ok r) = Ok (record { keys = r.0; client_height = r.1.0.0; client_
 optional_from (Err fault) = Err fault
 
 abbrev pub optional_head : Members → Result Optional TableFault
-optional_head members = optional_from (pair_of (keys_in members) (pair_of (client_heights_in members) (optional_faulty members)))
+optional_head members = optional_from (pair_of (keys_in (named_count members) members) (pair_of (client_heights_in members) (optional_faulty members)))
 
 abbrev pub head_of : ℕ → ℕ → Secret → Optional → Option (List Client) → HeadFacts
 head_of f k secret o clients = record {
@@ -152,8 +136,8 @@ head_read (Err fault) = Err fault
 
 abbrev pub head_keys : List (List ℕ)
 head_keys =
-    codes "f" ∷ codes "k" ∷ codes "secret" ∷ codes "heights" ∷ codes "bottom" ∷ codes "spent" ∷ codes "client_height" ∷ codes "client_bottom"
-    ∷ codes "faulty" ∷ codes "client" ∷ codes "step" ∷ []
+    (codes "f" ∷ codes "k" ∷ codes "secret" ∷ codes "client_height" ∷ codes "client_bottom" ∷ codes "faulty" ∷ codes "client" ∷ codes "step" ∷ [])
+    ++ key_lists
 
 -- the head of a document
 abbrev pub head_in : Members → Result HeadFacts TableFault

@@ -4,6 +4,7 @@ pub mod KeyShapes
 pub mod Heads
 pub mod Kinds
 pub mod Naming
+pub mod Nodes
 pub mod Scripts
 pub mod Steps
 pub mod Dialects

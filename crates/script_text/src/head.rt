@@ -1,22 +1,23 @@
 //! The head of a script, and its keys.
 
-ghost use Rattle.std.specs.Prelude.{◌≡◌, ◌≤◌, IfOk, is_none, map, replicate};
+ghost use Rattle.std.specs.Prelude.{◌≡◌, ◌≤◌, IfOk, Result, is_none, map, replicate};
 ghost use Rattle.host_types.specs.Configuration.{fault_of, replicas_for};
 ghost use Rattle.toml.specs.Data.{as_array};
 ghost use Rattle.toml.specs.View.{table_view, view};
 ghost use Rattle.script_text.specs.Dialects.{has_item, head_for, names_faulty};
+ghost use Rattle.script_text.specs.declared.fault.TableFault.{TableFault};
 ghost use Rattle.script_text.specs.Faults.{IsUnlessMemory};
-ghost use Rattle.script_text.specs.Heads.{IsLegal, byte_of, client_heights_in, client_shape, count_of_faulty, head_from, head_in, head_of, if_legal, keys_in, keyless, keyless_configuration, listed_clients, named_count, needed_head, no_key, optional_faulty, optional_head, optional_list, replica_count};
+ghost use Rattle.script_text.specs.Forms.{only_keys};
+ghost use Rattle.script_text.specs.Heads.{IsLegal, byte_of, client_heights_in, client_shape, count_of_faulty, head_from, head_in, head_keys, head_of, if_legal, keyless, keyless_configuration, listed_clients, named_count, needed_head, no_key, optional_faulty, optional_head, replica_count};
 ghost use Rattle.script_text.specs.KeyShapes.{given_or, leaves_of, shape_at};
 
 use crate::dialect::Dialect;
 use crate::fault::TableFault;
 use crate::form::{Form, needed, optional, pair, unknown_where, value_at, with_only, wrong_where};
-use crate::replica_keys::{KeyShape, ReplicaKeys};
+use crate::replica_keys::{KEY_LISTS, KeyShape, ReplicaKeys, read_keys};
 use crate::script::{Client, Secret};
 use crate::values::{
-    AnyTable, BottomHeight, Integer, KeyHeight, ListOf, PerReplica, ReplicaIndex, SecretDigits,
-    SpentLeaves, Word, table_of,
+    AnyTable, BottomHeight, Integer, KeyHeight, ListOf, ReplicaIndex, SecretDigits, Word, table_of,
 };
 use host_types::limits::MAX_FAULTY;
 use host_types::{ClientEntry, ClientId, Config, PublicKey, ReplicaId, TenantId};
@@ -26,14 +27,11 @@ use std::alloc::{AllocError, Global};
 use std::marker::Model;
 use toml::{Table, Value};
 
-/// The keys of a head.
-const HEAD_KEYS: [&str; 11] = [
+/// The keys of a head, but for the lists of the replicas' keys.
+const OWN_KEYS: [&str; 8] = [
     "f",
     "k",
     "secret",
-    "heights",
-    "bottom",
-    "spent",
     "client_height",
     "client_bottom",
     "faulty",
@@ -41,8 +39,25 @@ const HEAD_KEYS: [&str; 11] = [
     "step",
 ];
 
+/// What the keys of a head take, but for the lists of the replicas' keys. A line for each key: where it stands, the key, a
+/// value that it takes, as TOML or as a word for one of the script's own, and what it takes in words.
+pub const HEAD_HINTS: &str = r#"head | f | 1 | 1, 2 or 3
+head | k | 8 | a number from 1 to 8
+head | secret | "0000000000000000000000000000000000000000000000000000000000000000" | 64 hex digits, without blanks
+head | client_height | 5 | 5 or 10
+head | client_bottom | 0 | 0, 5 or 10
+head | faulty | [] | a list of ids of replicas, from 0 to 3f; under run no replica is faulty
+head | client | [] | tables, each of a client
+head | step | [] | tables, each of a step
+"#;
+
 /// The keys of a client.
 const CLIENT_KEYS: [&str; 2] = ["id", "tenant"];
+
+/// What the keys of a client take, likewise.
+pub const CLIENT_HINTS: &str = r#"client | id | 65536 | a number from 16 to 4,294,967,295
+client | tenant | 0 | a number from 0 to 4,294,967,295
+"#;
 
 /// A key that no signature verifies under.
 const NO_KEY: PublicKey = PublicKey::Lms([0; 56]);
@@ -112,11 +127,7 @@ impl Head {
     pub fn client_key(&self) -> KeyShape
         ensures { result ≡ client_shape self.now }
     {
-        KeyShape {
-            height: self.client_height,
-            bottom: self.client_bottom,
-            spent: 0,
-        }
+        KeyShape::unspent(self.client_height, self.client_bottom)
     }
 
     /// The faulty replicas, as they are listed.
@@ -193,8 +204,30 @@ fn read_any_head(alloc: Global, table: &Table) -> Result<Head, TableFault>
         read_needed(alloc, table),
         pair(read_optional(alloc, table), read_lists(alloc, table)),
     );
-    let (needed, (optional, clients)) = with_only(named, table, &HEAD_KEYS)?;
+    let (needed, (optional, clients)) = with_head_keys(alloc, named, table)?;
     head_from(alloc, needed, optional, clients)
+}
+
+/// A reading of a head that has no other keys than those of a head.
+fn with_head_keys<A: Drop>(
+    alloc: Global,
+    reading: Result<A, TableFault>,
+    table: &Table,
+) -> Result<A, TableFault>
+    ensures { (a : Result A TableFault) → IsUnlessMemory reading a → IsUnlessMemory result (only_keys a head_keys (table_view table.now)) }
+{
+    let keys = head_keys(alloc)?;
+    with_only(reading, table, &keys)
+}
+
+/// All keys of a head.
+fn head_keys(alloc: Global) -> Result<Vec<&'static str>, AllocError>
+    ensures { IfOk result (λ keys. map (λ k. k.now) keys.items ≡ head_keys) }
+{
+    let mut keys = Vec::new(alloc);
+    keys.extend_from_slice(&OWN_KEYS)?;
+    keys.extend_from_slice(&KEY_LISTS)?;
+    Ok(keys)
 }
 
 /// The head of these values, or `BadConfig`.
@@ -288,7 +321,7 @@ fn read_optional(alloc: Global, table: &Table) -> Result<Optional, TableFault>
     ensures { IsUnlessMemory result (optional_head (table_view table.now)) }
 {
     let (keys, ((client_height, client_bottom), faulty)) = pair(
-        read_keys(alloc, table),
+        read_keys(alloc, named_count(table), table),
         pair(read_client_heights(alloc, table), read_faulty(alloc, table)),
     )?;
     Ok(Optional {
@@ -297,36 +330,6 @@ fn read_optional(alloc: Global, table: &Table) -> Result<Optional, TableFault>
         client_bottom,
         faulty,
     })
-}
-
-/// How the replicas' keys are made.
-fn read_keys(alloc: Global, table: &Table) -> Result<ReplicaKeys, TableFault>
-    ensures { IsUnlessMemory result (keys_in (table_view table.now)) }
-{
-    let (heights, (bottoms, spent)) = pair(
-        read_list(alloc, table, "heights", KeyHeight),
-        pair(
-            read_list(alloc, table, "bottom", BottomHeight),
-            read_list(alloc, table, "spent", SpentLeaves),
-        ),
-    )?;
-    ReplicaKeys::new(heights, bottoms, spent).ok_or(TableFault::WrongValue)
-}
-
-/// A list with an entry for each replica.
-fn read_list<F: Form + Copy>(
-    alloc: Global,
-    table: &Table,
-    key: &str,
-    form: F,
-) -> Result<Option<Sequence<F::Says>>, TableFault>
-    ensures { IsUnlessMemory result (optional_list (F.reads form) key.now (table_view table.now)) }
-{
-    let form = PerReplica {
-        count: named_count(table),
-        form,
-    };
-    optional(alloc, table, key, &form)
 }
 
 /// The heights of the clients' keys.

@@ -26,10 +26,12 @@ mod values;
 pub use dialect::Dialect;
 pub use document::{MAX_SCRIPT, read_script, read_thread_script};
 pub use fault::{ScriptFault, ScriptKind};
-pub use head::Head;
+pub use head::{CLIENT_HINTS, HEAD_HINTS, Head};
 pub use kind::Kind;
-pub use replica_keys::KeyShape;
+pub use replica_keys::{KEY_LIST_HINTS, KeyShape};
 pub use script::{
     Client, Damage, Filter, ForgedMessage, ForgedVote, Forgery, MessageName, NamedStep, Node,
     Number, Operation, Order, Payload, Printout, QueueEdit, Script, ScriptBytes, Secret, Step,
+    node_text,
 };
+pub use step_keys::{STEP_FORMS, STEP_HINTS};

@@ -1,13 +1,29 @@
 //! How the keys of a script's replicas and clients are made.
 
-ghost use Rattle.std.specs.Prelude.{◌≡◌, ◌≤◌, ℕ, false, MatchOption};
-ghost use Rattle.std.specs.List.{list_all, range_with_len};
-ghost use Rattle.script_text.specs.KeyShapes.{KeyLists, can_be_spent, count_of, entry_at, has_leaves, leaves_of, shape_at};
+ghost use Rattle.std.specs.Prelude.{◌≡◌};
+ghost use Rattle.toml.specs.View.{table_view};
+ghost use Rattle.script_text.specs.Faults.{IsUnlessMemory};
+ghost use Rattle.script_text.specs.KeyShapes.{entry_at, keys_in, optional_list};
 
+use crate::fault::TableFault;
+use crate::form::{Form, optional, pair};
+use crate::values::{BottomHeight, KeyHeight, PerReplica, SpentLeaves};
 use host_types::ReplicaId;
 use lms_tree::Height;
 use pbft_codec::Sequence;
+use std::alloc::Global;
 use std::marker::Model;
+use toml::Table;
+
+/// The keys of a head that are lists with an entry for each replica.
+pub(crate) const KEY_LISTS: [&str; 3] = ["heights", "bottom", "spent"];
+
+/// What they take, in lines as those of `HEAD_HINTS`.
+pub const KEY_LIST_HINTS: &str =
+    r#"head | heights | FIVES | a list with 5 or 10 for each of the 3f + 1 replicas
+head | bottom | ZEROS | a list with 0, 5 or 10 for each of the 3f + 1 replicas
+head | spent | ZEROS | a list with a number for each of the 3f + 1 replicas, at most 2,048 and no more than its key has leaves
+"#;
 
 /// How a key is made: of one tree, or of two levels, and how many of its leaves are used before the first step.
 #[derive(Clone, Copy, Debug, PartialEq, Eq)]
@@ -21,7 +37,18 @@ pub struct KeyShape {
 
 impl KeyShape {
     ghost use Rattle.std.specs.Prelude.{◌≡◌};
-    ghost use Rattle.script_text.specs.KeyShapes.{has_leaves, leaves_of};
+    ghost use Rattle.script_text.specs.KeyShapes.{has_leaves, leaves_of, unspent};
+
+    /// A key with no leaf used.
+    pub(crate) fn unspent(height: Height, bottom: Option<Height>) -> KeyShape
+        ensures { result ≡ unspent height bottom }
+    {
+        KeyShape {
+            height,
+            bottom,
+            spent: 0,
+        }
+    }
 
     /// How many signatures the key gives in all.
     pub fn leaves(&self) -> u32
@@ -45,42 +72,73 @@ impl KeyShape {
     }
 }
 
-/// What a head says of the replicas' keys, an entry for each replica where it is given. No key has more leaves
-/// used than it has.
+/// What a head says of the replicas' keys, an entry for each replica where it is given.
 #[derive(Drop)]
-pub(crate) struct ReplicaKeys {
+struct KeyLists {
     heights: Option<Sequence<Height>>,
     bottoms: Option<Sequence<Option<Height>>>,
     spent: Option<Sequence<u32>>,
 }
 
+impl KeyLists {
+    ghost use Rattle.std.specs.Prelude.{◌≡◌};
+    ghost use Rattle.script_text.specs.KeyShapes.{can_be_spent, shape_at};
+
+    /// A replica's key: of one tree of height 5 where nothing is given, with no leaf used.
+    fn shape(&self, id: usize) -> KeyShape
+        ensures { result ≡ shape_at self.now id }
+    {
+        KeyShape {
+            height: entry_at(&self.heights, id, Height::H5),
+            bottom: entry_at(&self.bottoms, id, None),
+            spent: entry_at(&self.spent, id, 0),
+        }
+    }
+
+    /// Whether no key has more leaves used than it has.
+    fn can_be_spent(&self) -> bool
+        ensures { result ≡ can_be_spent self.now }
+    {
+        let Some(entries) = &self.spent else {
+            return true;
+        };
+        for id in 0..entries.as_slice().len() {
+            if !self.shape(id).has_leaves() {
+                return false;
+            }
+        }
+        true
+    }
+}
+
+/// What a head says of the replicas' keys, of which none has more leaves used than it has.
+#[derive(Drop)]
+pub(crate) struct ReplicaKeys {
+    lists: KeyLists,
+}
+
 impl Model for ReplicaKeys {
     ghost use Rattle.std.specs.Prelude.{◌≡◌, true};
-    ghost use Rattle.script_text.specs.KeyShapes.{KeyLists, can_be_spent};
+    ghost use Rattle.script_text.specs.declared.replica_keys.KeyLists.{KeyLists};
+    ghost use Rattle.script_text.specs.KeyShapes.{can_be_spent};
 
     ghost Value = { KeyLists };
 
-    ghost view = { λ k. record { heights = k.heights; bottoms = k.bottoms; spent = k.spent } };
+    ghost view = { λ k. k.lists };
 
-    ghost invariant = { λ k. can_be_spent (record { heights = k.heights; bottoms = k.bottoms; spent = k.spent }) ≡ true };
+    ghost invariant = { λ k. can_be_spent k.lists ≡ true };
 }
 
 impl ReplicaKeys {
+    ghost use Rattle.std.specs.Prelude.{◌≡◌, ◌≤◌, MatchOption, false};
+    ghost use Rattle.script_text.specs.KeyShapes.{can_be_spent, leaves_of, shape_at};
+
     /// The keys of these lists; none where more leaves are used than a key has.
-    pub(crate) fn new(
-        heights: Option<Sequence<Height>>,
-        bottoms: Option<Sequence<Option<Height>>>,
-        spent: Option<Sequence<u32>>,
-    ) -> Option<ReplicaKeys>
-        ensures { let lists : KeyLists = record { heights = heights; bottoms = bottoms; spent = spent } in
-            MatchOption result (can_be_spent lists ≡ false) (λ keys. keys ≡ lists) }
+    fn new(lists: KeyLists) -> Option<ReplicaKeys>
+        ensures { MatchOption result (can_be_spent lists ≡ false) (λ keys. keys ≡ lists) }
     {
-        if can_be_spent(&heights, &bottoms, &spent) {
-            Some(ReplicaKeys {
-                heights,
-                bottoms,
-                spent,
-            })
+        if lists.can_be_spent() {
+            Some(ReplicaKeys { lists })
         } else {
             None
         }
@@ -91,43 +149,45 @@ impl ReplicaKeys {
         ensures value { result ≡ shape_at self.now id.0 }
         ensures spendable { result.spent ≤ leaves_of result }
     {
-        shape_at(&self.heights, &self.bottoms, &self.spent, usize::from(id.0))
+        self.lists.shape(usize::from(id.0))
     }
 }
 
-/// Whether no key has more leaves used than it has.
-fn can_be_spent(
-    heights: &Option<Sequence<Height>>,
-    bottoms: &Option<Sequence<Option<Height>>>,
-    spent: &Option<Sequence<u32>>,
-) -> bool
-    ensures { result ≡ can_be_spent (record { heights = heights.now; bottoms = bottoms.now; spent = spent.now }) }
+/// How the replicas' keys are made. Each list has an entry for each of so many replicas, where their number is known.
+pub(crate) fn read_keys(
+    alloc: Global,
+    count: Option<u8>,
+    table: &Table,
+) -> Result<ReplicaKeys, TableFault>
+    ensures { IsUnlessMemory result (keys_in count (table_view table.now)) }
 {
-    let Some(entries) = spent else {
-        return true;
+    let (heights, (bottoms, spent)) = pair(
+        read_list(alloc, table, "heights", count, KeyHeight),
+        pair(
+            read_list(alloc, table, "bottom", count, BottomHeight),
+            read_list(alloc, table, "spent", count, SpentLeaves),
+        ),
+    )?;
+    let lists = KeyLists {
+        heights,
+        bottoms,
+        spent,
     };
-    for id in 0..entries.as_slice().len() {
-        if !shape_at(heights, bottoms, spent, id).has_leaves() {
-            return false;
-        }
-    }
-    true
+    ReplicaKeys::new(lists).ok_or(TableFault::WrongValue)
 }
 
-/// A replica's key: of one tree of height 5 where nothing is given, with no leaf used.
-fn shape_at(
-    heights: &Option<Sequence<Height>>,
-    bottoms: &Option<Sequence<Option<Height>>>,
-    spent: &Option<Sequence<u32>>,
-    id: usize,
-) -> KeyShape
-    ensures { result ≡ shape_at (record { heights = heights.now; bottoms = bottoms.now; spent = spent.now }) id }
+/// A list with an entry for each replica.
+fn read_list<F: Form + Copy>(
+    alloc: Global,
+    table: &Table,
+    key: &str,
+    count: Option<u8>,
+    form: F,
+) -> Result<Option<Sequence<F::Says>>, TableFault>
+    ensures { IsUnlessMemory result (optional_list (F.reads form) key.now count (table_view table.now)) }
 {
-    KeyShape {
-        height: entry_at(heights, id, Height::H5),
-        bottom: entry_at(bottoms, id, None),
-        spent: entry_at(spent, id, 0),
-    }
+    let form = PerReplica { count, form };
+    optional(alloc, table, key, &form)
 }
 
 /// A replica's entry, or else another.

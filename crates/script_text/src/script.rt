@@ -1,6 +1,7 @@
 //! What a script says.
 
-ghost use Rattle.std.specs.Prelude.{◌≡◌, ◌≤◌, ◌<◌, ◌^◌, IfOk, length};
+ghost use Rattle.std.specs.Prelude.{◌≡◌, ◌≤◌, ◌<◌, ◌^◌, IfOk, length, string_bytes};
+ghost use Rattle.script_text.specs.Nodes.{node_text};
 
 use crate::head::Head;
 use crate::kind::Kind;
@@ -33,6 +34,23 @@ pub struct Client {
 pub enum Node {
     Replica(ReplicaId),
     Client(ClientId),
+}
+
+/// How a node is named in a line: by its id, or by a dash where there is none. The error is that memory ran out.
+pub fn node_text(alloc: Global, node: Option<Node>) -> Result<String, AllocError>
+    ensures { IfOk result (λ text. string_bytes text ≡ node_text node) }
+{
+    match node {
+        Some(Node::Replica(id)) => {
+            let id = id.0;
+            format!(in alloc; "{id}")
+        }
+        Some(Node::Client(id)) => {
+            let id = id.0;
+            format!(in alloc; "{id}")
+        }
+        None => String::from_str(alloc, "-"),
+    }
 }
 
 /// Which messages of the queue are meant. A list that is left out matches every message.

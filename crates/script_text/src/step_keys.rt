@@ -63,6 +63,56 @@ const UPGRADE_KEYS: [&str; 2] = ["do", "bytes"];
 
 const EXPECT_KEYS: [&str; 2] = ["do", "lines"];
 
+/// The keys of each step, as `help world` lists them.
+pub const STEP_FORMS: &str =
+    r#"  do = "request"   client; install = hex, or asm = text, or call = a procedure with args = hex; to
+  do = "deliver"   from, to, kinds, order = a seed
+  do = "drop"      from, to, kinds
+  do = "repeat"    from, to, kinds
+  do = "queue"     from, to, kinds
+  do = "mangle"    from, to, kinds; cut = bytes, or flip = places
+  do = "timeout"   at = a list of replicas
+  do = "forge"     from = a faulty replica, to, kind; of pre-prepare, prepare, commit view, number, and
+                   client and time, or null = true; of checkpoint number, digest; of view-change view
+  do = "raw"       to; bytes = hex, or message = a name with cut = bytes, or flip = places
+  do = "show"
+  do = "digest"
+  do = "state"     at = a replica
+  do = "upgrade"   bytes = hex
+  do = "expect"    lines = a list of lines, or a text
+  do = "audit"
+"#;
+
+/// What the keys of steps take, in lines as those of `HEAD_HINTS`: of one step, by its name, or of all others that have the
+/// key, by `step`.
+pub const STEP_HINTS: &str = r#"step | client | CLIENT | the id of a client of the script
+step | install | "" | code as hex digits
+step | asm | "exit" | an assembler text
+step | call | 0 | a number from 0 to 4,294,967,295
+step | args | "" | bytes as hex digits
+forge | from | FAULTY | the id of a faulty replica
+forge | to | [] | a list of ids of replicas and clients
+step | from | [] | a list of ids of replicas and clients
+step | to | [] | a list of ids of replicas and clients
+step | kinds | [] | a list of kinds of messages: request, pre-prepare, prepare, commit, reply, checkpoint, view-change, new-view, fetch, snapshot
+step | order | 0 | a number from 0 to 9,223,372,036,854,775,807
+step | cut | 0 | a number from 0 to 9,223,372,036,854,775,807
+step | flip | 0 | a number from 0 to 9,223,372,036,854,775,807
+state | at | 0 | the id of a replica
+step | at | [] | a list of ids of replicas
+step | kind | "prepare" | pre-prepare, prepare, commit, checkpoint or view-change
+step | view | 0 | a number from 0 to 4,294,967,295
+step | number | 0 | a number from 0 to 281,474,976,710,655
+step | time | 0 | a number from 0 to 9,223,372,036,854,775,807
+step | null | true | true
+step | digest | "0000000000000000000000000000000000000000000000000000000000000000" | 64 hex digits, without blanks
+step | bytes | "" | bytes as hex digits
+step | message | NAME | a name that an earlier step gives with as
+step | as | "a name that no step of a script gives" | a name that no earlier step gives
+step | lines | [] | a list of lines, or a text
+step | do | STEP | the name of a step; bpf_host help world lists them, and run has request and timeout alone
+"#;
+
 /// The steps that may name a message: those that queue messages of their own, and `queue`.
 const NAMING_STEPS: [&str; 6] = ["request", "repeat", "queue", "forge", "mangle", "raw"];
 

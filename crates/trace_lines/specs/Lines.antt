@@ -10,9 +10,9 @@ use Rattle.host_types.specs.declared.SeqNo.{SeqNo}
 use Rattle.host_types.specs.declared.View.{View}
 use Rattle.replica_core.specs.Halts as halts
 use Rattle.script_text.specs.Kinds.{kind_text}
+use Rattle.script_text.specs.Nodes.{node_text}
 use Rattle.script_text.specs.declared.kind.Kind.{Kind}
 use Rattle.script_text.specs.declared.script.Node.{Node}
-use Rattle.script_text.specs.declared.script.Node.TheVariants.{Replica, Client}
 use Rattle.seal.specs.Faults as faults
 use Rattle.seal.specs.declared.fault.SealFault.{SealFault}
 use Rattle.seal.specs.declared.vote.VoteKind.{VoteKind}
@@ -29,12 +29,6 @@ use Rattle.trace_lines.specs.declared.saying.Saying.TheVariants as sayings
 -- the first eight digits of a digest
 abbrev pub short : Digest → List ℕ
 short digest = encode_lower (take 4 digest.0)
-
--- a node's id; a dash where there is none
-abbrev pub node_text : Option Node → List ℕ
-node_text None = codes "-"
-node_text (Some (Replica id)) = decimal id.0
-node_text (Some (Client id)) = decimal id.0
 
 abbrev pub vote_name : VoteKind → List ℕ
 vote_name votes.PrePrepare = codes "pre-prepare"

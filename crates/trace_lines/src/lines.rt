@@ -5,10 +5,10 @@ ghost use Rattle.trace_lines.specs.Lines.{at_line, blame_line, fault_words, happ
 
 use crate::happening::{Cause, Happening};
 use crate::saying::Saying;
-use crate::words::{node_text, short, vote_name, words_of};
+use crate::words::{short, vote_name, words_of};
 use blame::{Claim, Topic};
 use host_types::{ReplicaId, SeqNo, View};
-use script_text::{Kind, Node};
+use script_text::{Kind, Node, node_text};
 use seal::SealFault;
 use std::alloc::{AllocError, Global};
 

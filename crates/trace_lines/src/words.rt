@@ -1,11 +1,11 @@
 //! The words of what a message says.
 
 ghost use Rattle.std.specs.Prelude.{◌≡◌, IfOk, string_bytes};
-ghost use Rattle.trace_lines.specs.Lines.{digest_words, node_text, place_words, saying_words, short, state_words, unreadable_words, vote_name};
+ghost use Rattle.trace_lines.specs.Lines.{digest_words, place_words, saying_words, short, state_words, unreadable_words, vote_name};
 
 use crate::saying::Saying;
 use host_types::{Digest, SeqNo, View};
-use script_text::{Kind, Node};
+use script_text::Kind;
 use seal::VoteKind;
 use std::alloc::{AllocError, Global};
 
@@ -14,23 +14,6 @@ pub(crate) fn short(alloc: Global, digest: &Digest) -> Result<String, AllocError
     ensures { IfOk result (λ text. string_bytes text ≡ short digest.now) }
 {
     hex::encode(alloc, &digest.0[..4])
-}
-
-/// A node's id; a dash where there is none.
-pub(crate) fn node_text(alloc: Global, node: Option<Node>) -> Result<String, AllocError>
-    ensures { IfOk result (λ text. string_bytes text ≡ node_text node) }
-{
-    match node {
-        Some(Node::Replica(id)) => {
-            let id = id.0;
-            format!(in alloc; "{id}")
-        }
-        Some(Node::Client(id)) => {
-            let id = id.0;
-            format!(in alloc; "{id}")
-        }
-        None => String::from_str(alloc, "-"),
-    }
 }
 
 /// The kind of a vote, by its name in a script.

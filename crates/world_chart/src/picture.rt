@@ -126,9 +126,9 @@ fn row_text(alloc: Global, row: &Row, y: usize, width: usize) -> Result<String, 
     match row.shape {
         Shape::Arrow { from, to } => arrow(alloc, words, kind_of(words), x_of(from), x_of(to), y),
         Shape::Cross { from, to } => cross(alloc, words, x_of(from), x_of(to), y),
-        Shape::Note { lane } => note(alloc, words, "note", x_of(lane), y),
-        Shape::Alarm { lane } => note(alloc, words, "alarm", x_of(lane), y),
-        Shape::Fold => note(alloc, words, "note", width / 2, y),
+        Shape::Note { lane } => note(alloc, words, "note", x_of(lane), y, width),
+        Shape::Alarm { lane } => note(alloc, words, "alarm", x_of(lane), y, width),
+        Shape::Fold => note(alloc, words, "note", width / 2, y, width),
         Shape::View { .. } => {
             let x = width / 2;
             format!(in alloc; "<text class=\"view\" x=\"{x}\" y=\"{y}\">{words}</text>\n")
@@ -191,12 +191,21 @@ fn label(
     format!(in alloc; "<text x=\"{x}\" y=\"{above}\">{words}</text>")
 }
 
-/// Words in a box.
-fn note(alloc: Global, words: &str, class: &str, x: usize, y: usize) -> Result<String, AllocError> {
+/// Words in a box round the middle of a lane, or beside it where the picture ends before the box would.
+fn note(
+    alloc: Global,
+    words: &str,
+    class: &str,
+    x: usize,
+    y: usize,
+    picture: usize,
+) -> Result<String, AllocError> {
     let width = words.len().saturating_mul(6).saturating_add(12);
-    let left = x.saturating_sub(width / 2);
+    let rightmost = picture.saturating_sub(width);
+    let left = x.saturating_sub(width / 2).min(rightmost);
+    let middle = left.saturating_add(width / 2);
     let top = y.saturating_sub(13);
     format!(in alloc;
-        "<rect class=\"{class}\" x=\"{left}\" y=\"{top}\" width=\"{width}\" height=\"17\" rx=\"4\"/><text x=\"{x}\" y=\"{y}\">{words}</text>\n"
+        "<rect class=\"{class}\" x=\"{left}\" y=\"{top}\" width=\"{width}\" height=\"17\" rx=\"4\"/><text x=\"{middle}\" y=\"{y}\">{words}</text>\n"
     )
 }

@@ -90,7 +90,8 @@ impl Rows<'_> {
         if many == 0 {
             return Ok(());
         }
-        let words = format!(in self.alloc; "{many} messages")?;
+        let ending = if many == 1 { "" } else { "s" };
+        let words = format!(in self.alloc; "{many} message{ending}")?;
         self.push(Shape::Fold, words)
     }
 

@@ -19,9 +19,8 @@ use Rattle.byz_world.specs.Worlds.{MemberFacts, WorldFacts, member_of}
 use Rattle.byz_world.specs.declared.audit_fault.AuditFault.{AuditFault}
 use Rattle.byz_world.specs.declared.history.Execution.{Execution}
 use Rattle.script_text.specs.Kinds.{kind_text}
+use Rattle.script_text.specs.Nodes.{node_text}
 use Rattle.script_text.specs.declared.kind.Kind.{Kind}
-use Rattle.script_text.specs.declared.script.Node.{Node}
-use Rattle.script_text.specs.declared.script.Node.TheVariants.{Replica, Client}
 use Rattle.script_text.specs.declared.script.Printout.{Printout}
 use Rattle.script_text.specs.declared.script.Printout.TheVariants as printouts
 use Rattle.world_script.specs.declared.stage.printing.ReplicaLine.{ReplicaLine}
@@ -31,12 +30,6 @@ use Rattle.world_script.specs.Letters.{LetterFacts, is_meant}
 use Rattle.world_script.specs.Lines.{IsAuditLine}
 
 -- ---- what `queue` prints
-
--- a node's id; a dash where there is none
-abbrev pub node_text : Option Node → List ℕ
-node_text None = codes "-"
-node_text (Some (Replica id)) = decimal id.0
-node_text (Some (Client id)) = decimal id.0
 
 abbrev pub kind_or_dash : Option Kind → List ℕ
 kind_or_dash None = codes "-"

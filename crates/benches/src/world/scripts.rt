@@ -58,6 +58,17 @@ const REPETITION: &str = "[[step]]\ndo = \"repeat\"\n";
 /// A step that does nothing.
 const NOTHING: &str = "[[step]]\ndo = \"drop\"\nto = []\n";
 
+/// The calls behind an installation, of the script of eleven requests.
+pub(crate) const CALLS: usize = 10;
+
+/// What eleven requests and a checkpoint sign, in whatever order they are delivered. Of a request: itself, a PrePrepare,
+/// three Prepares, four Commits and four Replies. Of a checkpoint: four messages.
+pub(crate) const SIGNED: u32 = 11 * 13 + 4;
+
+/// What they have opened. Of a request: itself four times, the PrePrepare three times, the Prepares nine,
+/// the Commits twelve times, and four Replies. Of a checkpoint: each message three times.
+pub(crate) const OPENED: usize = 11 * 32 + 12;
+
 /// The client installs the procedure, and calls it so many times.
 pub(crate) fn requests(alloc: Global, calls: usize) -> Result<String, AllocError> {
     let mut text = String::from_str(alloc, HIGH_HEAD)?;

@@ -7,25 +7,15 @@ use crate::world::floor::{
 };
 use crate::world::replies::nanoseconds_of_offers;
 use crate::world::scripts::{
-    DELIVERY, VAIN_DELIVERY, followed, nanoseconds_of, output_of, queued, requests, steps,
+    CALLS, DELIVERY, OPENED, SIGNED, VAIN_DELIVERY, followed, nanoseconds_of, output_of, queued,
+    requests, steps,
 };
 use anyhow::{Result, anyhow};
 
 const ROUNDS: u32 = 9;
 
-/// The calls behind an installation.
-const CALLS: usize = 10;
-
 /// A script's keys: of four replicas and a client.
 const KEYS: u8 = 5;
-
-/// What eleven requests and a checkpoint sign. Of a request: itself, a PrePrepare, three Prepares, four
-/// Commits and four Replies. Of a checkpoint: four messages.
-const SIGNED: u32 = 11 * 13 + 4;
-
-/// What they have opened. Of a request: itself four times, the PrePrepare three times, the Prepares nine,
-/// the Commits twelve times, and four Replies. Of a checkpoint: each message three times.
-const OPENED: usize = 11 * 32 + 12;
 
 /// What the requests' script may cost of its keys and signatures.
 const WHOLE: Limit = Limit::Thousandths(1250);

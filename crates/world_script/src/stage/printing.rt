@@ -2,14 +2,14 @@
 
 ghost use Rattle.std.specs.Prelude.{◌≡◌, IfOk, filter as kept, flat_map, string_bytes};
 ghost use Rattle.world_script.specs.Letters.{is_meant};
-ghost use Rattle.world_script.specs.Printing.{Audits, Shows, Upgrades, digest_line, digest_printed, ids_of, kind_or_dash, letter_line, line_printed, no_state_line, node_text, state_line, state_printed, status_line, status_printed, upgraded_line};
+ghost use Rattle.world_script.specs.Printing.{Audits, Shows, Upgrades, digest_line, digest_printed, ids_of, kind_or_dash, letter_line, line_printed, no_state_line, state_line, state_printed, status_line, status_printed, upgraded_line};
 
 use crate::lines::line_of_audit;
 use crate::queue::{Letter, Queue};
 use crate::stage::Stage;
 use host_types::ReplicaId;
 use replica_core::Status;
-use script_text::{Filter, Kind, Node, Printout};
+use script_text::{Filter, Kind, Printout, node_text};
 use service_core::{State, StateFault};
 use std::alloc::{AllocError, Global};
 use std::sync::Arc;
@@ -132,23 +132,6 @@ impl Letter {
         let kind = kind_or_dash(self.kind);
         let bytes = hex::encode(alloc, self.bytes())?;
         format!(in alloc; "queue {from} {to} {kind} {bytes}\n")
-    }
-}
-
-/// A node's id, or a dash where there is none.
-fn node_text(alloc: Global, node: Option<Node>) -> Result<String, AllocError>
-    ensures { IfOk result (λ text. string_bytes text ≡ node_text node) }
-{
-    match node {
-        Some(Node::Replica(id)) => {
-            let id = id.0;
-            format!(in alloc; "{id}")
-        }
-        Some(Node::Client(id)) => {
-            let id = id.0;
-            format!(in alloc; "{id}")
-        }
-        None => String::from_str(alloc, "-"),
     }
 }
 

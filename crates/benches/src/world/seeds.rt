@@ -1,0 +1,70 @@
+//! What a seed of `explore` takes: the keys are made once, and each seed signs and opens anew.
+
+use crate::common::processor_time::ProcessorTime;
+use crate::common::ratio::{Comparison, Limit, require_within_limits};
+use crate::world::floor::{nanoseconds_of_keys, nanoseconds_of_signing, nanoseconds_of_verifying};
+use crate::world::scripts::{CALLS, OPENED, SIGNED, requests};
+use anyhow::{Result, anyhow};
+use world_script::Unwatched;
+use world_trace::{Searched, Seeds, explore_script};
+
+const ROUNDS: u32 = 5;
+
+/// The seeds that are compared with one.
+const SEEDS: u64 = 8;
+
+/// What a seed may cost of its signatures.
+const SEED: Limit = Limit::Thousandths(1250);
+
+/// The processor's time of exploring a script under so many seeds, its keys among it, in nanoseconds.
+fn nanoseconds_of_seeds(rt: &HostRuntime, script: &str, many: u64) -> Result<u128> {
+    let seeds = Seeds {
+        first: 0,
+        end: many,
+    };
+    let mut written = Vec::new(rt.alloc());
+    let mut reader = script.as_bytes();
+    let start = ProcessorTime::now(rt)?;
+    let searched = explore_script(rt.alloc(), seeds, &mut reader, &mut written, &mut Unwatched);
+    let taken = start.nanoseconds(rt)?;
+    match searched {
+        Ok(Searched::Agreed) => Ok(taken),
+        _ => Err(anyhow!("the script doesn't agree under each seed")),
+    }
+}
+
+/// The processor's time of a seed behind the first, in nanoseconds.
+fn least_of_seed(rt: &HostRuntime, script: &str) -> Result<u128> {
+    let mut one = u128::MAX;
+    let mut many = u128::MAX;
+    for _ in 0..ROUNDS {
+        one = one.min(nanoseconds_of_seeds(rt, script, 1)?);
+        many = many.min(nanoseconds_of_seeds(rt, script, SEEDS.saturating_add(1))?);
+    }
+    Ok(many.saturating_sub(one) / u128::from(SEEDS))
+}
+
+/// The least time of as many signatures, made and verified alone, in nanoseconds.
+fn least_of_signatures(rt: &HostRuntime) -> Result<u128> {
+    let (_, mut signer) = nanoseconds_of_keys(rt, 1)?;
+    let mut least = u128::MAX;
+    for _ in 0..ROUNDS {
+        let (signing, signed) = nanoseconds_of_signing(rt, &mut signer, SIGNED)?;
+        let verifying = nanoseconds_of_verifying(rt, &signer.public_key(), &signed, OPENED)?;
+        least = least.min(signing.saturating_add(verifying));
+    }
+    Ok(least)
+}
+
+/// Prints what a seed of eleven requests takes against its signatures; an error where that passes its limit.
+pub(crate) fn print_seeds(rt: &HostRuntime) -> Result<()> {
+    let script = requests(rt.alloc(), CALLS)?;
+    let comparison = Comparison {
+        work: "a seed of 11 requests",
+        taken: least_of_seed(rt, &script)?,
+        other: "its signatures alone",
+        floor: least_of_signatures(rt)?,
+        limit: SEED,
+    };
+    require_within_limits(comparison.print_microseconds(rt)?)
+}
