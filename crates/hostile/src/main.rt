@@ -1,7 +1,9 @@
-//! Drivers of single calls whose allocations are refused, one after another. The first word names a driver; with no word
-//! each does its work once.
+//! Drivers of single calls whose allocations are refused, one after another, and a liar that a correct replica
+//! listens to. The first word names a driver; with no word each does its work once, the liar a little of it.
 //!
 //!     hostile apply
+//!     hostile events < script.toml
+//!     hostile liar 1000000
 //!
 //! A driver sets up what it needs, prints `begin`, makes its one call, and prints what came of it: `memory` where
 //! memory ran out, and then what the refused call has to have kept.
@@ -13,17 +15,32 @@ use std::sync::Wait;
 use std::thread::Threads;
 
 mod common;
+mod events;
+mod liar;
 mod replies;
 mod service;
 mod threads;
 
-/// The drivers, by their words.
-const DRIVERS: [&str; 6] = ["apply", "apply_all", "request", "offer", "take", "start"];
+/// The drivers that need no input, by their words.
+const DRIVERS: [&str; 7] = [
+    "apply",
+    "apply_all",
+    "request",
+    "offer",
+    "take",
+    "start",
+    "liar",
+];
 
 fn main(rt: HostRuntime) -> Result<()> {
-    match env::args(&rt)?.nth(1) {
-        Some(driver) => run(&rt, &rt, driver.as_str()),
-        None => run_all(&rt, &rt),
+    let Some(driver) = env::args(&rt)?.nth(1) else {
+        return run_all(&rt, &rt);
+    };
+    match (driver.as_str(), env::args(&rt)?.nth(2)) {
+        ("events", None) => events::print_read(&rt),
+        ("liar", Some(count)) => liar::print_soak(&rt, count.parse::<u64>()?),
+        (driver, None) => run(&rt, &rt, driver),
+        _ => Err(anyhow!("there is no such driver")),
     }
 }
 
@@ -36,7 +53,8 @@ fn run_all<R: Threads + Wait + Copy + Send + Sync + Drop + 'static>(
         println!(rt; "{driver}")?;
         run(rt, threads, driver)?;
     }
-    Ok(())
+    println!(rt; "events")?;
+    events::print_small(rt)
 }
 
 /// Runs the driver of this name. Threads are made by a handle of their own.
@@ -52,6 +70,7 @@ fn run<R: Threads + Wait + Copy + Send + Sync + Drop + 'static>(
         "offer" => replies::print_offer(rt),
         "take" => threads::print_take(rt, threads),
         "start" => threads::print_start(rt, threads),
+        "liar" => liar::print_small(rt),
         _ => Err(anyhow!("there is no such driver")),
     }
 }

@@ -2,7 +2,7 @@
 
 mod client;
 
-use crate::common::members::{Group, taken};
+use crate::common::members::{Group, INTERVAL, Keys, taken};
 use crate::common::told::{begin, is_kept, memory};
 use crate::replies::client::{Client, reply};
 use anyhow::Result;
@@ -13,7 +13,7 @@ use std::alloc::Global;
 
 /// A client whose first request is open, and the Replies of two replicas to it.
 fn open_request(alloc: Global) -> Result<(Client, Checked, Checked)> {
-    let mut group = Group::new(alloc)?;
+    let mut group = Group::new(alloc, Keys::Few, INTERVAL)?;
     let signer = taken(&mut group.clients, 0)?;
     let mut client = Client::new(alloc, &group.config, signer)?;
     client.request(operation(alloc)?)??;

@@ -4,7 +4,7 @@ mod said;
 mod station;
 
 use crate::common::gate::NoGate;
-use crate::common::members::{Group, taken};
+use crate::common::members::{Group, INTERVAL, Keys, taken};
 use crate::common::told::begin;
 use crate::threads::said::messages;
 use crate::threads::station::take_all;
@@ -22,7 +22,7 @@ const OPENERS: u8 = 1;
 /// A replica at a station takes the message at which it executes two requests of different tenants, replies
 /// to both and gives a Checkpoint.
 pub(crate) fn print_take<R: Threads + Wait + Sync>(rt: &HostRuntime, threads: &R) -> Result<()> {
-    let mut group = Group::new(rt.alloc())?;
+    let mut group = Group::new(rt.alloc(), Keys::Few, INTERVAL)?;
     let messages = messages(rt.alloc(), &mut group)?;
     let signer = taken(&mut group.replicas, 1)?;
     take_all(rt, threads, &group.config, signer, &messages)
@@ -37,7 +37,7 @@ pub(crate) fn print_start<R: Threads + Wait + Copy + Send + Sync + Drop + 'stati
         config,
         replicas,
         clients: _,
-    } = Group::new(rt.alloc())?;
+    } = Group::new(rt.alloc(), Keys::Few, INTERVAL)?;
     let gate = Arc::new(rt.alloc(), NoGate)?;
     begin(rt)?;
     match Host::start(threads, rt.alloc(), &config, replicas, LIMIT, OPENERS, gate) {

@@ -19,7 +19,27 @@ const FIRST_CLIENT: u8 = 16;
 pub(crate) const CLIENT: ClientId = ClientId(FIRST_CLIENT as u32);
 
 /// The numbers from a checkpoint to the next, where little is executed.
-const INTERVAL: u8 = 2;
+pub(crate) const INTERVAL: u8 = 2;
+
+/// How many messages the keys sign.
+#[derive(Clone, Copy, Debug, PartialEq, Eq)]
+pub(crate) enum Keys {
+    /// One tree each: 32.
+    Few,
+    /// Two levels of height 10 each: 1,048,576.
+    Many,
+}
+
+impl Keys {
+    /// The signer with this number, at its first leaf.
+    fn signer(self, alloc: Global, number: u8) -> Result<Signer, AllocError> {
+        let (id, secret) = ([number; 16], [2; 32]);
+        match self {
+            Keys::Few => Signer::from_seed(alloc, Height::H5, id, secret),
+            Keys::Many => Signer::from_seed2(alloc, Height::H10, Height::H10, id, secret),
+        }
+    }
+}
 
 /// The signers of the replicas and of the clients, ids ascending, and the configuration that lists their keys.
 #[derive(Drop)]
@@ -30,11 +50,12 @@ pub(crate) struct Group {
 }
 
 impl Group {
-    /// A group before its first signature. Each call gives the same one; each key signs 32 times.
-    pub(crate) fn new(alloc: Global) -> Result<Group> {
-        let replicas = signers(alloc, 0, REPLICAS)?;
-        let clients = signers(alloc, FIRST_CLIENT, CLIENTS)?;
-        let config = config(alloc, &replicas, &clients)?;
+    /// A group before its first signature, with so many numbers from a checkpoint to the next. Each call with the
+    /// same keys gives the same one.
+    pub(crate) fn new(alloc: Global, keys: Keys, interval: u8) -> Result<Group> {
+        let replicas = signers(alloc, keys, 0, REPLICAS)?;
+        let clients = signers(alloc, keys, FIRST_CLIENT, CLIENTS)?;
+        let config = config(alloc, interval, &replicas, &clients)?;
         Ok(Group {
             config,
             replicas,
@@ -44,11 +65,10 @@ impl Group {
 }
 
 /// So many signers, numbers ascending.
-fn signers(alloc: Global, first: u8, count: u8) -> Result<Vec<Signer>, AllocError> {
+fn signers(alloc: Global, keys: Keys, first: u8, count: u8) -> Result<Vec<Signer>, AllocError> {
     let mut signers = Vec::new(alloc);
     for index in 0..count {
-        let number = first.saturating_add(index);
-        signers.push(Signer::from_seed(alloc, Height::H5, [number; 16], [2; 32])?)?;
+        signers.push(keys.signer(alloc, first.saturating_add(index))?)?;
     }
     Ok(signers)
 }
@@ -63,7 +83,12 @@ pub(crate) fn taken(signers: &mut Vec<Signer>, index: usize) -> Result<Signer> {
 }
 
 /// The configuration that lists these keys.
-fn config(alloc: Global, replicas: &[Signer], clients: &[Signer]) -> Result<Arc<Config>> {
+fn config(
+    alloc: Global,
+    interval: u8,
+    replicas: &[Signer],
+    clients: &[Signer],
+) -> Result<Arc<Config>> {
     let mut keys = Vec::new(alloc);
     for signer in replicas {
         keys.push(signer.public_key())?;
@@ -78,6 +103,6 @@ fn config(alloc: Global, replicas: &[Signer], clients: &[Signer]) -> Result<Arc<
         })?;
         id = id.saturating_add(1);
     }
-    let config = Config::new(1, INTERVAL, keys, entries)?;
+    let config = Config::new(1, interval, keys, entries)?;
     Ok(Arc::new(alloc, config)?)
 }
