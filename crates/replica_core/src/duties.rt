@@ -19,7 +19,7 @@ use view_change::valid_new_view;
 const VIEW_LIMIT: u64 = 4_294_967_296;
 
 /// A duty: what is to be done.
-#[derive(Clone, Copy, Debug, PartialEq, Eq)]
+#[derive(Clone, Copy)]
 pub(crate) enum Duty {
     /// To change to a view.
     ChangeTo(View),
