@@ -17,3 +17,26 @@ need_kit() {
 
 # new_log NAME: the path of a new log file
 new_log() { mktemp "${TMPDIR:-/tmp}/bpf_host-$1-XXXXXX.log"; }
+
+# free_gigabytes: the memory that a new process may take, also under the limit of a control group
+free_gigabytes() {
+  local free most used
+  free=$(awk '/^MemAvailable:/ { print int($2 * 1024 / 1000000000) }' /proc/meminfo)
+  most=$(cat /sys/fs/cgroup/memory.max 2> /dev/null || echo max)
+  if [ "$most" != max ]; then
+    used=$(cat /sys/fs/cgroup/memory.current)
+    most=$(((most - used) / 1000000000))
+    free=$((most < free ? most : free))
+  fi
+  echo "$free"
+}
+
+# use_all_processors: has rt ci prove something on each processor at any time, where memory holds that: 4.5 GB for each, and
+# for one more. By itself it leaves processors idle for want of memory, since it expects half as much again as proofs take.
+use_all_processors() {
+  local processors
+  processors=$(nproc)
+  if [ $((2 * $(free_gigabytes))) -ge $((9 * (processors + 1))) ]; then
+    export RT_JOBS=$processors
+  fi
+}

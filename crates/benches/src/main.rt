@@ -5,18 +5,13 @@
 #![tactic(auto)]
 
 use anyhow::{Result, anyhow};
+use bench_parts::{Measures, lanes, lms, machine, messages, records, replica, service};
 use std::env;
+use std::fs::Files;
 use std::sync::Wait;
 use std::thread::Threads;
 
-mod common;
-mod lanes;
-mod lms;
-mod machine;
-mod messages;
-mod records;
-mod replica;
-mod service;
+mod peak;
 mod threads;
 mod world;
 
@@ -27,30 +22,27 @@ const PARTS: [&str; 9] = [
 
 fn main(rt: HostRuntime) -> Result<()> {
     let Some(part) = env::args(&rt)?.nth(1) else {
-        return run_all(&rt, &rt);
+        return run_all(&rt);
     };
     match env::args(&rt)?.nth(2) {
-        None => run(&rt, &rt, part.as_str(), None),
-        Some(work) => run(&rt, &rt, part.as_str(), Some(work.as_str())),
+        None => run(&rt, part.as_str(), None),
+        Some(work) => run(&rt, part.as_str(), Some(work.as_str())),
     }
 }
 
 /// Each part does its little.
-fn run_all<R: Threads + Wait + Copy + Send + Sync + Drop + 'static>(
-    rt: &HostRuntime,
-    threads: &R,
+fn run_all<R: Measures + Files + Threads + Wait + Copy + Send + Sync + Drop + 'static>(
+    rt: &R,
 ) -> Result<()> {
     for part in PARTS {
-        run(rt, threads, part, None)?;
+        run(rt, part, None)?;
     }
     Ok(())
 }
 
-/// A part does its little, or measures what a word of its own names. Threads are made by a handle of their
-/// own.
-fn run<R: Threads + Wait + Copy + Send + Sync + Drop + 'static>(
-    rt: &HostRuntime,
-    threads: &R,
+/// A part does its little, or measures what a word of its own names.
+fn run<R: Measures + Files + Threads + Wait + Copy + Send + Sync + Drop + 'static>(
+    rt: &R,
     part: &str,
     work: Option<&str>,
 ) -> Result<()> {
@@ -62,8 +54,8 @@ fn run<R: Threads + Wait + Copy + Send + Sync + Drop + 'static>(
         "replica" => replica::run(rt, work),
         "service" => service::run(rt, work),
         "world" => world::run(rt, work),
-        "threads" => threads::run(rt, threads, work),
-        "lanes" => lanes::run(rt, threads, work),
+        "threads" => threads::run(rt, work),
+        "lanes" => lanes::run(rt, work),
         _ => Err(anyhow!(
             "the first word is none of lms, messages, machine, records, replica, service, world, threads and lanes"
         )),

@@ -3,25 +3,26 @@
 //! against the replica's alone; for `memory` the memory that a host has taken at most.
 
 use anyhow::{Result, anyhow};
+use bench_parts::Measures;
+use std::fs::Files;
 use std::sync::Wait;
 use std::thread::Threads;
 
-pub(crate) mod calls;
+mod calls;
 mod load;
 mod memory;
 mod steps;
 mod times;
 
 /// Lets a client call, or does what a word names.
-pub(crate) fn run<R: Threads + Wait + Copy + Send + Sync + Drop + 'static>(
-    rt: &HostRuntime,
-    threads: &R,
+pub(crate) fn run<R: Measures + Files + Threads + Wait + Copy + Send + Sync + Drop + 'static>(
+    rt: &R,
     work: Option<&str>,
 ) -> Result<()> {
     match work {
-        None => times::print_small(rt, threads),
-        Some("time") => times::print_times(rt, threads),
-        Some("memory") => memory::print_memory(rt, threads),
+        None => times::print_small(rt),
+        Some("time") => times::print_times(rt),
+        Some("memory") => memory::print_memory(rt),
         Some(_) => Err(anyhow!("the word behind threads is neither time nor memory")),
     }
 }

@@ -4,6 +4,8 @@
 //! script has taken at most.
 
 use anyhow::{Result, anyhow};
+use bench_parts::Measures;
+use std::fs::Files;
 
 mod floor;
 mod memory;
@@ -13,7 +15,7 @@ mod seeds;
 mod times;
 
 /// Runs a script, or does what a word names.
-pub(crate) fn run(rt: &HostRuntime, work: Option<&str>) -> Result<()> {
+pub(crate) fn run(rt: &(impl Measures + Files), work: Option<&str>) -> Result<()> {
     match work {
         None => times::print_small(rt),
         Some("time") => times::print_times(rt),

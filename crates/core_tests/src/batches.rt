@@ -55,6 +55,30 @@ struct Batch {
     halt: Option<Halt>,
 }
 
+/// The backup's signer with so many leaves left.
+fn signer_with(alloc: Global, leaves: u32) -> Result<Signer, Fail> {
+    let mut own = key(alloc, 7, ID)?;
+    for _ in leaves..own.leaves_left() {
+        own.sign(&[])?;
+    }
+    Ok(own)
+}
+
+/// A backup whose signer has so many leaves left.
+fn backup(alloc: Global, config: &Arc<Config>, leaves: u32) -> Result<Node, Fail> {
+    let own = signer_with(alloc, leaves)?;
+    Node::new(alloc, config, ReplicaId(ID), own)
+}
+
+/// Two of them.
+fn backups(alloc: Global, config: &Arc<Config>, leaves: u32) -> Result<Vec<Node>, Fail> {
+    let mut backups = Vec::new(alloc);
+    for _ in 0..2 {
+        backups.push(backup(alloc, config, leaves)?)?;
+    }
+    Ok(backups)
+}
+
 /// What the replicas and clients say.
 #[derive(Drop)]
 struct Group {
@@ -65,27 +89,42 @@ struct Group {
     times: u64,
 }
 
+/// Fresh signers of a secret, of the ids from 0 on.
+fn signers(alloc: Global, secret: u8, many: u8) -> Result<Vec<Signer>, Fail> {
+    let mut signers = Vec::new(alloc);
+    for id in 0..many {
+        signers.push(key(alloc, secret, id)?)?;
+    }
+    Ok(signers)
+}
+
+/// The configuration of these replicas and clients, each client of a tenant of its own.
+fn config(
+    alloc: Global,
+    interval: u8,
+    replicas: &[Signer],
+    clients: &[Signer],
+) -> Result<Arc<Config>, Fail> {
+    let mut keys = Vec::new(alloc);
+    for signer in replicas {
+        keys.push(signer.public_key())?;
+    }
+    let mut entries = Vec::new(alloc);
+    for (id, signer) in (FIRST_CLIENT..u32::MAX).zip(clients) {
+        entries.push(ClientEntry {
+            id: ClientId(id),
+            tenant: TenantId(id),
+            key: signer.public_key(),
+        })?;
+    }
+    Ok(Arc::new(alloc, Config::new(1, interval, keys, entries)?)?)
+}
+
 impl Group {
     fn new(alloc: Global, interval: u8) -> Result<Group, Fail> {
-        let mut replicas = Vec::new(alloc);
-        let mut keys = Vec::new(alloc);
-        for id in 0..4u8 {
-            let signer = key(alloc, 7, id)?;
-            keys.push(signer.public_key())?;
-            replicas.push(signer)?;
-        }
-        let mut clients = Vec::new(alloc);
-        let mut entries = Vec::new(alloc);
-        for index in 0..CLIENTS {
-            let signer = key(alloc, 9, index)?;
-            entries.push(ClientEntry {
-                id: ClientId(FIRST_CLIENT + u32::from(index)),
-                tenant: TenantId(u32::from(index) + 1),
-                key: signer.public_key(),
-            })?;
-            clients.push(signer)?;
-        }
-        let config = Arc::new(alloc, Config::new(1, interval, keys, entries)?)?;
+        let replicas = signers(alloc, 7, 4)?;
+        let clients = signers(alloc, 9, CLIENTS)?;
+        let config = config(alloc, interval, &replicas, &clients)?;
         Ok(Group {
             alloc,
             config,
@@ -93,15 +132,6 @@ impl Group {
             clients,
             times: 0,
         })
-    }
-
-    /// A backup whose signer has so many leaves left.
-    fn backup(&self, leaves: u32) -> Result<Node, Fail> {
-        let mut own = key(self.alloc, 7, ID)?;
-        for _ in leaves..own.leaves_left() {
-            own.sign(&[])?;
-        }
-        Node::new(self.alloc, &self.config, ReplicaId(ID), own)
     }
 
     fn say(&mut self, id: u8, body: Body) -> Result<Checked, Fail> {
@@ -231,32 +261,69 @@ fn stand_alike(one: &Node, other: &Node) -> Result<bool, Fail> {
     Ok(states && one.replica().status() == other.replica().status())
 }
 
-/// Both backups take what the batch says, one in turn and one in lanes.
-fn run<R: Threads + Sync>(rt: &R, alloc: Global, batch: &Batch) -> Result<(), Fail> {
+/// Both backups take a message, the first in turn and the second in lanes; they answer alike and stand alike. Why they
+/// halt, if they do.
+fn take<R: Threads + Sync>(
+    rt: &R,
+    alloc: Global,
+    backups: &mut [Node],
+    bytes: &[u8],
+    workers: u8,
+    gate: &Count,
+) -> Result<Option<Halt>, Fail> {
+    let (first, rest) = backups.split_at_mut(backups.len().min(1));
+    let (Some(in_turn), Some(in_lanes)) = (first.first_mut(), rest.first_mut()) else {
+        return Err(Fail::new("not two backups"));
+    };
+    let one = in_turn.take(bytes)?;
+    let other = in_lanes.take_lanes(rt, bytes, workers.max(1), gate)?;
+    if are_same(alloc, &one, &other)? && stand_alike(in_turn, in_lanes)? {
+        Ok(other.err())
+    } else {
+        Err(Fail::new("another row"))
+    }
+}
+
+/// Both take messages until they halt.
+fn take_all<R: Threads + Sync>(
+    rt: &R,
+    alloc: Global,
+    backups: &mut [Node],
+    messages: &[Checked],
+    workers: u8,
+    gate: &Count,
+) -> Result<Option<Halt>, Fail> {
+    for message in messages {
+        let halt = take(rt, alloc, backups, message.bytes(), workers, gate)?;
+        if halt.is_some() {
+            return Ok(halt);
+        }
+    }
+    Ok(None)
+}
+
+/// The configuration, and what both backups of a batch take.
+fn said(alloc: Global, batch: &Batch) -> Result<(Arc<Config>, Vec<Checked>), Fail> {
     let mut group = Group::new(alloc, batch.interval)?;
     let messages = group.messages(batch.asked)?;
-    let mut in_turn = group.backup(batch.leaves)?;
-    let mut in_lanes = group.backup(batch.leaves)?;
+    let config = Arc::try_clone(&group.config)?;
+    Ok((config, messages))
+}
+
+/// Both backups take what the batch says.
+fn run<R: Threads + Sync>(rt: &R, alloc: Global, batch: &Batch) -> Result<(), Fail> {
+    let (config, messages) = said(alloc, batch)?;
+    let mut backups = backups(alloc, &config, batch.leaves)?;
     let gate = Count {
         steps: AtomicU64::new(0),
     };
-    let mut halt = None;
-    for message in &messages {
-        let one = in_turn.take(message.bytes())?;
-        let other = in_lanes.take_lanes(rt, message.bytes(), batch.workers.max(1), &gate)?;
-        if !are_same(alloc, &one, &other)? || !stand_alike(&in_turn, &in_lanes)? {
-            return Err(format!(in alloc; "{}: another row", batch.asked)?.into());
-        }
-        if let Err(why) = other {
-            halt = Some(why);
-            break;
-        }
-    }
+    let halt = take_all(rt, alloc, &mut backups, &messages, batch.workers, &gate)?;
     let lanes = gate.steps.load(Ordering::SeqCst);
-    if halt != batch.halt || lanes != batch.lanes {
-        return Err(format!(in alloc; "{}: {lanes} lanes", batch.asked)?.into());
+    if halt == batch.halt && lanes == batch.lanes {
+        Ok(())
+    } else {
+        Err(format!(in alloc; "{}: {lanes} lanes", batch.asked)?.into())
     }
-    Ok(())
 }
 
 /// A batch whose backup has all its leaves.

@@ -33,24 +33,24 @@ impl Scene {
     /// The body of the message that this text names.
     pub fn body(&mut self, text: &str) -> Result<Body, Fail> {
         let (kind, said) = halves(text, " ")?;
-        match kind.as_bytes() {
-            b"pre-prepare" => Ok(Body::PrePrepare(self.pre_prepare(said)?)),
-            b"prepare" => Ok(Body::Prepare(self.prepare(said)?)),
-            b"commit" => Ok(Body::Commit(self.commit(said)?)),
-            b"checkpoint" => Ok(Body::Checkpoint(self.checkpoint(said)?)),
+        match kind {
+            "pre-prepare" => Ok(Body::PrePrepare(self.pre_prepare(said)?)),
+            "prepare" => Ok(Body::Prepare(self.prepare(said)?)),
+            "commit" => Ok(Body::Commit(self.commit(said)?)),
+            "checkpoint" => Ok(Body::Checkpoint(self.checkpoint(said)?)),
             _ => self.long_body(kind, said),
         }
     }
 
     fn long_body(&mut self, kind: &str, said: &str) -> Result<Body, Fail> {
-        match kind.as_bytes() {
-            b"fetch" => Ok(Body::Fetch(self.fetch(said)?)),
-            b"snapshot" => Ok(Body::Snapshot(self.snapshot(said)?)),
-            b"view-change" => {
+        match kind {
+            "fetch" => Ok(Body::Fetch(self.fetch(said)?)),
+            "snapshot" => Ok(Body::Snapshot(self.snapshot(said)?)),
+            "view-change" => {
                 let (view, rest) = halves(said, " ")?;
                 Ok(Body::ViewChange(self.change(View(view.parse()?), rest)?))
             }
-            b"new-view" => Ok(Body::NewView(self.new_view(said)?)),
+            "new-view" => Ok(Body::NewView(self.new_view(said)?)),
             _ => Err(Fail::new("no such message")),
         }
     }

@@ -10,7 +10,7 @@ use replica_core::{Halt, Input, Output, Row};
 use seal::{Checked, open, request_digest};
 use service_core::State;
 use sha2::Sha256;
-use std::alloc::Global;
+use std::alloc::{AllocError, Global};
 use std::sync::Arc;
 use std::test::Fail;
 use view_change::null_digest;
@@ -49,7 +49,8 @@ pub struct Scene {
     pub alloc: Global,
     config: Arc<Config>,
     id: u8,
-    node: Option<Node>,
+    /// The replica, once it has begun. A list is dropped in one step of a proof.
+    node: Vec<Node>,
     pub signers: Vec<Signer>,
     requests: Vec<(&'static str, Checked)>,
     pub words: Words,
@@ -60,6 +61,15 @@ pub struct Scene {
 /// The signer of this id; ids 0 to 3 are replicas.
 pub fn key(alloc: Global, secret: u8, id: u8) -> Result<Signer, Fail> {
     Ok(Signer::from_seed(alloc, Height::H5, [id; 16], [secret; 32])?)
+}
+
+/// A replica's signer with so many leaves left.
+fn key_with(alloc: Global, id: u8, left: u32) -> Result<Signer, Fail> {
+    let mut own = key(alloc, 7, id)?;
+    for _ in left..own.leaves_left() {
+        own.sign(&[])?;
+    }
+    Ok(own)
 }
 
 /// The configuration of these replicas and this client.
@@ -93,6 +103,23 @@ fn apply(state: &mut State, request: Option<&Request>) -> Result<(), Fail> {
     Ok(())
 }
 
+// The bytes of a state with another number, which stands behind the version.
+fn numbered(alloc: Global, state: &[u8], number: u64) -> Result<Vec<u8>, AllocError> {
+    let (_, rest) = state.split_at(state.len().min(9));
+    let mut bytes = Vec::from_slice(alloc, &[2])?;
+    bytes.extend_from_slice(&number.to_be_bytes())?;
+    bytes.extend_from_slice(rest)?;
+    Ok(bytes)
+}
+
+// The bytes of a state with version 1 in front.
+fn of_first_version(alloc: Global, state: &[u8]) -> Result<Vec<u8>, AllocError> {
+    let (_, rest) = state.split_at(state.len().min(1));
+    let mut bytes = Vec::from_slice(alloc, &[1])?;
+    bytes.extend_from_slice(rest)?;
+    Ok(bytes)
+}
+
 impl Scene {
     /// Those around a replica, which `begin` gives.
     pub fn new(alloc: Global) -> Result<Scene, Fail> {
@@ -100,81 +127,85 @@ impl Scene {
         for index in 0..4u8 {
             signers.push(key(alloc, 7, index)?)?;
         }
-        let client = key(alloc, 7, 9)?;
+        let mut client = key(alloc, 7, 9)?;
         let config = config_of(alloc, &signers, &client)?;
         let mut scene = Scene {
             alloc,
             config,
             id: 0,
-            node: None,
+            node: Vec::new(alloc),
             signers,
             requests: Vec::new(alloc),
             words: Words::new(alloc),
             left: 0,
             last: None,
         };
-        scene.add_names(client)?;
+        scene.add_requests(&mut client)?;
+        scene.add_states()?;
         Ok(scene)
     }
 
     /// Replica `id` before its first message, whose signer has so many leaves left.
     pub fn begin(&mut self, id: u8, left: u32) -> Result<(), Fail> {
-        let mut own = key(self.alloc, 7, id)?;
-        for _ in left..own.leaves_left() {
-            own.sign(&[])?;
-        }
-        let node = Node::new(self.alloc, &self.config, ReplicaId(id), own)?;
-        self.left = node.replica().leaves_left();
+        let own = key_with(self.alloc, id, left)?;
+        self.left = own.leaves_left();
         self.id = id;
-        self.node = Some(node);
         self.last = None;
+        self.node.clear();
+        self.node
+            .push(Node::new(self.alloc, &self.config, ReplicaId(id), own)?)?;
         Ok(())
     }
 
     fn node(&mut self) -> Result<&mut Node, Fail> {
-        match &mut self.node {
+        match self.node.first_mut() {
             Some(node) => Ok(node),
             None => Err(Fail::new("no replica")),
         }
     }
 
-    // The null request, the client's requests, and states.
-    fn add_names(&mut self, mut client: Signer) -> Result<(), Fail> {
+    // The null request, and the client's requests.
+    fn add_requests(&mut self, client: &mut Signer) -> Result<(), Fail> {
         self.words.add("null", null_digest(), &[])?;
         for (name, time) in &REQUESTS {
-            self.add_request(name, *time, &mut client)?;
+            self.add_request(name, *time, client)?;
         }
+        Ok(())
+    }
+
+    fn add_states(&mut self) -> Result<(), Fail> {
         for (name, times) in &SERVED {
-            let state = self.state_after(times)?;
-            self.words.add(name, state.digest(), &state.to_bytes()?)?;
+            self.add_served(name, times)?;
         }
         self.add_late_state("late", (1 << 48) - 2)?;
         self.add_late_state("last", (1 << 48) - 1)?;
         self.add_first_version()
     }
 
+    fn add_served(&mut self, name: &'static str, times: &[u64]) -> Result<(), Fail> {
+        let state = self.state_after(times)?;
+        let bytes = state.to_bytes()?;
+        self.words.add(name, state.digest(), &bytes)?;
+        Ok(())
+    }
+
     // The first state's bytes, with another number in place of 0: behind the version.
     fn add_late_state(&mut self, name: &'static str, number: u64) -> Result<(), Fail> {
         let first = self.words.state("s0")?;
-        let (_, rest) = first.as_slice().split_at(first.as_slice().len().min(9));
-        let mut bytes = Vec::from_slice(self.alloc, &[2])?;
-        bytes.extend_from_slice(&number.to_be_bytes())?;
-        bytes.extend_from_slice(rest)?;
+        let bytes = numbered(self.alloc, first.as_slice(), number)?;
         let config = Arc::try_clone(&self.config)?;
-        let state = State::from_canonical(self.alloc, config, &bytes)?;
-        self.words.add(name, state.digest(), &bytes)?;
+        let digest = State::from_canonical(self.alloc, config, &bytes)?.digest();
+        self.words.add(name, digest, &bytes)?;
         Ok(())
     }
 
     // The state `s2` in bytes of version 1, which has no procedures: behind the version they are those of version 2.
     fn add_first_version(&mut self) -> Result<(), Fail> {
         let second = self.words.state("s2")?;
-        let (_, rest) = second.as_slice().split_at(second.as_slice().len().min(1));
-        let mut first = Vec::from_slice(self.alloc, &[1])?;
-        first.extend_from_slice(rest)?;
+        let first = of_first_version(self.alloc, second.as_slice())?;
         let config = Arc::try_clone(&self.config)?;
-        let state = State::from_bytes(self.alloc, config, &first)?;
-        if state.to_bytes()?.as_slice() != second.as_slice() {
+        let again = State::from_bytes(self.alloc, config, &first)?.to_bytes()?;
+        if again.as_slice() != second.as_slice() {
             return Err(Fail::new("another state is read"));
         }
         let digest = Digest(<Sha256 as sha2::Digest>::digest(first.as_slice()));
@@ -312,7 +343,7 @@ impl Scene {
 
     /// Where it stands, how many leaves it has left, and its state.
     pub fn stands(&self) -> Result<String, Fail> {
-        let Some(node) = &self.node else {
+        let Some(node) = self.node.first() else {
             return Err(Fail::new("no replica"));
         };
         let status = node.replica().status();

@@ -58,10 +58,10 @@ impl Scene {
 
     // What the replica does for the left side of a line.
     fn step(&mut self, given: &str) -> Result<String, Fail> {
-        match given.as_bytes() {
-            b"timeout" => self.timeout(),
-            b"echo" => self.echo(),
-            b"stands" => self.stands(),
+        match given {
+            "timeout" => self.timeout(),
+            "echo" => self.echo(),
+            "stands" => self.stands(),
             _ => self.receive(given),
         }
     }

@@ -2,29 +2,21 @@
 
 use host_types::{Bytes, Config};
 use lms_tree::Signer;
-use pbft_codec::{Body, MessageBody, Role, Sequence, Signed, signed_bytes};
+use pbft_codec::{Body, CodecFault, MessageBody, Role, Sequence, Signed, signed_bytes};
 use seal::{Checked, open};
 use std::alloc::{AllocError, Global};
 use std::sync::Arc;
 use std::test::Fail;
 
-// What is signed of a message, and the signature.
-fn sign(
-    alloc: Global,
-    signer: &mut Signer,
-    role: Role,
-    id: u32,
-    body: Body,
-) -> Result<(Vec<u8>, Vec<u8>), Fail> {
+// What is signed of a message.
+fn text_of(alloc: Global, role: Role, id: u32, body: Body) -> Result<Vec<u8>, CodecFault> {
     let unsigned = Signed {
         role,
         id,
         body,
         sig: Bytes::from_vec(Vec::new(alloc)),
     };
-    let text = signed_bytes(alloc, &unsigned)?;
-    let signature = signer.sign(&text)?;
-    Ok((text, signature))
+    signed_bytes(alloc, &unsigned)
 }
 
 /// A body of one kind, signed as the replica's of this id.
@@ -39,7 +31,8 @@ pub fn signed<B: MessageBody>(
         return Err(Fail::new("no such signer"));
     };
     let id = u32::from(id);
-    let (_, signature) = sign(alloc, signer, Role::Replica, id, copy.into_body())?;
+    let text = text_of(alloc, Role::Replica, id, copy.into_body())?;
+    let signature = signer.sign(&text)?;
     Ok(Signed {
         role: Role::Replica,
         id,
@@ -53,6 +46,15 @@ fn put_length_prefixed(out: &mut Vec<u8>, bytes: &[u8]) -> Result<(), AllocError
     out.extend_from_slice(bytes)
 }
 
+// The bytes of the message of which this is signed, with this signature.
+fn message_bytes(alloc: Global, text: &[u8], signature: &[u8]) -> Result<Vec<u8>, AllocError> {
+    let (head, said) = text.split_at(text.len().min(5));
+    let mut bytes = Vec::from_slice(alloc, head)?;
+    put_length_prefixed(&mut bytes, said)?;
+    put_length_prefixed(&mut bytes, signature)?;
+    Ok(bytes)
+}
+
 /// The checked message of this body.
 pub fn checked(
     alloc: Global,
@@ -62,11 +64,8 @@ pub fn checked(
     id: u32,
     body: Body,
 ) -> Result<Checked, Fail> {
-    let (text, signature) = sign(alloc, signer, role, id, body)?;
-    let (head, said) = text.split_at(text.len().min(5));
-    let mut bytes = Vec::from_slice(alloc, head)?;
-    put_length_prefixed(&mut bytes, said)?;
-    put_length_prefixed(&mut bytes, &signature)?;
+    let text = text_of(alloc, role, id, body)?;
+    let bytes = message_bytes(alloc, &text, &signer.sign(&text)?)?;
     Ok(open(alloc, config, &bytes)?)
 }
 

@@ -26,14 +26,21 @@ pub(crate) struct Case {
 /// The valid case of this name.
 pub(crate) fn valid_case(alloc: Global, name: &str) -> Result<Case, Fail> {
     let found = VALID.lines().find(|line| halves(line).0 == name);
-    let (_, rest) = halves(found.ok_or("no such case")?);
-    let (key, rest) = halves(rest);
+    read_case(alloc, halves(found.ok_or("no such case")?).1)
+}
+
+/// The case of a key, a message, `-` for an empty one, and a signature, in hex.
+fn read_case(alloc: Global, row: &str) -> Result<Case, Fail> {
+    let (key, rest) = halves(row);
     let (message, signature) = halves(rest);
+    let key = array(key)?;
     let message = if message == "-" { "" } else { message };
+    let message = decode(alloc, message)?;
+    let signature = decode(alloc, signature)?;
     Ok(Case {
-        key: array(key)?,
-        message: decode(alloc, message)?,
-        signature: decode(alloc, signature)?,
+        key,
+        message,
+        signature,
     })
 }
 
@@ -52,12 +59,12 @@ impl Case {
     /// signature on.
     pub(crate) fn change(&mut self, alloc: Global, text: &str) -> Result<(), Fail> {
         let (what, rest) = halves(text);
-        match what.as_bytes() {
-            b"" => {}
-            b"length" => self.signature.resize(rest.parse::<usize>()?, 0)?,
-            b"message" => self.message = decode(alloc, rest)?,
-            b"key" => put(&mut self.key, rest)?,
-            b"signature" => put(&mut self.signature, rest)?,
+        match what {
+            "" => {}
+            "length" => self.signature.resize(rest.parse::<usize>()?, 0)?,
+            "message" => self.message = decode(alloc, rest)?,
+            "key" => put(&mut self.key, rest)?,
+            "signature" => put(&mut self.signature, rest)?,
             _ => return Err(Fail::new("no such change")),
         }
         Ok(())

@@ -1,6 +1,6 @@
 //! Keys and signatures that signers make, beside those of another implementation.
 
-use crate::cases::{array, halves, valid_case};
+use crate::cases::{Case, array, halves, valid_case};
 use host_types::PublicKey;
 use lms_tree::{Height, KeySource, SignFault, Signer};
 use std::alloc::{AllocError, Global};
@@ -99,22 +99,39 @@ fn names_its_leaves(number: u32, sig: &[u8]) -> Result<bool, Fail> {
     Ok(true)
 }
 
+/// Whether a signature is that of the valid case of its number at heights 5 and 5, where there is one.
+fn is_as_listed(alloc: Global, number: u32, sig: &[u8]) -> Result<bool, Fail> {
+    let name = match number {
+        0 => "5/5:0",
+        1023 => "5/5:1023",
+        _ => return Ok(true),
+    };
+    Ok(valid_case(alloc, name)?.signature.as_slice() == sig)
+}
+
+/// Whether a signer's next signature has this number, and is as it should be.
+fn signs_next(alloc: Global, signer: &mut Signer, number: u32) -> Result<bool, Fail> {
+    let left = 1024u32.saturating_sub(number);
+    let is_next = signer.next_leaf() == number && signer.leaves_left() == left;
+    let sig = signer.sign(b"")?;
+    Ok(is_next && names_its_leaves(number, &sig)? && is_as_listed(alloc, number, &sig)?)
+}
+
+/// Whether a signer refuses to sign, since no leaf is left.
+fn is_exhausted(signer: &mut Signer) -> bool {
+    signer.sign(b"").err() == Some(SignFault::Exhausted)
+        && signer.next_leaf() == 1024
+        && signer.leaves_left() == 0
+}
+
 #[test]
 fn heights_5_and_5_to_the_end(rt: HostRuntime) -> Result<(), Fail> {
     let line = KEYS.lines().nth(1).ok_or("no second key")?;
     let (mut signer, _) = signer_of(rt.alloc(), line)?;
-    let first = valid_case(rt.alloc(), "5/5:0")?;
-    let last = valid_case(rt.alloc(), "5/5:1023")?;
     for number in 0..1024u32 {
-        assert!(rt; signer.next_leaf() == number && signer.leaves_left() == 1024 - number);
-        let sig = signer.sign(b"")?;
-        assert!(rt; names_its_leaves(number, &sig)?, "{number}");
-        assert!(rt; number != 0 || sig.as_slice() == first.signature.as_slice());
-        assert!(rt; number != 1023 || sig.as_slice() == last.signature.as_slice());
+        assert!(rt; signs_next(rt.alloc(), &mut signer, number)?, "{number}");
     }
-    assert!(rt; signer.sign(b"").err() == Some(SignFault::Exhausted));
-    assert!(rt; signer.sign(b"").err() == Some(SignFault::Exhausted));
-    assert!(rt; signer.next_leaf() == 1024 && signer.leaves_left() == 0);
+    assert!(rt; is_exhausted(&mut signer) && is_exhausted(&mut signer));
     Ok(())
 }
 
@@ -122,30 +139,51 @@ fn heights_5_and_5_to_the_end(rt: HostRuntime) -> Result<(), Fail> {
 const ACROSS: &str =
     "5 10 5f030a95bfb844172579dd390947ff98 0ff810360b83d29a13e47e7f3c6f655876b0d8321dab2daed779b5a4914b90af 0000000200000005000000035f030a95bfb844172579dd390947ff98dc6245832ff70ada05db785342d5efa4d5c7625b645af0747925d4157c8aff9a";
 
-#[test]
-fn heights_5_and_10_across_a_change_of_trees(rt: HostRuntime) -> Result<(), Fail> {
-    let (mut signer, key) = signer_of(rt.alloc(), ACROSS)?;
-    let case = valid_case(rt.alloc(), "5/10:1024")?;
-    assert!(rt; signer.public_key() == PublicKey::Hss(key) && key == case.key);
-    for _ in 0..1024 {
-        let _earlier = signer.sign(b"")?;
+/// Uses so many leaves of a signer.
+fn use_leaves(signer: &mut Signer, many: u32) -> Result<(), SignFault> {
+    for _ in 0..many {
+        let _sig = signer.sign(b"")?;
     }
-    assert!(rt; signer.sign(&case.message)?.as_slice() == case.signature.as_slice());
-    assert!(rt; signer.next_leaf() == 1025);
     Ok(())
 }
 
-/// A source and a signer of one seed. The seed is a parameter, so that a proof computes nothing of it.
+/// Whether a signer's next signature of a case's message is the case's.
+fn signs_as(signer: &mut Signer, case: &Case) -> Result<bool, Fail> {
+    Ok(signer.sign(&case.message)?.as_slice() == case.signature.as_slice())
+}
+
+#[test]
+fn heights_5_and_10_across_a_change_of_trees(rt: HostRuntime) -> Result<(), Fail> {
+    let case = valid_case(rt.alloc(), "5/10:1024")?;
+    let (mut signer, key) = signer_of(rt.alloc(), ACROSS)?;
+    assert!(rt; signer.public_key() == PublicKey::Hss(key) && key == case.key);
+    use_leaves(&mut signer, 1024)?;
+    assert!(rt; signs_as(&mut signer, &case)? && signer.next_leaf() == 1025);
+    Ok(())
+}
+
+/// A signer of one level, or with bottom trees of this height. The seed is a parameter, so that a proof computes nothing
+/// of it.
+fn signer_over(
+    alloc: Global,
+    bottom: Option<Height>,
+    identifier: [u8; 16],
+    seed: [u8; 32],
+) -> Result<Signer, AllocError> {
+    match bottom {
+        None => Signer::from_seed(alloc, Height::H5, identifier, seed),
+        Some(bottom) => Signer::from_seed2(alloc, Height::H5, bottom, identifier, seed),
+    }
+}
+
+/// A source and a signer of one seed.
 fn source_and_signer(
     alloc: Global,
     bottom: Option<Height>,
     identifier: [u8; 16],
     seed: [u8; 32],
 ) -> Result<(KeySource, Signer), AllocError> {
-    let signer = match bottom {
-        None => Signer::from_seed(alloc, Height::H5, identifier, seed)?,
-        Some(bottom) => Signer::from_seed2(alloc, Height::H5, bottom, identifier, seed)?,
-    };
+    let signer = signer_over(alloc, bottom, identifier, seed)?;
     let source = KeySource::from_seed(alloc, Height::H5, bottom, identifier, seed)?;
     Ok((source, signer))
 }
@@ -188,16 +226,24 @@ fn begins_alike(
     )
 }
 
+/// Whether new signers of a source begin as each of two others does.
+fn begin_alike(
+    alloc: Global,
+    source: &KeySource,
+    one: &mut Signer,
+    other: &mut Signer,
+    many: u32,
+) -> Result<bool, Fail> {
+    Ok(begins_alike(alloc, source, one, many)? && begins_alike(alloc, source, other, many)?)
+}
+
 /// Whether signers of a source sign as the seed's own signer does, also one that began before another signed, and one
 /// that begins behind it.
 fn sources_sign_alike(alloc: Global, bottom: Option<Height>, many: u32) -> Result<bool, Fail> {
     let line = KEYS.lines().nth(1).ok_or("no second key")?;
     let (source, mut signer) = source_and_signer_of(alloc, line, bottom)?;
     let mut early = source.signer(alloc)?;
-    Ok(
-        begins_alike(alloc, &source, &mut signer, many)?
-            && begins_alike(alloc, &source, &mut early, many)?,
-    )
+    begin_alike(alloc, &source, &mut signer, &mut early, many)
 }
 
 #[test]

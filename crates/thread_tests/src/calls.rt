@@ -87,46 +87,60 @@ fn answers<R: Threads + Wait + Clock + Copy + Send + Sync + Drop + 'static>(
     Ok(called(rt, alloc, signers, place, ops, turns)?.0)
 }
 
+// An installation, and a call of what it installs.
+fn install_and_call(alloc: Global) -> Result<Vec<Bytes>, Fail> {
+    let mut ops = Vec::new(alloc);
+    ops.push(install(alloc)?)?;
+    ops.push(call_it(alloc)?)?;
+    Ok(ops)
+}
+
+// Whether these are the results of an installation and of a call that gives 7.
+fn are_installed_and_7(replies: &[Result<Reply, SessionFault>]) -> bool {
+    let [Ok(installed), Ok(called)] = replies else {
+        return false;
+    };
+    let procedure: &[u8] = &[0, 0, 0, 0, 0];
+    let seven: &[u8] = &[0, 0, 0, 0, 0, 0, 0, 0, 7];
+    installed.result.as_slice() == procedure && called.result.as_slice() == seven
+}
+
 #[test]
 fn calls_are_answered(rt: HostRuntime) -> Result<(), Fail> {
-    let alloc = rt.alloc();
     let Place {
         config,
         signers,
         client,
-    } = four_replicas(alloc)?;
-    let mut ops = Vec::new(alloc);
-    ops.push(install(alloc)?)?;
-    ops.push(call_it(alloc)?)?;
-    let replies = answers(&rt, alloc, signers, (config, client), ops, TURNS)?;
-    let wanted: [&[u8]; 2] = [&[0, 0, 0, 0, 0], &[0, 0, 0, 0, 0, 0, 0, 0, 7]];
-    if replies.len() != wanted.len() {
-        return Err(Fail::new("not two replies"));
+    } = four_replicas(rt.alloc())?;
+    let ops = install_and_call(rt.alloc())?;
+    let replies = answers(&rt, rt.alloc(), signers, (config, client), ops, TURNS)?;
+    if are_installed_and_7(&replies) {
+        Ok(())
+    } else {
+        Err(Fail::new("another result"))
     }
-    for (reply, wanted) in replies.iter().zip(wanted) {
-        match reply {
-            Ok(reply) if reply.result.as_slice() == wanted => {}
-            _ => return Err(Fail::new("another result")),
-        }
+}
+
+// Four replicas whose keys have no leaf left, and a client.
+fn four_spent(alloc: Global) -> Result<Place, Fail> {
+    let mut place = four_replicas(alloc)?;
+    for signer in place.signers.iter_mut() {
+        spend(signer, 32)?;
     }
-    Ok(())
+    Ok(place)
 }
 
 #[test]
 fn a_call_that_waits_at_close_has_no_quorum(rt: HostRuntime) -> Result<(), Fail> {
-    let alloc = rt.alloc();
     let Place {
         config,
-        mut signers,
+        signers,
         client,
-    } = four_replicas(alloc)?;
-    for signer in signers.iter_mut() {
-        spend(signer, 32)?;
-    }
-    let mut ops = Vec::new(alloc);
-    ops.push(install(alloc)?)?;
-    ops.push(install(alloc)?)?;
-    let replies = answers(&rt, alloc, signers, (config, client), ops, 500)?;
+    } = four_spent(rt.alloc())?;
+    let mut ops = Vec::new(rt.alloc());
+    ops.push(install(rt.alloc())?)?;
+    ops.push(install(rt.alloc())?)?;
+    let replies = answers(&rt, rt.alloc(), signers, (config, client), ops, 500)?;
     match replies.as_slice() {
         [Err(SessionFault::NoQuorum), Err(SessionFault::Closed)] => Ok(()),
         _ => Err(Fail::new("not NoQuorum and then Closed")),

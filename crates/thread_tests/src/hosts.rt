@@ -24,37 +24,54 @@ fn has_timeout(rows: &[Row]) -> bool {
     rows.iter().any(|row| matches!(row.input(), Input::Timeout))
 }
 
+// A host of these replicas, and its gate.
+fn begin<R: Threads + Wait + Clock + Copy + Send + Sync + Drop + 'static>(
+    rt: &R,
+    alloc: Global,
+    config: &Arc<Config>,
+    signers: Vec<Signer>,
+    held: Held,
+) -> Result<(Host, Arc<Watch<R>>), Fail> {
+    let gate = Arc::new(alloc, Watch::new(*rt, held))?;
+    let shared = Arc::try_clone(&gate)?;
+    let host = Host::start(rt, alloc, config, signers, LIMIT, 1, shared)?;
+    Ok((host, gate))
+}
+
+// Gives replica 3 a timeout, and closes the host. Whether that replica's journal has it.
+fn ticks<R: Clock + Drop, C: Clock + Wait>(
+    rt: &C,
+    host: &Host,
+    gate: &Watch<R>,
+) -> Result<bool, Fail> {
+    host.tick(rt, ReplicaId(3))?;
+    let seen = wait_for_steps(rt, gate, 3, 1);
+    let journals = host.close(rt)?;
+    Ok(seen && journals.len() == 4 && has_timeout(&journals[3].1))
+}
+
+// Whether a closed host takes nothing more, and is not closed again.
+fn takes_nothing<R: Wait>(rt: &R, alloc: Global, host: &Host) -> Result<bool, Fail> {
+    let bytes = Bytes::from_vec(Vec::from_slice(alloc, b"late")?);
+    let posted = host.post(rt, ReplicaId(0), bytes);
+    let ticked = host.tick(rt, ReplicaId(3));
+    let closed = Err(HostFault::Closed);
+    Ok(posted == closed && ticked == closed && host.close(rt).is_err())
+}
+
 #[test]
 fn a_tick_is_in_the_journal(rt: HostRuntime) -> Result<(), Fail> {
-    let alloc = rt.alloc();
     let Place {
         config,
         signers,
         ..
-    } = four_replicas(alloc)?;
-    let gate = Arc::new(alloc, Watch::new(rt, Held::No))?;
-    let host = Host::start(
-        &rt,
-        alloc,
-        &config,
-        signers,
-        LIMIT,
-        1,
-        Arc::try_clone(&gate)?,
-    )?;
-    host.tick(&rt, ReplicaId(3))?;
-    let seen = wait_for_steps(&rt, &*gate, 3, 1);
-    let journals = host.close(&rt)?;
-    if !seen || journals.len() != 4 || !has_timeout(&journals[3].1) {
+    } = four_replicas(rt.alloc())?;
+    let (host, gate) = begin(&rt, rt.alloc(), &config, signers, Held::No)?;
+    if !ticks(&rt, &host, &*gate)? {
         return fail("no timeout in replica 3's journal");
     }
-    let late = host.tick(&rt, ReplicaId(3));
-    if late != Err(HostFault::Closed) || host.close(&rt).is_ok() {
+    if !takes_nothing(&rt, rt.alloc(), &host)? {
         return fail("a closed host goes on");
-    }
-    let bytes = Bytes::from_vec(Vec::from_slice(alloc, b"late")?);
-    if host.post(&rt, ReplicaId(0), bytes) != Err(HostFault::Closed) {
-        return fail("a closed host takes a post");
     }
     Ok(())
 }
@@ -94,51 +111,54 @@ fn post_to<R: Wait>(rt: &R, alloc: Global, host: &Host, to: u8, bytes: &[u8]) ->
     Ok(())
 }
 
+// Whether these rows are of these requests, each of them once.
+fn has_each_once(rows: &[Row], requests: &[Vec<u8>]) -> bool {
+    rows.len() == requests.len() && requests.iter().all(|request| times(rows, request) == 1)
+}
+
+// Posts twenty requests to replica 3, and closes the host. Whether that replica's journal has each once.
+fn keeps_each_once<R: Clock + Drop, C: Clock + Wait>(
+    rt: &C,
+    alloc: Global,
+    host: &Host,
+    gate: &Watch<R>,
+    requests: &[Vec<u8>],
+) -> Result<bool, Fail> {
+    for request in requests {
+        post_to(rt, alloc, host, 3, request)?;
+    }
+    let seen = wait_for_steps(rt, gate, 3, 20);
+    let journals = host.close(rt)?;
+    Ok(seen && journals.len() == 4 && has_each_once(&journals[3].1, requests))
+}
+
 #[test]
 fn twenty_posts_are_in_the_journal_each_once(rt: HostRuntime) -> Result<(), Fail> {
-    let alloc = rt.alloc();
     let Place {
         config,
         signers,
         client,
-    } = four_replicas(alloc)?;
-    let requests = requests(alloc, client, &config, 20)?;
-    let gate = Arc::new(alloc, Watch::new(rt, Held::No))?;
-    let host = Host::start(
-        &rt,
-        alloc,
-        &config,
-        signers,
-        LIMIT,
-        1,
-        Arc::try_clone(&gate)?,
-    )?;
-    for request in &requests {
-        post_to(&rt, alloc, &host, 3, request)?;
-    }
-    let seen = wait_for_steps(&rt, &*gate, 3, 20);
-    let journals = host.close(&rt)?;
-    if !seen || journals.len() != 4 || journals[3].1.len() != 20 {
-        return fail("not twenty rows");
-    }
-    for request in &requests {
-        if times(&journals[3].1, request) != 1 {
-            return fail("a request is not there once");
-        }
+    } = four_replicas(rt.alloc())?;
+    let requests = requests(rt.alloc(), client, &config, 20)?;
+    let (host, gate) = begin(&rt, rt.alloc(), &config, signers, Held::No)?;
+    if !keeps_each_once(&rt, rt.alloc(), &host, &*gate, &requests)? || requests.len() != 20 {
+        return fail("not twenty rows, of each request once");
     }
     Ok(())
 }
 
-// Posts a request to replica 0, which the gate then holds, and now that request to the others and another to
-// replica 0. Whether replica 0 was about to step for both.
+// Posts the first request to replica 0, which the gate then holds, and now that request to the others and the second
+// to replica 0. Whether replica 0 was about to step for both.
 fn post_while_held<R: Clock + Drop, C: Clock + Wait>(
     rt: &C,
     alloc: Global,
     host: &Host,
     gate: &Watch<R>,
-    first: &[u8],
-    second: &[u8],
+    requests: &[Vec<u8>],
 ) -> Result<bool, Fail> {
+    let [first, second] = requests else {
+        return Ok(false);
+    };
     post_to(rt, alloc, host, 0, first)?;
     let begun = wait_for_steps(rt, gate, 0, 1);
     for id in 1..4u8 {
@@ -160,25 +180,14 @@ fn held<R: Threads + Wait + Clock + Copy + Send + Sync + Drop + 'static>(
         client,
     } = four_replicas(alloc)?;
     let requests = requests(alloc, client, &config, 2)?;
-    let [first, second] = requests.as_slice() else {
-        return fail("not two requests");
-    };
-    let gate = Arc::new(alloc, Watch::new(*rt, held))?;
-    let host = Host::start(
-        rt,
-        alloc,
-        &config,
-        signers,
-        LIMIT,
-        1,
-        Arc::try_clone(&gate)?,
-    )?;
-    let seen = post_while_held(rt, alloc, &host, &*gate, first, second)?;
-    host.close(rt)?;
-    if !seen || gate.gave_up() {
-        return fail("replica 0 was held too long");
+    let (host, gate) = begin(rt, alloc, &config, signers, held)?;
+    let seen = post_while_held(rt, alloc, &host, &*gate, &requests)?;
+    let closed = host.close(rt).is_ok();
+    if seen && closed && !gate.gave_up() {
+        Ok(())
+    } else {
+        fail("replica 0 was held too long")
     }
-    Ok(())
 }
 
 #[test]
@@ -218,56 +227,59 @@ fn replies_left<R: Wait>(rt: &R, host: &Host, most: usize) -> Result<usize, Fail
     Err(Fail::new("more replies than executions"))
 }
 
+// Posts a request to all, and closes the host. Whether as many replies are left as there were executions.
+fn leaves_the_replies<R: Clock + Drop, C: Clock + Wait>(
+    rt: &C,
+    alloc: Global,
+    host: &Host,
+    gate: &Watch<R>,
+    requests: &[Vec<u8>],
+) -> Result<bool, Fail> {
+    let [request] = requests else {
+        return Ok(false);
+    };
+    for id in 0..4u8 {
+        post_to(rt, alloc, host, id, request)?;
+    }
+    let _ = wait_for_steps(rt, gate, 0, 7);
+    let executions = executions(&host.close(rt)?);
+    Ok(replies_left(rt, host, executions)? == executions)
+}
+
+// Whether a closed host has nothing for a client that isn't listed, and is not closed again.
+fn is_over<R: Wait>(rt: &R, host: &Host) -> bool {
+    matches!(host.receive(rt, ClientId(17)), Err(HostFault::Closed))
+        && matches!(host.close(rt), Err(HostFault::Closed))
+}
+
 #[test]
 fn a_closed_host_gives_the_replies_that_are_left(rt: HostRuntime) -> Result<(), Fail> {
-    let alloc = rt.alloc();
     let Place {
         config,
         signers,
         client,
-    } = four_replicas(alloc)?;
-    let requests = requests(alloc, client, &config, 1)?;
-    let gate = Arc::new(alloc, Watch::new(rt, Held::No))?;
-    let host = Host::start(
-        &rt,
-        alloc,
-        &config,
-        signers,
-        LIMIT,
-        1,
-        Arc::try_clone(&gate)?,
-    )?;
-    let [request] = requests.as_slice() else {
-        return fail("not one request");
-    };
-    for id in 0..4u8 {
-        post_to(&rt, alloc, &host, id, request)?;
-    }
-    let _ = wait_for_steps(&rt, &*gate, 0, 7);
-    let executions = executions(&host.close(&rt)?);
-    if replies_left(&rt, &host, executions)? != executions {
+    } = four_replicas(rt.alloc())?;
+    let requests = requests(rt.alloc(), client, &config, 1)?;
+    let (host, gate) = begin(&rt, rt.alloc(), &config, signers, Held::No)?;
+    if !leaves_the_replies(&rt, rt.alloc(), &host, &*gate, &requests)? {
         return fail("not a reply for each execution");
     }
-    if !matches!(host.receive(&rt, ClientId(17)), Err(HostFault::Closed)) {
-        return fail("a client that isn't listed gets a message");
-    }
-    if !matches!(host.close(&rt), Err(HostFault::Closed)) {
-        return fail("a closed host is closed again");
+    if !is_over(&rt, &host) {
+        return fail("a closed host gives more, or is closed again");
     }
     Ok(())
 }
 
 #[test]
 fn other_signers_are_wrong(rt: HostRuntime) -> Result<(), Fail> {
-    let alloc = rt.alloc();
     let Place {
         config,
         mut signers,
         ..
-    } = four_replicas(alloc)?;
+    } = four_replicas(rt.alloc())?;
     signers.reverse();
-    let gate = Arc::new(alloc, Watch::new(rt, Held::No))?;
-    match Host::start(&rt, alloc, &config, signers, LIMIT, 1, gate) {
+    let gate = Arc::new(rt.alloc(), Watch::new(rt, Held::No))?;
+    match Host::start(&rt, rt.alloc(), &config, signers, LIMIT, 1, gate) {
         Err(HostFault::WrongSigners) => Ok(()),
         _ => fail("signers in another order are taken"),
     }

@@ -10,7 +10,9 @@ use crate::gates::{FIRST_LANE, Held, Watch};
 use crate::place::{is_listed, signer};
 use host_types::{Bytes, ClientEntry, ClientId, Config, Digest, ReplicaId, SeqNo, TenantId, View};
 use lms_tree::Signer;
-use pbft_codec::{Body, Commit, PrePrepare, Prepare, RequestBody, Role, Signed, signed_bytes};
+use pbft_codec::{
+    Body, CodecFault, Commit, PrePrepare, Prepare, RequestBody, Role, Signed, signed_bytes,
+};
 use replica_threads::{Named, Station};
 use seal::{Checked, open, request_digest};
 use std::alloc::Global;
@@ -38,27 +40,37 @@ struct Others {
     said: Vec<Vec<u8>>,
 }
 
+/// Fresh signers of the numbers from `first` on.
+fn signers(alloc: Global, first: u8, many: u8) -> Result<Vec<Signer>, Fail> {
+    let mut signers = Vec::new(alloc);
+    for index in 0..many {
+        signers.push(signer(alloc, first.saturating_add(index))?)?;
+    }
+    Ok(signers)
+}
+
+/// The configuration of these replicas and clients, each client of a tenant of its own.
+fn config(alloc: Global, replicas: &[Signer], clients: &[Signer]) -> Result<Arc<Config>, Fail> {
+    let mut keys = Vec::new(alloc);
+    for signer in replicas {
+        keys.push(signer.public_key())?;
+    }
+    let mut entries = Vec::new(alloc);
+    for (id, signer) in (FIRST_CLIENT..u32::MAX).zip(clients) {
+        entries.push(ClientEntry {
+            id: ClientId(id),
+            tenant: TenantId(id),
+            key: signer.public_key(),
+        })?;
+    }
+    Ok(Arc::new(alloc, Config::new(1, 8, keys, entries)?)?)
+}
+
 impl Others {
     fn new(alloc: Global) -> Result<Others, Fail> {
-        let mut replicas = Vec::new(alloc);
-        let mut keys = Vec::new(alloc);
-        for id in 0..4u8 {
-            let signer = signer(alloc, id)?;
-            keys.push(signer.public_key())?;
-            replicas.push(signer)?;
-        }
-        let mut clients = Vec::new(alloc);
-        let mut entries = Vec::new(alloc);
-        for index in 0..2u8 {
-            let signer = signer(alloc, 8 + index)?;
-            entries.push(ClientEntry {
-                id: ClientId(FIRST_CLIENT + u32::from(index)),
-                tenant: TenantId(u32::from(index)),
-                key: signer.public_key(),
-            })?;
-            clients.push(signer)?;
-        }
-        let config = Arc::new(alloc, Config::new(1, 8, keys, entries)?)?;
+        let replicas = signers(alloc, 0, 4)?;
+        let clients = signers(alloc, 8, 2)?;
+        let config = config(alloc, &replicas, &clients)?;
         Ok(Others {
             alloc,
             config,
@@ -137,6 +149,29 @@ impl Others {
     }
 }
 
+/// What is signed of a message of this body.
+fn text_of(alloc: Global, role: Role, id: u32, body: Body) -> Result<Vec<u8>, CodecFault> {
+    let unsigned = Signed {
+        role,
+        id,
+        body,
+        sig: Bytes::from_vec(Vec::new(alloc)),
+    };
+    signed_bytes(alloc, &unsigned)
+}
+
+/// The bytes of the message of which this is signed, with this signature.
+fn message_bytes(alloc: Global, text: &[u8], signature: &[u8]) -> Result<Vec<u8>, Fail> {
+    let (head, said) = text.split_at(text.len().min(5));
+    let mut bytes = Vec::from_slice(alloc, head)?;
+    for part in [said, signature] {
+        let length = (part.len() % (1 << 32)) as u32;
+        bytes.extend_from_slice(&length.to_be_bytes())?;
+        bytes.extend_from_slice(part)?;
+    }
+    Ok(bytes)
+}
+
 /// The message of this body, signed.
 fn sign(
     alloc: Global,
@@ -146,21 +181,8 @@ fn sign(
     id: u32,
     body: Body,
 ) -> Result<Checked, Fail> {
-    let unsigned = Signed {
-        role,
-        id,
-        body,
-        sig: Bytes::from_vec(Vec::new(alloc)),
-    };
-    let text = signed_bytes(alloc, &unsigned)?;
-    let signature = signer.sign(&text)?;
-    let (head, said) = text.split_at(text.len().min(5));
-    let mut bytes = Vec::from_slice(alloc, head)?;
-    for part in [said, signature.as_slice()] {
-        let length = (part.len() % (1 << 32)) as u32;
-        bytes.extend_from_slice(&length.to_be_bytes())?;
-        bytes.extend_from_slice(part)?;
-    }
+    let text = text_of(alloc, role, id, body)?;
+    let bytes = message_bytes(alloc, &text, &signer.sign(&text)?)?;
     Ok(open(alloc, config, &bytes)?)
 }
 

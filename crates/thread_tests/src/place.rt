@@ -37,6 +37,20 @@ pub fn four_replicas(alloc: Global) -> Result<Place, Fail> {
     place_of(alloc, signers)
 }
 
+/// The configuration of four replicas, and the fresh signer of the first.
+pub fn first_replica(alloc: Global) -> Result<(Arc<Config>, Signer), Fail> {
+    let Place {
+        config,
+        mut signers,
+        ..
+    } = four_replicas(alloc)?;
+    signers.truncate(1);
+    match signers.pop() {
+        Some(signer) => Ok((config, signer)),
+        None => Err(Fail::new("no signer")),
+    }
+}
+
 fn signer_of_levels(alloc: Global, number: u8) -> Result<Signer, AllocError> {
     Signer::from_seed2(alloc, Height::H5, Height::H5, [number; 16], [7; 32])
 }

@@ -7,10 +7,10 @@ ghost use Rattle.seal.specs.Signers.{key_of};
 ghost use Rattle.host_types.specs.Configuration.{replicas_for};
 ghost use Rattle.std.specs.Prelude.{◌<◌};
 
-use crate::place::{four_replicas, is_listed};
+use crate::place::{first_replica, is_listed};
 use host_types::{Config, Gate, ReplicaId};
 use lms_tree::Signer;
-use replica_core::Halt;
+use replica_core::{Halt, Status};
 use replica_threads::{Named, Seat, Station};
 use std::alloc::Global;
 use std::marker::Brand;
@@ -64,36 +64,30 @@ fn two_at_one_station<K: Named + Send + Sync, R: Threads + Wait + Sync>(
         move || ten_timeouts(rt, shared, other),
     );
     let (mut seat, mut other) = (seat, other);
-    for status in [
-        station.report(rt, &mut seat),
-        station.report(rt, &mut other),
-    ] {
-        if status.view.0 != 20 || status.active || status.halted.is_some() {
-            return Err(Fail::new("not changing to view 20"));
-        }
+    let stand = stands_at_20(station.report(rt, &mut seat))
+        && stands_at_20(station.report(rt, &mut other));
+    let rows = seat.rows().saturating_add(other.rows());
+    let kept = station.close(seat).len();
+    if stand && rows == 20 && kept == 20 {
+        Ok(())
+    } else {
+        Err(Fail::new("not twenty timeouts"))
     }
-    if seat.rows().saturating_add(other.rows()) != 20 {
-        return Err(Fail::new("the seats don't count 20 rows"));
-    }
-    if station.close(seat).len() != 20 {
-        return Err(Fail::new("the journal has not 20 rows"));
-    }
-    Ok(())
+}
+
+// Whether a replica waits for a NewView of view 20.
+fn stands_at_20(status: Status) -> bool {
+    status.view.0 == 20 && !status.active && status.halted.is_none()
 }
 
 #[test]
 fn two_threads_step_one_station(rt: HostRuntime) -> Result<(), Fail> {
     let alloc = rt.alloc();
-    let place = four_replicas(alloc)?;
-    let mut signers = place.signers;
-    signers.truncate(1);
-    let Some(signer) = signers.pop() else {
-        return Err(Fail::new("no signer"));
-    };
-    if !is_listed(&place.config, ReplicaId(0), &signer) || place.config.replica_count() == 0 {
+    let (config, signer) = first_replica(alloc)?;
+    if !is_listed(&config, ReplicaId(0), &signer) || config.replica_count() == 0 {
         return Err(Fail::new("another key is listed"));
     }
-    two_at_one_station::<Brand, HostRuntime>(&rt, alloc, Blank::new(65_536), &place.config, signer)
+    two_at_one_station::<Brand, HostRuntime>(&rt, alloc, Blank::new(65_536), &config, signer)
 }
 
 fn limited<K: Named, R: Wait>(
@@ -115,16 +109,15 @@ fn limited<K: Named, R: Wait>(
     let first = station.timeout(rt, &mut seat, &NoGate);
     let second = station.timeout(rt, &mut seat, &NoGate);
     let third = station.timeout(rt, &mut seat, &NoGate);
-    if first.is_err()
-        || !halts_by(&second, Halt::JournalFull)
-        || !halts_by(&third, Halt::AlreadyHalted)
-    {
-        return Err(Fail::new("not a row, JournalFull and AlreadyHalted"));
+    let is_full = first.is_ok()
+        && halts_by(&second, Halt::JournalFull)
+        && halts_by(&third, Halt::AlreadyHalted);
+    let halted = station.report(rt, &mut seat).halted;
+    if is_full && halted == Some(Halt::JournalFull) && seat.rows() == 1 {
+        Ok(())
+    } else {
+        Err(Fail::new("not a row, JournalFull, which is reported, and AlreadyHalted"))
     }
-    if station.report(rt, &mut seat).halted != Some(Halt::JournalFull) || seat.rows() != 1 {
-        return Err(Fail::new("the halt is not reported"));
-    }
-    Ok(())
 }
 
 fn halts_by<T>(answer: &Result<T, Halt>, halt: Halt) -> bool {
@@ -137,14 +130,9 @@ fn halts_by<T>(answer: &Result<T, Halt>, halt: Halt) -> bool {
 #[test]
 fn a_journal_of_one_row_is_full(rt: HostRuntime) -> Result<(), Fail> {
     let alloc = rt.alloc();
-    let place = four_replicas(alloc)?;
-    let mut signers = place.signers;
-    signers.truncate(1);
-    let Some(signer) = signers.pop() else {
-        return Err(Fail::new("no signer"));
-    };
-    if !is_listed(&place.config, ReplicaId(0), &signer) || place.config.replica_count() == 0 {
+    let (config, signer) = first_replica(alloc)?;
+    if !is_listed(&config, ReplicaId(0), &signer) || config.replica_count() == 0 {
         return Err(Fail::new("another key is listed"));
     }
-    limited::<Brand, HostRuntime>(&rt, alloc, Blank::new(65_536), &place.config, signer)
+    limited::<Brand, HostRuntime>(&rt, alloc, Blank::new(65_536), &config, signer)
 }

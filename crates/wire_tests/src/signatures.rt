@@ -192,12 +192,12 @@ impl Case {
     /// Changes the case as a text says.
     fn change(&mut self, alloc: Global, text: &str) -> Result<(), Fail> {
         let (what, rest) = halves(text);
-        match what.as_bytes() {
-            b"" => {}
-            b"length" => self.signature.resize(rest.parse::<usize>()?, 0)?,
-            b"message" => self.message = decode(alloc, rest)?,
-            b"key" => put(&mut self.key, rest)?,
-            b"signature" => put(&mut self.signature, rest)?,
+        match what {
+            "" => {}
+            "length" => self.signature.resize(rest.parse::<usize>()?, 0)?,
+            "message" => self.message = decode(alloc, rest)?,
+            "key" => put(&mut self.key, rest)?,
+            "signature" => put(&mut self.signature, rest)?,
             _ => return Err(Fail::new("no such change")),
         }
         Ok(())

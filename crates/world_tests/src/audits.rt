@@ -1,14 +1,13 @@
 //! What records of replicas agree on.
 
 use crate::group::{CLIENT, Group, set_of};
-use crate::runs::{FIRST, SECOND};
-use byz_world::{AuditFault, Event, World, audit};
+use crate::runs::{FIRST, SECOND, report_of};
+use byz_world::{Event, History, World, audit};
 use host_types::{Bytes, ClientId, Digest, ReplicaId, Request, SeqNo, View};
 use pbft_codec::{Body, Checkpoint, Commit, PrePrepare, Prepare, Snapshot};
 use replica_core::Row;
 use service_core::State;
 use std::alloc::Global;
-use std::process::Abort;
 use std::sync::Arc;
 use std::test::Fail;
 use view_change::null_digest;
@@ -152,6 +151,16 @@ fn put_installed(group: &mut Group, state: &State, record: &mut Vec<Row>) -> Res
     life.put_rows(record)
 }
 
+fn put_fourth(group: &mut Group, record: &mut Vec<Row>) -> Result<(), Fail> {
+    let state = fourth(group)?;
+    put_installed(group, &state, record)
+}
+
+fn put_other(group: &mut Group, record: &mut Vec<Row>) -> Result<(), Fail> {
+    let state = other_fourth(group)?;
+    put_installed(group, &state, record)
+}
+
 // Adds rows to a record once more.
 fn put_copies(rows: &[Row], record: &mut Vec<Row>) -> Result<(), Fail> {
     for row in rows {
@@ -160,110 +169,169 @@ fn put_copies(rows: &[Row], record: &mut Vec<Row>) -> Result<(), Fail> {
     Ok(())
 }
 
-// The fault of an audit, or the greatest number.
-fn greatest(alloc: Global, records: &[(ReplicaId, Vec<Row>)]) -> Result<u64, AuditFault> {
-    Ok(audit(alloc, records)?.greatest().0)
+// Adds all that a record has to it once more.
+fn put_again(alloc: Global, record: &mut Vec<Row>) -> Result<(), Fail> {
+    let mut rows = Vec::new(alloc);
+    put_copies(record, &mut rows)?;
+    put_copies(&rows, record)
 }
 
-#[test]
-fn a_record_is_audited(rt: HostRuntime) -> Result<(), Fail> {
-    let alloc = rt.alloc();
-    let mut group = Group::new(alloc)?;
-    let request = group.digest("a")?;
-    let mut first = [(ReplicaId(1), Vec::new(alloc))];
-    assert_eq!(rt; greatest(alloc, &first), Ok(0));
+/// What is added to records of replicas, and what an audit of them then finds: the greatest number, or its fault.
+/// `anew` begins with fresh keys and no record, `none` with no record. A replica's id begins its record. `eight`: it
+/// executes the null request at 1 to 8. `fifth`, `fifth-a`: it installs the state after four null requests, and executes
+/// the null request, or the client's, at 5. `fourth`, `other`: it installs that state, or another of its number.
+/// `again`: all that the record has, once more.
+const RECORDS: &str = "\
+1 => 0\n\
+fifth => Unrecorded\n\
+none 1 eight => 8\n\
+fifth => 8\n\
+fifth-a => Differ\n\
+anew\n\
+2 fifth 1 eight => 8\n\
+again => Gap\n\
+3 fifth-a => Differ\n\
+anew\n\
+1 fourth 2 => Unrecorded\n\
+eight fourth => 8\n\
+other => Differ\n\
+";
 
-    // Installed at 4 and executed at 5 alone: 1 to 4 were executed by none.
-    put_fifth(&mut group, null_digest(), &mut first[0].1)?;
-    assert_eq!(rt; greatest(alloc, &first), Err(AuditFault::Unrecorded));
+/// Records, each with its replica; what is added goes to the last one.
+type Records = Vec<(ReplicaId, Vec<Row>)>;
 
-    let mut second = [(ReplicaId(1), Vec::new(alloc))];
-    put_eight(&mut group, &mut second[0].1)?;
-    assert_eq!(rt; greatest(alloc, &second), Ok(8));
+// Adds the rows that a word names.
+fn put(group: &mut Group, word: &str, record: &mut Vec<Row>) -> Result<(), Fail> {
+    match word {
+        "eight" => put_eight(group, record),
+        "fifth" => put_fifth(group, null_digest(), record),
+        "fifth-a" => {
+            let digest = group.digest("a")?;
+            put_fifth(group, digest, record)
+        }
+        "fourth" => put_fourth(group, record),
+        "other" => put_other(group, record),
+        "again" => put_again(group.alloc, record),
+        _ => Err(Fail::new("no such rows")),
+    }
+}
 
-    // 5 is executed again after the state of 4 was installed: alike, and otherwise.
-    put_fifth(&mut group, null_digest(), &mut second[0].1)?;
-    let history = audit(alloc, &second)?;
-    let fifth = history.at(SeqNo(5));
-    assert!(rt; matches!(fifth, Some((digest, [])) if *digest == null_digest()));
-    assert_eq!(rt; history.greatest().0, 8);
-    assert!(rt; history.at(SeqNo(0)).is_none() && history.at(SeqNo(9)).is_none());
-    put_fifth(&mut group, request, &mut second[0].1)?;
-    assert_eq!(rt; greatest(alloc, &second), Err(AuditFault::Differ));
+// Begins a record, or adds what a word names to the last one.
+fn add(group: &mut Group, word: &str, records: &mut Records) -> Result<(), Fail> {
+    if word == "none" {
+        records.clear();
+        return Ok(());
+    }
+    if let Ok(id) = word.parse::<u8>() {
+        records.push((ReplicaId(id), Vec::new(group.alloc)))?;
+        return Ok(());
+    }
+    match records.last_mut() {
+        Some((_, record)) => put(group, word, record),
+        None => Err(Fail::new("no record")),
+    }
+}
+
+// Adds what these words say.
+fn add_all(group: &mut Group, words: &str, records: &mut Records) -> Result<(), Fail> {
+    for word in words.split(' ') {
+        add(group, word, records)?;
+    }
     Ok(())
+}
+
+// The fault of an audit, or the greatest number.
+fn found(alloc: Global, records: &[(ReplicaId, Vec<Row>)]) -> Result<String, Fail> {
+    match audit(alloc, records) {
+        Ok(history) => Ok(format!(in alloc; "{}", history.greatest().0)?),
+        Err(fault) => Ok(format!(in alloc; "{fault}")?),
+    }
+}
+
+/// A group, and records of its replicas.
+#[derive(Drop)]
+struct Recorded {
+    group: Group,
+    records: Records,
+}
+
+impl Recorded {
+    fn new(alloc: Global) -> Result<Recorded, Fail> {
+        Ok(Recorded {
+            group: Group::new(alloc)?,
+            records: Vec::new(alloc),
+        })
+    }
+
+    // Does what a line says. Whether an audit then finds what it says.
+    fn line(&mut self, line: &str) -> Result<bool, Fail> {
+        let alloc = self.group.alloc;
+        let Some((words, wanted)) = line.split_once(" => ") else {
+            *self = Recorded::new(alloc)?;
+            return Ok(true);
+        };
+        add_all(&mut self.group, words, &mut self.records)?;
+        Ok(found(alloc, &self.records)?.as_str() == wanted)
+    }
 }
 
 #[test]
 fn records_are_audited(rt: HostRuntime) -> Result<(), Fail> {
-    let alloc = rt.alloc();
-    let mut group = Group::new(alloc)?;
-    let request = group.digest("a")?;
-    let mut eight = Vec::new(alloc);
-    put_eight(&mut group, &mut eight)?;
-    let mut records = [
-        (ReplicaId(1), Vec::new(alloc)),
-        (ReplicaId(2), Vec::new(alloc)),
-    ];
-    put_copies(&eight, &mut records[0].1)?;
-    put_fifth(&mut group, null_digest(), &mut records[1].1)?;
-    assert_eq!(rt; greatest(alloc, &records), Ok(8));
-
-    // One executes 1 after 8, alike.
-    put_copies(&eight, &mut records[0].1)?;
-    assert_eq!(rt; greatest(alloc, &records), Err(AuditFault::Gap));
-
-    // The other executes 5 otherwise: that is the first fault.
-    put_fifth(&mut group, request, &mut records[1].1)?;
-    assert_eq!(rt; greatest(alloc, &records), Err(AuditFault::Differ));
+    let mut recorded = Recorded::new(rt.alloc())?;
+    for line in RECORDS.lines() {
+        assert!(rt; recorded.line(line)?, "{line}");
+    }
     Ok(())
 }
 
+// Whether a history has the numbers 1 to 8, and the null request, to which nobody has a reply, at 5.
+fn has_eight(history: &History) -> bool {
+    let is_fifth = match history.at(SeqNo(5)) {
+        Some((digest, results)) => *digest == null_digest() && results.is_empty(),
+        None => false,
+    };
+    is_fifth
+        && history.greatest().0 == 8
+        && history.at(SeqNo(0)).is_none()
+        && history.at(SeqNo(9)).is_none()
+}
+
 #[test]
-fn installations_are_audited(rt: HostRuntime) -> Result<(), Fail> {
-    let alloc = rt.alloc();
-    let mut group = Group::new(alloc)?;
-    let state = fourth(&group)?;
-    let mut records = [
-        (ReplicaId(1), Vec::new(alloc)),
-        (ReplicaId(2), Vec::new(alloc)),
-    ];
-
-    // Installed at 4: it is the greatest number, though none was executed.
-    put_installed(&mut group, &state, &mut records[0].1)?;
-    assert_eq!(rt; greatest(alloc, &records), Err(AuditFault::Unrecorded));
-
-    // Another one installs the same state there, and then one with another digest.
-    put_eight(&mut group, &mut records[1].1)?;
-    put_installed(&mut group, &state, &mut records[1].1)?;
-    assert_eq!(rt; greatest(alloc, &records), Ok(8));
-    let other = other_fourth(&group)?;
-    put_installed(&mut group, &other, &mut records[1].1)?;
-    assert_eq!(rt; greatest(alloc, &records), Err(AuditFault::Differ));
+fn a_history_has_what_was_executed(rt: HostRuntime) -> Result<(), Fail> {
+    let mut recorded = Recorded::new(rt.alloc())?;
+    assert!(rt; recorded.line("1 eight fifth => 8")?);
+    let history = audit(rt.alloc(), &recorded.records)?;
+    assert!(rt; has_eight(&history));
     Ok(())
+}
+
+// The records of a run whose replica 3 is faulty.
+fn honest_records(group: &Group) -> Result<Records, Fail> {
+    let mut records = Vec::new(group.alloc);
+    for outcome in report_of(group, &[FIRST, SECOND])?.outcomes() {
+        let mut record = Vec::new(group.alloc);
+        put_copies(&outcome.rows, &mut record)?;
+        records.push((outcome.id, record))?;
+    }
+    Ok(records)
+}
+
+// Whether a history has the request of this name at a number, answered by the one byte 1.
+fn has(group: &Group, history: &History, number: u64, name: &str) -> Result<bool, Fail> {
+    let request = group.digest(name)?;
+    let one: &[u8] = &[1];
+    Ok(match history.at(SeqNo(number)) {
+        Some((digest, result)) => *digest == request && result == one,
+        None => false,
+    })
 }
 
 #[test]
 fn records_of_an_honest_family_have_a_history(rt: HostRuntime) -> Result<(), Fail> {
-    let alloc = rt.alloc();
-    let group = Group::new(alloc)?;
-    let mut world = group.world(&set_of(&[3]))?;
-    group.play(&mut world, FIRST)?;
-    group.play(&mut world, SECOND)?;
-    let mut records = Vec::new(alloc);
-    for outcome in world.report()?.outcomes() {
-        let mut record = Vec::new(alloc);
-        put_copies(&outcome.rows, &mut record)?;
-        records.push((outcome.id, record))?;
-    }
-    let history = audit(alloc, &records)?;
-    assert_eq!(rt; history.greatest().0, 2);
-    for (number, name) in [(1, "a"), (2, "b")] {
-        let request = group.digest(name)?;
-        let entry = history.at(SeqNo(number));
-        assert!(rt;
-            matches!(entry, Some((digest, [1])) if *digest == request),
-            "{name}"
-        );
-    }
+    let group = Group::new(rt.alloc())?;
+    let records = honest_records(&group)?;
+    let history = audit(rt.alloc(), &records)?;
+    assert!(rt; history.greatest().0 == 2);
+    assert!(rt; has(&group, &history, 1, "a")? && has(&group, &history, 2, "b")?);
     Ok(())
 }

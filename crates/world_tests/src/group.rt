@@ -4,7 +4,7 @@ use crate::listed::are_listed;
 use byz_world::{Event, Report, World, WorldFault, run_world};
 use host_types::{Bytes, ClientEntry, ClientId, Config, Digest, ReplicaId, ReplicaSet, TenantId};
 use lms_tree::{Height, Signer};
-use pbft_codec::{Body, RequestBody, Role, Signed, signed_bytes};
+use pbft_codec::{Body, CodecFault, RequestBody, Role, Signed, signed_bytes};
 use seal::{open, request_digest};
 use std::alloc::{AllocError, Global};
 use std::sync::Arc;
@@ -52,18 +52,30 @@ pub fn set_of(ids: &[u8]) -> ReplicaSet {
     set
 }
 
+// The signers of these numbers.
+fn signers(alloc: Global, numbers: &[u8]) -> Result<Vec<Signer>, Fail> {
+    let mut signers = Vec::new(alloc);
+    for number in numbers {
+        signers.push(signer(alloc, *number)?)?;
+    }
+    Ok(signers)
+}
+
+// The client's requests, by name.
+fn requests(alloc: Global, client: &mut Signer) -> Result<Vec<(&'static str, Vec<u8>)>, Fail> {
+    let mut requests = Vec::new(alloc);
+    for (name, time) in [("a", 1), ("b", 2)] {
+        requests.push((name, request_at(alloc, client, time)?))?;
+    }
+    Ok(requests)
+}
+
 impl Group {
     pub fn new(alloc: Global) -> Result<Group, Fail> {
-        let mut replicas = Vec::new(alloc);
-        for number in 0..4u8 {
-            replicas.push(signer(alloc, number)?)?;
-        }
+        let replicas = signers(alloc, &[0, 1, 2, 3])?;
         let mut client = signer(alloc, 9)?;
         let config = config_of(alloc, &replicas, &client)?;
-        let mut requests = Vec::new(alloc);
-        for (name, time) in [("a", 1), ("b", 2)] {
-            requests.push((name, request_at(alloc, &mut client, time)?))?;
-        }
+        let requests = requests(alloc, &mut client)?;
         Ok(Group {
             alloc,
             config,
@@ -148,7 +160,18 @@ fn put_length_prefixed(out: &mut Vec<u8>, bytes: &[u8]) -> Result<(), AllocError
     out.extend_from_slice(bytes)
 }
 
-// The bytes of a message of this body, whatever it says: its head, what it says, and the signature.
+// What is signed of a message of this body, whatever it says.
+fn text_of(alloc: Global, role: Role, id: u32, body: Body) -> Result<Vec<u8>, CodecFault> {
+    let unsigned = Signed {
+        role,
+        id,
+        body,
+        sig: Bytes::from_vec(Vec::new(alloc)),
+    };
+    signed_bytes(alloc, &unsigned)
+}
+
+// The bytes of a message of this body: its head, what it says, and the signature.
 fn signed(
     alloc: Global,
     signer: &mut Signer,
@@ -156,13 +179,7 @@ fn signed(
     id: u32,
     body: Body,
 ) -> Result<Vec<u8>, Fail> {
-    let unsigned = Signed {
-        role,
-        id,
-        body,
-        sig: Bytes::from_vec(Vec::new(alloc)),
-    };
-    let text = signed_bytes(alloc, &unsigned)?;
+    let text = text_of(alloc, role, id, body)?;
     let (head, said) = text.split_at(text.len().min(5));
     let mut bytes = Vec::from_slice(alloc, head)?;
     put_length_prefixed(&mut bytes, said)?;

@@ -2,7 +2,7 @@
 
 use crate::group::{Group, set_of};
 use crate::rows::are_same;
-use byz_world::{Report, World, WorldFault};
+use byz_world::{Event, Report, World, WorldFault};
 use host_types::ReplicaId;
 use replica_core::Halt;
 use std::process::Abort;
@@ -96,43 +96,71 @@ fn counts(report: &Report) -> [(u8, usize); 3] {
     counts
 }
 
+/// What the correct replicas did under these scripts, where replica 3 is faulty.
+pub fn report_of(group: &Group, scripts: &[&str]) -> Result<Report, Fail> {
+    let mut world = group.world(&set_of(&[3]))?;
+    for script in scripts {
+        group.play(&mut world, script)?;
+    }
+    Ok(world.report()?)
+}
+
 #[test]
 fn events_of_a_world(rt: HostRuntime) -> Result<(), Fail> {
     let group = Group::new(rt.alloc())?;
     let mut world = group.world(&set_of(&[3]))?;
     assert!(rt; has_one_state(&world, 0));
-    group.play(&mut world, FIRST)?;
-    assert!(rt; has_one_state(&world, 1));
-    group.play(&mut world, REFUSED)?;
-    assert!(rt; has_one_state(&world, 1));
-    group.play(&mut world, SECOND)?;
-    assert!(rt; has_one_state(&world, 2));
-    let report = world.report()?;
-    assert_eq!(rt; counts(&report), [(0, 12), (1, 12), (2, 10)]);
+    for (script, number) in [(FIRST, 1), (REFUSED, 1), (SECOND, 2)] {
+        group.play(&mut world, script)?;
+        assert!(rt; has_one_state(&world, number), "{number}");
+    }
+    assert!(rt; counts(&world.report()?) == [(0, 12), (1, 12), (2, 10)]);
     Ok(())
+}
+
+// The events of these scripts.
+fn events_of(group: &Group, scripts: &[&str]) -> Result<Vec<Event>, Fail> {
+    let mut events = Vec::new(group.alloc);
+    for script in scripts {
+        for event in group.events(script)? {
+            events.push(event)?;
+        }
+    }
+    Ok(events)
+}
+
+// Whether the events of these scripts give this report.
+fn gives(group: &Group, scripts: &[&str], report: &Report) -> Result<bool, Fail> {
+    let events = events_of(group, scripts)?;
+    Ok(match group.run(&set_of(&[3]), &events)? {
+        Ok(given) => are_same(&given, report),
+        Err(_) => false,
+    })
+}
+
+// Whether the refused events are refused, by the first one's fault.
+fn are_refused(group: &Group) -> Result<bool, Fail> {
+    let events = group.events(REFUSED)?;
+    let given = group.run(&set_of(&[3]), &events)?;
+    Ok(matches!(given, Err(WorldFault::NoSuchReplica)))
 }
 
 // Refused events and those without a row leave a world as it was: its report is that of the others.
 #[test]
 fn a_run_is_its_events(rt: HostRuntime) -> Result<(), Fail> {
     let group = Group::new(rt.alloc())?;
-    let faulty = set_of(&[3]);
-    let mut world = group.world(&faulty)?;
-    group.play(&mut world, FIRST)?;
-    group.play(&mut world, REFUSED)?;
-    group.play(&mut world, SECOND)?;
-    let played = world.report()?;
-    let mut events = group.events(FIRST)?;
-    for event in group.events(SECOND)? {
-        events.push(event)?;
-    }
-    match group.run(&faulty, &events)? {
-        Ok(report) => assert!(rt; are_same(&report, &played)),
-        Err(fault) => return Err(fault.into()),
-    }
-    let refused = group.run(&faulty, &group.events(REFUSED)?)?;
-    assert!(rt; matches!(refused, Err(WorldFault::NoSuchReplica)));
+    let played = report_of(&group, &[FIRST, REFUSED, SECOND])?;
+    assert!(rt; gives(&group, &[FIRST, SECOND], &played)?);
+    assert!(rt; are_refused(&group)?);
     Ok(())
+}
+
+// Whether replica 1 alone is reported, with 32 rows, and stopped for want of a leaf.
+fn is_stopped(report: &Report) -> bool {
+    let [outcome] = report.outcomes() else {
+        return false;
+    };
+    outcome.id.0 == 1 && outcome.rows.len() == 32 && outcome.halted == Some(Halt::Exhausted)
 }
 
 // Replica 1 has 32 leaves, and the 33rd timeout stops it.
@@ -145,14 +173,6 @@ fn a_stopped_replica_is_reported(rt: HostRuntime) -> Result<(), Fail> {
     }
     group.play(&mut world, "timeout 1 => no row")?;
     assert!(rt; world.state(ReplicaId(1)).is_none());
-    let report = world.report()?;
-    match report.outcomes() {
-        [outcome] => {
-            assert_eq!(rt; outcome.id.0, 1);
-            assert_eq!(rt; outcome.rows.len(), 32);
-            assert_eq!(rt; outcome.halted, Some(Halt::Exhausted));
-        }
-        _ => return Err(Fail::new("other replicas")),
-    }
+    assert!(rt; is_stopped(&world.report()?));
     Ok(())
 }

@@ -3,12 +3,12 @@
 ghost use Rattle.std.specs.Prelude.{◌≡◌, IfOk};
 ghost use Rattle.std.specs.List.{All};
 
-use crate::common::members::{FIRST_CLIENT, config, signers};
-use crate::common::operations::{PUT, call as call_of, installation, put};
-use crate::lanes::batches::large_code;
 use anyhow::{Result, anyhow};
+use bench_parts::members::{FIRST_CLIENT, config, signers};
+use bench_parts::operations::{PUT, call as call_of, installation, large_code, put};
+use bench_parts::{Measures, NoGate};
 use host_client::{Session, SessionFault, call};
-use host_types::{Bytes, ClientId, Config, Gate, ReplicaId};
+use host_types::{Bytes, ClientId, Config, ReplicaId};
 use lms_tree::{Height, Signer};
 use replica_core::Row;
 use replica_threads::Host;
@@ -119,14 +119,36 @@ impl Caller {
     }
 }
 
-/// No one watches the threads.
-#[derive(Drop)]
-pub(crate) struct NoGate;
+/// Starts a host of replicas with these signers.
+fn start_host<R: Threads + Wait + Copy + Send + Sync + Drop + 'static>(
+    rt: &R,
+    alloc: Global,
+    config: &Arc<Config>,
+    replicas: Vec<Signer>,
+    openers: u8,
+) -> Result<Arc<Host>> {
+    let gate = Arc::new(alloc, NoGate)?;
+    let host = Host::start(rt, alloc, config, replicas, MAX_ROWS, openers, gate)?;
+    Ok(Arc::new(alloc, host)?)
+}
 
-impl Gate for NoGate {
-    fn step(&self, who: u32) {
-        let _ = who;
+/// A host's clients with these signers.
+fn callers_of(alloc: Global, host: &Arc<Host>, signers: Vec<Signer>) -> Result<Vec<Caller>> {
+    let mut callers = Vec::new(alloc);
+    let mut id = u32::from(FIRST_CLIENT);
+    for signer in signers {
+        callers.push(Caller::new(alloc, host, ClientId(id), signer)?)?;
+        id = id.saturating_add(1);
     }
+    Ok(callers)
+}
+
+/// Lets the first client of each tenant install the procedure.
+fn install<R: Wait>(rt: &R, alloc: Global, setup: Setup, callers: &mut [Caller]) -> Result<()> {
+    for caller in callers.iter_mut().take(usize::from(setup.tenants)) {
+        caller.call(rt, alloc, setup.work.installation(alloc)?)?;
+    }
+    Ok(())
 }
 
 /// Starts a host and its clients, of which the first of each tenant has installed the procedure.
@@ -139,18 +161,9 @@ fn start<R: Threads + Wait + Copy + Send + Sync + Drop + 'static>(
     let clients = signers(alloc, setup.height, FIRST_CLIENT, setup.clients)?;
     let tenants = u32::from(setup.tenants);
     let config = config(alloc, 1, INTERVAL, &replicas, &clients, tenants)?;
-    let gate = Arc::new(alloc, NoGate)?;
-    let host = Host::start(rt, alloc, &config, replicas, MAX_ROWS, setup.openers, gate)?;
-    let host = Arc::new(alloc, host)?;
-    let mut callers = Vec::new(alloc);
-    let mut id = u32::from(FIRST_CLIENT);
-    for signer in clients {
-        callers.push(Caller::new(alloc, &host, ClientId(id), signer)?)?;
-        id = id.saturating_add(1);
-    }
-    for caller in callers.iter_mut().take(usize::from(setup.tenants)) {
-        caller.call(rt, alloc, setup.work.installation(alloc)?)?;
-    }
+    let host = start_host(rt, alloc, &config, replicas, setup.openers)?;
+    let mut callers = callers_of(alloc, &host, clients)?;
+    install(rt, alloc, setup, &mut callers)?;
     Ok((host, callers))
 }
 
@@ -182,16 +195,15 @@ fn call_at_once<R: Threads + Wait + Copy + Send + Sync + Drop + 'static>(
 }
 
 /// Runs a host until its clients' calls are answered.
-pub(crate) fn measure<R: Threads + Wait + Copy + Send + Sync + Drop + 'static>(
-    rt: &HostRuntime,
-    threads: &R,
+pub(crate) fn measure<R: Measures + Threads + Wait + Copy + Send + Sync + Drop + 'static>(
+    rt: &R,
     setup: Setup,
 ) -> Result<Run> {
-    let (host, callers) = start(threads, rt.alloc(), setup)?;
+    let (host, callers) = start(rt, rt.alloc(), setup)?;
     let start = Instant::now(rt)?;
-    call_at_once(threads, rt.alloc(), callers, setup)?;
+    call_at_once(rt, rt.alloc(), callers, setup)?;
     let nanoseconds = start.elapsed(rt)?.as_nanos();
-    let journals = host.close(threads)?;
+    let journals = host.close(rt)?;
     let config = Arc::try_clone(host.config())?;
     Ok(Run {
         config,

@@ -1,9 +1,10 @@
 //! The signatures of a run alone, made and verified again in as many threads as there are replicas.
 
-use crate::common::case::Case;
-use crate::common::members::signers;
 use crate::threads::calls::{REPLICAS, Run, Setup};
 use anyhow::{Result, anyhow};
+use bench_parts::Measures;
+use bench_parts::case::Case;
+use bench_parts::members::signers;
 use host_types::Config;
 use lms_tree::Signer;
 use pbft_codec::{Role, signed_bytes};
@@ -38,15 +39,20 @@ impl Load {
             signer,
         };
         for row in rows {
-            if let Input::Message(message) = row.input() {
-                load.cases.push(Case::of(alloc, config, message)?)?;
-                if has_requests && message.signer().0 == Role::Client {
-                    load.sign(alloc, message)?;
-                }
-            }
-            load.add_outputs(alloc, config, row)?;
+            load.add(alloc, config, row, has_requests)?;
         }
         Ok(load)
+    }
+
+    /// What was verified and signed in a row.
+    fn add(&mut self, alloc: Global, config: &Config, row: &Row, has_requests: bool) -> Result<()> {
+        if let Input::Message(message) = row.input() {
+            self.cases.push(Case::of(alloc, config, message)?)?;
+            if has_requests && message.signer().0 == Role::Client {
+                self.sign(alloc, message)?;
+            }
+        }
+        self.add_outputs(alloc, config, row)
     }
 
     /// What was signed in a row, and the replies, which a client verified.
@@ -93,9 +99,8 @@ fn loads_of(alloc: Global, setup: Setup, run: &Run) -> Result<Vec<Load>> {
 }
 
 /// The time in which all signatures of a run are made and verified alone, each replica's in a thread.
-pub(crate) fn nanoseconds_alone<R: Threads + Wait + Copy + Send + Sync + Drop + 'static>(
-    rt: &HostRuntime,
-    threads: &R,
+pub(crate) fn nanoseconds_alone<R: Measures + Threads + Wait + Copy + Send + Sync + Drop + 'static>(
+    rt: &R,
     setup: Setup,
     run: &Run,
 ) -> Result<u128> {
@@ -107,11 +112,11 @@ pub(crate) fn nanoseconds_alone<R: Threads + Wait + Copy + Send + Sync + Drop + 
             let mut load = load;
             load.run().is_ok()
         };
-        crew.push(thread::spawn(threads, job)?)?;
+        crew.push(thread::spawn(rt, job)?)?;
     }
     let mut are_valid = true;
     while let Some(thread) = crew.pop() {
-        are_valid = thread.join(threads) && are_valid;
+        are_valid = thread.join(rt) && are_valid;
     }
     if are_valid {
         Ok(start.elapsed(rt)?.as_nanos())

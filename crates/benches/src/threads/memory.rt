@@ -1,9 +1,11 @@
 //! The memory that a host takes.
 
-use crate::common::peak::{peak, print_within};
+use crate::peak::{peak, print_within};
 use crate::threads::calls::{Setup, Work, measure};
 use anyhow::Result;
+use bench_parts::Measures;
 use lms_tree::Height;
+use std::fs::Files;
 use std::sync::Wait;
 use std::thread::Threads;
 
@@ -14,10 +16,9 @@ const REQUESTS: u32 = 300;
 const LIMIT: u64 = 256 * 1024;
 
 /// Prints what a host and its client have taken at most after 300 requests.
-pub(crate) fn print_memory<R: Threads + Wait + Copy + Send + Sync + Drop + 'static>(
-    rt: &HostRuntime,
-    threads: &R,
-) -> Result<()> {
+pub(crate) fn print_memory<
+    R: Measures + Files + Threads + Wait + Copy + Send + Sync + Drop + 'static,
+>(rt: &R) -> Result<()> {
     let setup = Setup {
         height: Height::H10,
         clients: 1,
@@ -26,7 +27,7 @@ pub(crate) fn print_memory<R: Threads + Wait + Copy + Send + Sync + Drop + 'stat
         work: Work::Put,
         openers: 1,
     };
-    measure(rt, threads, setup)?;
+    measure(rt, setup)?;
     print_within(
         rt,
         "a host of four replicas after 300 requests, at most",

@@ -6,10 +6,10 @@ ghost use Rattle.lms_tree.specs.Keys.{IsKeyOf};
 ghost use Rattle.pbft_codec.specs.declared.signed.Role.TheVariants as roles;
 ghost use Rattle.seal.specs.Signers.{key_of};
 
-use crate::common::members::signers;
-use crate::common::processor_time::ProcessorTime;
-use crate::threads::calls::{NoGate, Run, Setup};
+use crate::threads::calls::{Run, Setup};
 use anyhow::{Result, anyhow};
+use bench_parts::members::signers;
+use bench_parts::{Measures, NoGate, ProcessorTime};
 use host_types::{Config, ReplicaId};
 use lms_tree::Signer;
 use replica_core::{Input, Replica};
@@ -20,6 +20,7 @@ use std::marker::Brand;
 use std::sync::ledger::Blank;
 use std::sync::{Arc, Wait};
 use std::thread::Threads;
+use std::time::CpuClock;
 
 /// The backup whose steps are made again.
 const BACKUP: ReplicaId = ReplicaId(1);
@@ -54,7 +55,7 @@ fn backup(alloc: Global, setup: Setup, config: &Arc<Config>) -> Result<Signer>
 
 /// The processor's time in which a replica takes messages, in nanoseconds.
 pub(crate) fn nanoseconds_alone(
-    rt: &HostRuntime,
+    rt: &impl Measures,
     setup: Setup,
     config: &Arc<Config>,
     messages: &[Checked],
@@ -65,9 +66,20 @@ pub(crate) fn nanoseconds_alone(
         return Err(anyhow!("there is no such replica"));
     }
     let mut replica = Replica::new(alloc, config, BACKUP, signer)?;
+    nanoseconds_of_all(rt, &mut replica, config, messages)
+}
+
+fn nanoseconds_of_all(
+    rt: &impl CpuClock,
+    replica: &mut Replica,
+    config: &Arc<Config>,
+    messages: &[Checked],
+) -> Result<u128>
+    requires { replica.old.config ≡ config.now.value }
+{
     let start = ProcessorTime::now(rt)?;
     for message in messages {
-        take(&mut replica, config, message)?;
+        take(replica, config, message)?;
     }
     Ok(start.nanoseconds(rt)?)
 }
@@ -85,9 +97,8 @@ fn take(replica: &mut Replica, config: &Arc<Config>, message: &Checked) -> Resul
 }
 
 /// The same at a station.
-pub(crate) fn nanoseconds_at_station<R: Wait + Threads + Sync>(
-    rt: &HostRuntime,
-    threads: &R,
+pub(crate) fn nanoseconds_at_station<R: Measures + Wait + Threads + Sync>(
+    rt: &R,
     setup: Setup,
     config: &Arc<Config>,
     messages: &[Checked],
@@ -97,12 +108,11 @@ pub(crate) fn nanoseconds_at_station<R: Wait + Threads + Sync>(
         return Err(anyhow!("there is no such replica"));
     }
     let blank = Blank::new(65_536);
-    nanoseconds_at::<Brand, R>(rt, threads, blank, config, signer, messages)
+    nanoseconds_at::<Brand, R>(rt, blank, config, signer, messages)
 }
 
-fn nanoseconds_at<K: Named, R: Wait + Threads + Sync>(
-    rt: &HostRuntime,
-    threads: &R,
+fn nanoseconds_at<K: Named, R: Measures + Wait + Threads + Sync>(
+    rt: &R,
     blank: Blank,
     config: &Arc<Config>,
     signer: Signer,
@@ -122,7 +132,7 @@ fn nanoseconds_at<K: Named, R: Wait + Threads + Sync>(
         if !message.under(config) {
             return Err(anyhow!("another configuration"));
         }
-        station.take(threads, &mut seat, message, &NoGate)?;
+        station.take(rt, &mut seat, message, &NoGate)?;
     }
     Ok(start.nanoseconds(rt)?)
 }

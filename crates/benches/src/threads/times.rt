@@ -1,12 +1,15 @@
 //! What calls take against their signatures alone, and steps at a station against steps alone.
 
-use crate::common::ratio::{Comparison, Limit, require_within_limits};
 use crate::threads::calls::{REPLICAS, Setup, Work, measure};
 use crate::threads::load;
 use crate::threads::steps::{self, messages_of};
 use anyhow::Result;
+use bench_parts::Measures;
+use bench_parts::ratio::{Comparison, Limit, require_within_limits};
+use host_types::Config;
 use lms_tree::Height;
-use std::sync::Wait;
+use seal::Checked;
+use std::sync::{Arc, Wait};
 use std::thread;
 use std::thread::Threads;
 
@@ -46,14 +49,22 @@ fn host_of_tenants(tenants: u8) -> Setup {
     }
 }
 
+/// The time of the calls of a host, and that of their signatures alone, in nanoseconds.
+fn measured_calls<R: Measures + Threads + Wait + Copy + Send + Sync + Drop + 'static>(
+    rt: &R,
+    setup: Setup,
+) -> Result<(u128, u128)> {
+    let run = measure(rt, setup)?;
+    let alone = load::nanoseconds_alone(rt, setup, &run)?;
+    Ok((run.nanoseconds, alone))
+}
+
 /// Prints what the calls of a host take, and returns whether that is within the limit.
-fn print_calls<R: Threads + Wait + Copy + Send + Sync + Drop + 'static>(
-    rt: &HostRuntime,
-    threads: &R,
+fn print_calls<R: Measures + Threads + Wait + Copy + Send + Sync + Drop + 'static>(
+    rt: &R,
     setup: Setup,
 ) -> Result<bool> {
-    let run = measure(rt, threads, setup)?;
-    let alone = load::nanoseconds_alone(rt, threads, setup, &run)?;
+    let (taken, floor) = measured_calls(rt, setup)?;
     let Setup {
         clients,
         openers,
@@ -62,26 +73,25 @@ fn print_calls<R: Threads + Wait + Copy + Send + Sync + Drop + 'static>(
     let work = format!(in rt.alloc(); "{REQUESTS} calls, clients: {clients}, openers: {openers}")?;
     let is_within = Comparison {
         work: work.as_str(),
-        taken: run.nanoseconds,
+        taken,
         other: "signatures alone in four threads",
-        floor: alone,
+        floor,
         limit: CALLS,
     }
     .print_microseconds(rt)?;
-    let each_second = u128::from(REQUESTS).saturating_mul(1_000_000_000) / run.nanoseconds.max(1);
-    let processors = thread::available_parallelism(threads)?;
+    let each_second = u128::from(REQUESTS).saturating_mul(1_000_000_000) / taken.max(1);
+    let processors = thread::available_parallelism(rt)?;
     println!(rt; "  {each_second} calls a second, on {processors} processors")?;
     Ok(is_within)
 }
 
 /// Prints what calls of long procedures take where each client is of a tenant of its own, against those of
 /// clients of one tenant, and returns whether that is within the limit.
-fn print_tenants<R: Threads + Wait + Copy + Send + Sync + Drop + 'static>(
-    rt: &HostRuntime,
-    threads: &R,
+fn print_tenants<R: Measures + Threads + Wait + Copy + Send + Sync + Drop + 'static>(
+    rt: &R,
 ) -> Result<bool> {
-    let one = measure(rt, threads, host_of_tenants(1))?.nanoseconds;
-    let eight = measure(rt, threads, host_of_tenants(8))?.nanoseconds;
+    let one = measure(rt, host_of_tenants(1))?.nanoseconds;
+    let eight = measure(rt, host_of_tenants(8))?.nanoseconds;
     let work = format!(in rt.alloc(); "{REQUESTS} calls of 60,121 steps, clients: 8, tenants: 8")?;
     Comparison {
         work: work.as_str(),
@@ -93,53 +103,63 @@ fn print_tenants<R: Threads + Wait + Copy + Send + Sync + Drop + 'static>(
     .print_microseconds(rt)
 }
 
-/// Prints what the steps of a replica take at a station, and returns whether that is within the limit.
-fn print_steps<R: Threads + Wait + Copy + Send + Sync + Drop + 'static>(
-    rt: &HostRuntime,
-    threads: &R,
-) -> Result<bool> {
-    let setup = host_of(1, 1);
-    let run = measure(rt, threads, setup)?;
-    let messages = messages_of(rt.alloc(), &run)?;
+/// The least time in which a replica takes messages at a station, and that in which it takes them alone.
+fn least_of_steps<R: Measures + Threads + Wait + Sync>(
+    rt: &R,
+    setup: Setup,
+    config: &Arc<Config>,
+    messages: &[Checked],
+) -> Result<(u128, u128)> {
     let (mut taken, mut alone) = (u128::MAX, u128::MAX);
     for _ in 0..ROUNDS {
-        alone = alone.min(steps::nanoseconds_alone(rt, setup, &run.config, &messages)?);
-        taken = taken.min(steps::nanoseconds_at_station(
-            rt,
-            threads,
-            setup,
-            &run.config,
-            &messages,
-        )?);
+        alone = alone.min(steps::nanoseconds_alone(rt, setup, config, messages)?);
+        taken = taken.min(steps::nanoseconds_at_station(rt, setup, config, messages)?);
     }
-    let work = format!(in rt.alloc(); "{} steps at a station", messages.len())?;
+    Ok((taken, alone))
+}
+
+/// How many messages the backup took in a run, and both least times of them.
+fn measured_steps<R: Measures + Threads + Wait + Copy + Send + Sync + Drop + 'static>(
+    rt: &R,
+    setup: Setup,
+) -> Result<(usize, u128, u128)> {
+    let run = measure(rt, setup)?;
+    let messages = messages_of(rt.alloc(), &run)?;
+    let (taken, alone) = least_of_steps(rt, setup, &run.config, &messages)?;
+    Ok((messages.len(), taken, alone))
+}
+
+/// Prints what the steps of a replica take at a station, and returns whether that is within the limit.
+fn print_steps<R: Measures + Threads + Wait + Copy + Send + Sync + Drop + 'static>(
+    rt: &R,
+) -> Result<bool> {
+    let (count, taken, floor) = measured_steps(rt, host_of(1, 1))?;
+    let work = format!(in rt.alloc(); "{count} steps at a station")?;
     Comparison {
         work: work.as_str(),
         taken,
         other: "the replica's alone",
-        floor: alone,
+        floor,
         limit: STEP,
     }
     .print_microseconds(rt)
 }
 
 /// Prints all ratios; an error where one passes its limit.
-pub(crate) fn print_times<R: Threads + Wait + Copy + Send + Sync + Drop + 'static>(
-    rt: &HostRuntime,
-    threads: &R,
+pub(crate) fn print_times<R: Measures + Threads + Wait + Copy + Send + Sync + Drop + 'static>(
+    rt: &R,
 ) -> Result<()> {
-    let mut are_within = print_steps(rt, threads)?;
+    let mut are_within = print_steps(rt)?;
     for (clients, openers) in [(1, 1), (1, 2), (8, 1), (8, 2)] {
-        are_within = print_calls(rt, threads, host_of(clients, openers))? && are_within;
+        are_within = print_calls(rt, host_of(clients, openers))? && are_within;
     }
-    are_within = print_tenants(rt, threads)? && are_within;
+    are_within = print_tenants(rt)? && are_within;
     require_within_limits(are_within)
 }
 
 /// Prints how many replicas gave a journal after two calls.
-pub(crate) fn print_small<R: Threads + Wait + Copy + Send + Sync + Drop + 'static>(
-    rt: &HostRuntime,
-    threads: &R,
+pub(crate) fn print_small<R: Measures + Threads + Wait + Copy + Send + Sync + Drop + 'static>(
+    rt: &R,
 ) -> Result<()> {
     let setup = Setup {
         height: Height::H5,
@@ -149,11 +169,9 @@ pub(crate) fn print_small<R: Threads + Wait + Copy + Send + Sync + Drop + 'stati
         work: Work::Put,
         openers: 1,
     };
-    let run = measure(rt, threads, setup)?;
-    let is_whole = run.journals.len() == usize::from(REPLICAS);
+    let journals = measure(rt, setup)?.journals.len();
     println!(rt;
-        "2 calls are answered, and {} replicas of {REPLICAS} give their journals",
-        run.journals.len()
+        "2 calls are answered, and {journals} replicas of {REPLICAS} give their journals"
     )?;
-    require_within_limits(is_whole)
+    require_within_limits(journals == usize::from(REPLICAS))
 }

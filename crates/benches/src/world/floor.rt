@@ -1,9 +1,9 @@
 //! What scripts can't do without: keys, signatures and openings alone.
 
-use crate::common::members::config;
-use crate::common::processor_time::ProcessorTime;
-use crate::common::signing::message_bytes;
 use anyhow::{Result, anyhow};
+use bench_parts::members::config;
+use bench_parts::signing::message_bytes;
+use bench_parts::{Measures, ProcessorTime};
 use host_types::{Config, Digest, PublicKey, SeqNo, View};
 use lms_tree::{Height, Signer, verify};
 use pbft_codec::{Body, Commit, Role};
@@ -11,6 +11,7 @@ use seal::open;
 use sha2::{Digest as _, Sha256};
 use std::alloc::{AllocError, Global};
 use std::sync::Arc;
+use std::time::CpuClock;
 
 /// Whose vote is delivered.
 const VOTER: u8 = 2;
@@ -55,7 +56,7 @@ pub(crate) fn commit(alloc: Global) -> Result<Vote> {
 }
 
 /// The processor's time of opening a vote so many times, in nanoseconds.
-pub(crate) fn nanoseconds_of_opening(rt: &HostRuntime, vote: &Vote, count: u32) -> Result<u128> {
+pub(crate) fn nanoseconds_of_opening(rt: &impl Measures, vote: &Vote, count: u32) -> Result<u128> {
     let start = ProcessorTime::now(rt)?;
     for _ in 0..count {
         if open(rt.alloc(), &vote.config, &vote.bytes).is_err() {
@@ -66,7 +67,7 @@ pub(crate) fn nanoseconds_of_opening(rt: &HostRuntime, vote: &Vote, count: u32) 
 }
 
 /// The processor's time of so many keys of height 10, in nanoseconds, and one of their signers.
-pub(crate) fn nanoseconds_of_keys(rt: &HostRuntime, count: u8) -> Result<(u128, Signer)> {
+pub(crate) fn nanoseconds_of_keys(rt: &impl Measures, count: u8) -> Result<(u128, Signer)> {
     let start = ProcessorTime::now(rt)?;
     let mut signer = Signer::from_seed(rt.alloc(), Height::H10, [0; 16], [1; 32])?;
     for number in 1..count {
@@ -89,7 +90,7 @@ fn text_of(number: u32) -> [u8; 50] {
 /// The processor's time of so many signatures, of texts as long as a vote's, in nanoseconds, and the texts
 /// with their signatures.
 pub(crate) fn nanoseconds_of_signing(
-    rt: &HostRuntime,
+    rt: &impl Measures,
     signer: &mut Signer,
     count: u32,
 ) -> Result<(u128, Vec<([u8; 50], Vec<u8>)>)> {
@@ -105,7 +106,7 @@ pub(crate) fn nanoseconds_of_signing(
 
 /// The processor's time of so many verifications, of these signatures in turn, in nanoseconds.
 pub(crate) fn nanoseconds_of_verifying(
-    rt: &HostRuntime,
+    rt: &impl CpuClock,
     key: &PublicKey,
     signed: &[([u8; 50], Vec<u8>)],
     count: usize,

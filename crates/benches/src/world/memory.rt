@@ -1,9 +1,11 @@
 //! The memory that a script takes.
 
-use crate::common::peak::{peak, print_within};
+use crate::peak::{peak, print_within};
 use crate::world::floor::commit;
 use crate::world::scripts::{DELIVERY, VAIN_DELIVERY, followed, output_of, queued};
 use anyhow::Result;
+use bench_parts::Measures;
+use std::fs::Files;
 
 /// What a script with the most deliveries of a step may take, in KiB.
 const QUEUE: u64 = 256 * 1024;
@@ -12,7 +14,7 @@ const QUEUE: u64 = 256 * 1024;
 const ROW: u64 = 16 * 1024;
 
 /// Prints what a script takes whose last step has 1,000,000 deliveries, all to a faulty replica.
-pub(crate) fn print_queue(rt: &HostRuntime) -> Result<()> {
+pub(crate) fn print_queue(rt: &(impl Measures + Files)) -> Result<()> {
     let alloc = rt.alloc();
     let queued = queued(alloc, 3, "01", 15_625, 6)?;
     let script = followed(alloc, &followed(alloc, &queued, VAIN_DELIVERY)?, DELIVERY)?;
@@ -27,7 +29,7 @@ pub(crate) fn print_queue(rt: &HostRuntime) -> Result<()> {
 }
 
 /// Prints what a delivery that a replica takes keeps: 20,000 of one vote, against none.
-pub(crate) fn print_rows(rt: &HostRuntime) -> Result<()> {
+pub(crate) fn print_rows(rt: &(impl Measures + Files)) -> Result<()> {
     let alloc = rt.alloc();
     let vote = hex::encode(alloc, commit(alloc)?.bytes.as_slice())?;
     let script = queued(alloc, 1, &vote, 1250, 4)?;

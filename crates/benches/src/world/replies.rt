@@ -2,10 +2,9 @@
 
 ghost use Rattle.std.specs.Prelude.{◌≡◌, IfOk};
 
-use crate::common::processor_time::ProcessorTime;
-use crate::common::signing;
 use crate::world::floor::replica_signer;
 use anyhow::{Result, anyhow};
+use bench_parts::{Measures, ProcessorTime, signing};
 use client_session::Session;
 use host_types::{Bytes, ClientEntry, ClientId, Config, SeqNo, TenantId, View};
 use lms_tree::Signer;
@@ -13,26 +12,46 @@ use pbft_codec::{Body, ReplyBody, Role};
 use seal::Checked;
 use std::alloc::Global;
 use std::sync::Arc;
+use std::time::CpuClock;
 
 /// The client.
 const CLIENT: u8 = 16;
 
 /// The processor's time in which a client is offered a replica's reply to its request so many times, in
 /// nanoseconds.
-pub(crate) fn nanoseconds_of_offers(rt: &HostRuntime, count: u32) -> Result<u128> {
+pub(crate) fn nanoseconds_of_offers(rt: &impl Measures, count: u32) -> Result<u128> {
     let alloc = rt.alloc();
     let mut replica = replica_signer(alloc, 0)?;
     let config = config(alloc, &replica)?;
-    let mut session = session(alloc, &config)?;
-    ask(alloc, &mut session)?;
     let reply = reply(alloc, &config, &mut replica)?;
+    let mut session = asking_session(alloc, &config)?;
+    timed_offers(rt, &mut session, &reply, count)
+}
+
+fn timed_offers(
+    rt: &impl CpuClock,
+    session: &mut Session,
+    reply: &Checked,
+    count: u32,
+) -> Result<u128>
+    requires { session.old.config ≡ reply.now.config }
+{
     let start = ProcessorTime::now(rt)?;
-    offer_again(&mut session, &reply, count)?;
+    offer_again(session, reply, count)?;
     let taken = start.nanoseconds(rt)?;
     if session.accepted().is_some() {
         return Err(anyhow!("one replica's reply is accepted"));
     }
     Ok(taken)
+}
+
+/// The client's session with its request.
+fn asking_session(alloc: Global, config: &Arc<Config>) -> Result<Session>
+    ensures { IfOk result (λ s. s.config ≡ config.now.value) }
+{
+    let mut session = session(alloc, config)?;
+    ask(alloc, &mut session)?;
+    Ok(session)
 }
 
 /// A client, and four replicas that have the key of this one.

@@ -1,7 +1,7 @@
 //! Scripts as texts, and what running them takes.
 
-use crate::common::processor_time::ProcessorTime;
 use anyhow::{Result, anyhow};
+use bench_parts::{Measures, ProcessorTime};
 use std::alloc::{AllocError, Global};
 use world_script::{Played, run_script};
 
@@ -122,7 +122,7 @@ pub(crate) fn output_of(alloc: Global, script: &str) -> Result<Vec<u8>> {
 }
 
 /// The processor's time of one run of a script, in nanoseconds. It prints so many lines.
-pub(crate) fn nanoseconds_of(rt: &HostRuntime, script: &str, lines: usize) -> Result<u128> {
+pub(crate) fn nanoseconds_of(rt: &impl Measures, script: &str, lines: usize) -> Result<u128> {
     let start = ProcessorTime::now(rt)?;
     let output = output_of(rt.alloc(), script)?;
     let taken = start.nanoseconds(rt)?;

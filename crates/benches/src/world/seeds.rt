@@ -1,10 +1,10 @@
 //! What a seed of `explore` takes: the keys are made once, and each seed signs and opens anew.
 
-use crate::common::processor_time::ProcessorTime;
-use crate::common::ratio::{Comparison, Limit, require_within_limits};
 use crate::world::floor::{nanoseconds_of_keys, nanoseconds_of_signing, nanoseconds_of_verifying};
 use crate::world::scripts::{CALLS, OPENED, SIGNED, requests};
 use anyhow::{Result, anyhow};
+use bench_parts::ratio::{Comparison, Limit, require_within_limits};
+use bench_parts::{Measures, ProcessorTime};
 use world_script::Unwatched;
 use world_trace::{Searched, Seeds, explore_script};
 
@@ -17,7 +17,7 @@ const SEEDS: u64 = 8;
 const SEED: Limit = Limit::Thousandths(1250);
 
 /// The processor's time of exploring a script under so many seeds, its keys among it, in nanoseconds.
-fn nanoseconds_of_seeds(rt: &HostRuntime, script: &str, many: u64) -> Result<u128> {
+fn nanoseconds_of_seeds(rt: &impl Measures, script: &str, many: u64) -> Result<u128> {
     let seeds = Seeds {
         first: 0,
         end: many,
@@ -25,16 +25,23 @@ fn nanoseconds_of_seeds(rt: &HostRuntime, script: &str, many: u64) -> Result<u12
     let mut written = Vec::new(rt.alloc());
     let mut reader = script.as_bytes();
     let start = ProcessorTime::now(rt)?;
-    let searched = explore_script(rt.alloc(), seeds, &mut reader, &mut written, &mut Unwatched);
+    let agrees = explore_script(
+        rt.alloc(),
+        seeds,
+        &mut reader,
+        &mut written,
+        &mut Unwatched,
+    ).is_ok_and(|searched| matches!(searched, Searched::Agreed));
     let taken = start.nanoseconds(rt)?;
-    match searched {
-        Ok(Searched::Agreed) => Ok(taken),
-        _ => Err(anyhow!("the script doesn't agree under each seed")),
+    if agrees {
+        Ok(taken)
+    } else {
+        Err(anyhow!("the script doesn't agree under each seed"))
     }
 }
 
 /// The processor's time of a seed behind the first, in nanoseconds.
-fn least_of_seed(rt: &HostRuntime, script: &str) -> Result<u128> {
+fn least_of_seed(rt: &impl Measures, script: &str) -> Result<u128> {
     let mut one = u128::MAX;
     let mut many = u128::MAX;
     for _ in 0..ROUNDS {
@@ -45,7 +52,7 @@ fn least_of_seed(rt: &HostRuntime, script: &str) -> Result<u128> {
 }
 
 /// The least time of as many signatures, made and verified alone, in nanoseconds.
-fn least_of_signatures(rt: &HostRuntime) -> Result<u128> {
+fn least_of_signatures(rt: &impl Measures) -> Result<u128> {
     let (_, mut signer) = nanoseconds_of_keys(rt, 1)?;
     let mut least = u128::MAX;
     for _ in 0..ROUNDS {
@@ -57,7 +64,7 @@ fn least_of_signatures(rt: &HostRuntime) -> Result<u128> {
 }
 
 /// Prints what a seed of eleven requests takes against its signatures; an error where that passes its limit.
-pub(crate) fn print_seeds(rt: &HostRuntime) -> Result<()> {
+pub(crate) fn print_seeds(rt: &impl Measures) -> Result<()> {
     let script = requests(rt.alloc(), CALLS)?;
     let comparison = Comparison {
         work: "a seed of 11 requests",

@@ -1,6 +1,5 @@
 //! Times in one run: the least of a few rounds of each.
 
-use crate::common::ratio::{Comparison, Limit, require_within_limits};
 use crate::world::floor::{
     Vote, commit, nanoseconds_of_keys, nanoseconds_of_opening, nanoseconds_of_signing,
     nanoseconds_of_verifying,
@@ -11,6 +10,9 @@ use crate::world::scripts::{
     requests, steps,
 };
 use anyhow::{Result, anyhow};
+use bench_parts::Measures;
+use bench_parts::ratio::{Comparison, Limit, require_within_limits};
+use std::alloc::Global;
 
 const ROUNDS: u32 = 9;
 
@@ -39,7 +41,7 @@ const FAULTY: u8 = 3;
 const TWICE: Limit = Limit::Thousandths(2500);
 
 /// The least time of a script in a few rounds, in nanoseconds.
-fn least(rt: &HostRuntime, script: &str, lines: usize) -> Result<u128> {
+fn least(rt: &impl Measures, script: &str, lines: usize) -> Result<u128> {
     let mut least = u128::MAX;
     for _ in 0..ROUNDS {
         least = least.min(nanoseconds_of(rt, script, lines)?);
@@ -49,7 +51,7 @@ fn least(rt: &HostRuntime, script: &str, lines: usize) -> Result<u128> {
 
 /// The least times of a script without its last steps and with them, which print so many lines: what these
 /// steps take, in nanoseconds.
-fn least_of_steps(rt: &HostRuntime, script: &str, steps: &str, lines: usize) -> Result<u128> {
+fn least_of_steps(rt: &impl Measures, script: &str, steps: &str, lines: usize) -> Result<u128> {
     let whole = followed(rt.alloc(), script, steps)?;
     let mut least = u128::MAX;
     let mut least_whole = u128::MAX;
@@ -62,7 +64,7 @@ fn least_of_steps(rt: &HostRuntime, script: &str, steps: &str, lines: usize) -> 
 
 /// The time of the keys of a script of requests, and of as many signatures, made and verified, in
 /// nanoseconds.
-fn nanoseconds_of_floor(rt: &HostRuntime) -> Result<u128> {
+fn nanoseconds_of_floor(rt: &impl Measures) -> Result<u128> {
     let (made, mut signer) = nanoseconds_of_keys(rt, KEYS)?;
     let (signing, signed) = nanoseconds_of_signing(rt, &mut signer, SIGNED)?;
     let verifying = nanoseconds_of_verifying(rt, &signer.public_key(), &signed, OPENED)?;
@@ -70,7 +72,7 @@ fn nanoseconds_of_floor(rt: &HostRuntime) -> Result<u128> {
 }
 
 /// Eleven requests that are executed.
-fn print_requests(rt: &HostRuntime) -> Result<bool> {
+fn print_requests(rt: &impl Measures) -> Result<bool> {
     let script = requests(rt.alloc(), CALLS)?;
     let mut taken = u128::MAX;
     let mut floor = u128::MAX;
@@ -100,7 +102,7 @@ struct Delivery<'a> {
 
 impl<'a> Delivery<'a> {
     /// Prints what a thousand of them take against as many openings of a vote alone.
-    fn print(&self, rt: &HostRuntime, opening: u128) -> Result<bool> {
+    fn print(&self, rt: &impl Measures, opening: u128) -> Result<bool> {
         let script = queued(rt.alloc(), self.to, self.bytes, DELIVERIES as usize, 0)?;
         let taken = least_of_steps(rt, &script, DELIVERY, self.lines)?;
         Comparison {
@@ -115,7 +117,7 @@ impl<'a> Delivery<'a> {
 }
 
 /// The least time of as many openings of a vote alone, in nanoseconds.
-fn least_of_openings(rt: &HostRuntime, vote: &Vote) -> Result<u128> {
+fn least_of_openings(rt: &impl Measures, vote: &Vote) -> Result<u128> {
     let mut least = u128::MAX;
     for _ in 0..ROUNDS {
         least = least.min(nanoseconds_of_opening(rt, vote, DELIVERIES)?);
@@ -123,48 +125,61 @@ fn least_of_openings(rt: &HostRuntime, vote: &Vote) -> Result<u128> {
     Ok(least)
 }
 
-/// A thousand deliveries to those who open them, and 800,000 to a faulty replica.
-fn print_deliveries(rt: &HostRuntime) -> Result<bool> {
-    let mut vote = commit(rt.alloc())?;
-    let opening = least_of_openings(rt, &vote)?;
-    let good = hex::encode(rt.alloc(), vote.bytes.as_slice())?;
+/// The bytes of a vote as hex, and those with a wrong signature.
+fn hex_of(alloc: Global, mut vote: Vote) -> Result<(String, String)> {
+    let good = hex::encode(alloc, vote.bytes.as_slice())?;
     let Some(last) = vote.bytes.last_mut() else {
         return Err(anyhow!("a vote of no bytes"));
     };
     *last ^= 1;
-    let bad = hex::encode(rt.alloc(), vote.bytes.as_slice())?;
+    let bad = hex::encode(alloc, vote.bytes.as_slice())?;
+    Ok((good, bad))
+}
+
+/// A thousand deliveries to those who open them, of a vote and of one with a wrong signature.
+fn print_opened(rt: &impl Measures, opening: u128, good: &str, bad: &str) -> Result<bool> {
     let cases = [
         Delivery {
             work: "1,000 deliveries to a replica",
             to: 1,
-            bytes: &good,
+            bytes: good,
             lines: 0,
             limit: OPENING,
         },
         Delivery {
             work: "1,000 deliveries to a client",
             to: 100,
-            bytes: &good,
+            bytes: good,
             lines: 0,
             limit: OPENING,
         },
         Delivery {
             work: "1,000 deliveries of a wrong signature",
             to: 1,
-            bytes: &bad,
+            bytes: bad,
             lines: DELIVERIES as usize,
             limit: REFUSING,
         },
     ];
-    let mut are_within = print_faulty(rt, opening)?;
+    let mut are_within = true;
     for case in &cases {
         are_within = case.print(rt, opening)? && are_within;
     }
     Ok(are_within)
 }
 
+/// 800,000 deliveries to a faulty replica, and those to who opens them.
+fn print_deliveries(rt: &impl Measures) -> Result<bool> {
+    let vote = commit(rt.alloc())?;
+    let opening = least_of_openings(rt, &vote)?;
+    let (good, bad) = hex_of(rt.alloc(), vote)?;
+    let faulty = print_faulty(rt, opening)?;
+    let opened = print_opened(rt, opening, &good, &bad)?;
+    Ok(faulty && opened)
+}
+
 /// Deliveries to a faulty replica, which opens nothing.
-fn print_faulty(rt: &HostRuntime, opening: u128) -> Result<bool> {
+fn print_faulty(rt: &impl Measures, opening: u128) -> Result<bool> {
     let script = queued(rt.alloc(), FAULTY, "01", 3125, 8)?;
     Comparison {
         work: "800,000 deliveries to a faulty replica",
@@ -177,7 +192,7 @@ fn print_faulty(rt: &HostRuntime, opening: u128) -> Result<bool> {
 }
 
 /// Prints what twice as much takes against what this takes.
-fn print_twice(rt: &HostRuntime, work: &str, twice: u128, once: u128) -> Result<bool> {
+fn print_twice(rt: &impl Print, work: &str, twice: u128, once: u128) -> Result<bool> {
     Comparison {
         work,
         taken: twice,
@@ -190,7 +205,7 @@ fn print_twice(rt: &HostRuntime, work: &str, twice: u128, once: u128) -> Result<
 
 /// The least time of messages on their way, 400,000 doubled so many times: they are queued, passed over and
 /// delivered to a faulty replica.
-fn least_of_queue(rt: &HostRuntime, doublings: usize) -> Result<u128> {
+fn least_of_queue(rt: &impl Measures, doublings: usize) -> Result<u128> {
     let alloc = rt.alloc();
     let queued = queued(alloc, FAULTY, "01", 3125, doublings.saturating_add(7))?;
     let whole = followed(alloc, &followed(alloc, &queued, VAIN_DELIVERY)?, DELIVERY)?;
@@ -198,12 +213,12 @@ fn least_of_queue(rt: &HostRuntime, doublings: usize) -> Result<u128> {
 }
 
 /// The least time of so many steps that do nothing.
-fn least_of_vain_steps(rt: &HostRuntime, count: usize) -> Result<u128> {
+fn least_of_vain_steps(rt: &impl Measures, count: usize) -> Result<u128> {
     least(rt, &steps(rt.alloc(), count)?, 0)
 }
 
 /// The least time of so many offers of one reply.
-fn least_of_offers(rt: &HostRuntime, count: u32) -> Result<u128> {
+fn least_of_offers(rt: &impl Measures, count: u32) -> Result<u128> {
     let mut least = u128::MAX;
     for _ in 0..ROUNDS {
         least = least.min(nanoseconds_of_offers(rt, count)?);
@@ -212,7 +227,7 @@ fn least_of_offers(rt: &HostRuntime, count: u32) -> Result<u128> {
 }
 
 /// Prints what grows: messages on their way, steps, and replies that a replica repeats.
-fn print_growth(rt: &HostRuntime) -> Result<bool> {
+fn print_growth(rt: &impl Measures) -> Result<bool> {
     let queue = print_twice(
         rt,
         "800,000 messages queued, passed over and delivered",
@@ -235,7 +250,7 @@ fn print_growth(rt: &HostRuntime) -> Result<bool> {
 }
 
 /// Prints all ratios; an error where one passes its limit.
-pub(crate) fn print_times(rt: &HostRuntime) -> Result<()> {
+pub(crate) fn print_times(rt: &impl Measures) -> Result<()> {
     let requests = print_requests(rt)?;
     let deliveries = print_deliveries(rt)?;
     let growth = print_growth(rt)?;
@@ -243,7 +258,7 @@ pub(crate) fn print_times(rt: &HostRuntime) -> Result<()> {
 }
 
 /// Prints how many requests of a script were accepted.
-pub(crate) fn print_small(rt: &HostRuntime) -> Result<()> {
+pub(crate) fn print_small(rt: &impl Measures) -> Result<()> {
     let output = output_of(rt.alloc(), &requests(rt.alloc(), CALLS)?)?;
     let accepted = str::from_utf8(&output)?
         .lines()

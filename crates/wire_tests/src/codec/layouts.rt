@@ -172,13 +172,17 @@ pub(crate) fn kind(body: &Body) -> u8 {
     }
 }
 
+/// Whether the message of a line has each field at its place.
+fn has_its_places(alloc: Global, line: &str) -> Result<bool, Fail> {
+    let first = bytes_of(alloc, line)?.first().copied().unwrap_or(0);
+    let message = message_of(alloc, line)?;
+    Ok(is_signed(&message) && is_laid_out(&message.body) && kind(&message.body) == first)
+}
+
 #[test]
 fn each_field_has_its_place(rt: HostRuntime) -> Result<(), Fail> {
     for line in BODIES.lines() {
-        let message = message_of(rt.alloc(), line)?;
-        let kind = bytes_of(rt.alloc(), line)?.first().copied().unwrap_or(0);
-        assert!(rt; is_signed(&message) && is_laid_out(&message.body), "{line}");
-        assert!(rt; self::kind(&message.body) == kind, "{line}");
+        assert!(rt; has_its_places(rt.alloc(), line)?, "{line}");
     }
     Ok(())
 }
