@@ -261,6 +261,15 @@ fn stand_alike(one: &Node, other: &Node) -> Result<bool, Fail> {
     Ok(states && one.replica().status() == other.replica().status())
 }
 
+/// Whether two backups answer alike, and stand alike then.
+fn are_alike(
+    alloc: Global,
+    (one, answer): (&Node, &Result<Row, Halt>),
+    (other, answered): (&Node, &Result<Row, Halt>),
+) -> Result<bool, Fail> {
+    Ok(are_same(alloc, answer, answered)? && stand_alike(one, other)?)
+}
+
 /// Both backups take a message, the first in turn and the second in lanes; they answer alike and stand alike. Why they
 /// halt, if they do.
 fn take<R: Threads + Sync>(
@@ -277,7 +286,7 @@ fn take<R: Threads + Sync>(
     };
     let one = in_turn.take(bytes)?;
     let other = in_lanes.take_lanes(rt, bytes, workers.max(1), gate)?;
-    if are_same(alloc, &one, &other)? && stand_alike(in_turn, in_lanes)? {
+    if are_alike(alloc, (in_turn, &one), (in_lanes, &other))? {
         Ok(other.err())
     } else {
         Err(Fail::new("another row"))

@@ -11,8 +11,8 @@ use crate::scene::Scene;
 use crate::signing::{signed, signed_list};
 use host_types::{SeqNo, View};
 use pbft_codec::{
-    Body, Certificate, Checkpoint, Commit, Fetch, NewView, PrePrepare, Prepare, Sequence, Snapshot,
-    ViewChange,
+    Body, Certificate, Checkpoint, Commit, Fetch, NewView, PrePrepare, Prepare, Sequence, Signed,
+    Snapshot, ViewChange,
 };
 use std::test::Fail;
 
@@ -116,17 +116,22 @@ impl Scene {
     // `0/1 a by 1 2`: the proposal, which the primary of its view has signed, and the signers of Prepares.
     fn certificate(&mut self, said: &str) -> Result<Certificate, Fail> {
         let (proposal, ids) = halves(said, " by ")?;
+        let prepares = self.prepares(proposal, ids)?;
         let body = self.pre_prepare(proposal)?;
         let id = primary(body.view);
-        let pre_prepare = signed(self.alloc, &mut self.signers, id, body)?;
+        Ok(Certificate {
+            pre_prepare: signed(self.alloc, &mut self.signers, id, body)?,
+            prepares,
+        })
+    }
+
+    // The Prepares for a proposal by replicas of these ids.
+    fn prepares(&mut self, said: &str, ids: &str) -> Result<Sequence<Signed<Prepare>>, Fail> {
         let mut prepares = Vec::new(self.alloc);
         for id in ids.split_whitespace() {
-            prepares.push((id.parse()?, self.prepare(proposal)?))?;
+            prepares.push((id.parse()?, self.prepare(said)?))?;
         }
-        Ok(Certificate {
-            pre_prepare,
-            prepares: signed_list(self.alloc, &mut self.signers, prepares)?,
-        })
+        signed_list(self.alloc, &mut self.signers, prepares)
     }
 
     // `0`, or `2 s2 by 0 2 3`: the low mark, and its proof, which says what state it has.

@@ -1,6 +1,10 @@
 //! A replica that takes messages as the bytes that come to it.
 
-ghost use Rattle.std.specs.Prelude.{◌≡◌, ◌<◌};
+ghost use Rattle.std.specs.Prelude.{◌≡◌, ◌<◌, true, IsSomeAnd};
+ghost use Rattle.host_types.specs.Configuration.{replicas_for};
+ghost use Rattle.lms_tree.specs.Keys.{IsKeyOf};
+ghost use Rattle.pbft_codec.specs.declared.signed.Role.TheVariants as roles;
+ghost use Rattle.seal.specs.Signers.{key_of};
 
 use host_types::{Config, Gate, ReplicaId};
 use lms_tree::Signer;
@@ -11,13 +15,25 @@ use std::sync::Arc;
 use std::test::Fail;
 use std::thread::Threads;
 
+/// Whether the signer has the key that is listed for a replica, which there is.
+fn is_listed(config: &Arc<Config>, id: ReplicaId, signer: &Signer) -> bool
+    ensures { result ≡ true → (id.0 < replicas_for config.now.value.f)
+        × IsSomeAnd (key_of config.now.value roles.Replica id.0) (λ key. IsKeyOf key signer.now) }
+{
+    match config.replica_key(id) {
+        Some(key) => id.0 < config.replica_count() && *key == signer.public_key(),
+        None => false,
+    }
+}
+
 /// A replica, and the configuration that it runs under.
 #[derive(Drop)]
 pub struct Node {
     alloc: Global,
     config: Arc<Config>,
-    replica: Replica,
-    ghost under: { replica.config ≡ config.value },
+    /// A box is dropped in one step of a proof.
+    replica: Box<Replica>,
+    ghost under: { replica.value.config ≡ config.value },
 }
 
 impl Node {
@@ -28,18 +44,12 @@ impl Node {
         id: ReplicaId,
         signer: Signer,
     ) -> Result<Node, Fail> {
-        if id.0 >= config.replica_count() {
-            return Err(Fail::new("no such replica"));
-        }
-        let key = signer.public_key();
-        let Some(listed) = config.replica_key(id) else {
-            return Err(Fail::new("no key is listed"));
-        };
-        if *listed != key {
+        if !is_listed(config, id, &signer) {
             return Err(Fail::new("another key is listed"));
         }
         let config = Arc::try_clone(config)?;
         let replica = Replica::new(alloc, &config, id, signer)?;
+        let replica = Box::new(alloc, replica)?;
         Ok(Node {
             alloc,
             config,

@@ -6,7 +6,7 @@ use crate::words::Words;
 use host_types::{Bytes, ClientEntry, ClientId, Config, Digest, ReplicaId, Request, TenantId};
 use lms_tree::{Height, Signer};
 use pbft_codec::{Body, RequestBody, Role};
-use replica_core::{Halt, Input, Output, Row};
+use replica_core::{Halt, Input, Output, Replica, Row};
 use seal::{Checked, open, request_digest};
 use service_core::State;
 use sha2::Sha256;
@@ -61,6 +61,15 @@ pub struct Scene {
 /// The signer of this id; ids 0 to 3 are replicas.
 pub fn key(alloc: Global, secret: u8, id: u8) -> Result<Signer, Fail> {
     Ok(Signer::from_seed(alloc, Height::H5, [id; 16], [secret; 32])?)
+}
+
+/// The replicas' signers.
+fn replica_keys(alloc: Global) -> Result<Vec<Signer>, Fail> {
+    let mut signers = Vec::new(alloc);
+    for id in 0..4u8 {
+        signers.push(key(alloc, 7, id)?)?;
+    }
+    Ok(signers)
 }
 
 /// A replica's signer with so many leaves left.
@@ -123,15 +132,18 @@ fn of_first_version(alloc: Global, state: &[u8]) -> Result<Vec<u8>, AllocError> 
 impl Scene {
     /// Those around a replica, which `begin` gives.
     pub fn new(alloc: Global) -> Result<Scene, Fail> {
-        let mut signers = Vec::new(alloc);
-        for index in 0..4u8 {
-            signers.push(key(alloc, 7, index)?)?;
-        }
-        let mut client = key(alloc, 7, 9)?;
-        let config = config_of(alloc, &signers, &client)?;
-        let mut scene = Scene {
+        let mut client = Box::new(alloc, key(alloc, 7, 9)?)?;
+        let mut scene = Scene::empty(alloc, &client)?;
+        scene.fill(&mut client)?;
+        Ok(scene)
+    }
+
+    // One before there are requests and states.
+    fn empty(alloc: Global, client: &Signer) -> Result<Scene, Fail> {
+        let signers = replica_keys(alloc)?;
+        Ok(Scene {
             alloc,
-            config,
+            config: config_of(alloc, &signers, client)?,
             id: 0,
             node: Vec::new(alloc),
             signers,
@@ -139,10 +151,12 @@ impl Scene {
             words: Words::new(alloc),
             left: 0,
             last: None,
-        };
-        scene.add_requests(&mut client)?;
-        scene.add_states()?;
-        Ok(scene)
+        })
+    }
+
+    fn fill(&mut self, client: &mut Signer) -> Result<(), Fail> {
+        self.add_requests(client)?;
+        self.add_states()
     }
 
     /// Replica `id` before its first message, whose signer has so many leaves left.
@@ -193,19 +207,28 @@ impl Scene {
     fn add_late_state(&mut self, name: &'static str, number: u64) -> Result<(), Fail> {
         let first = self.words.state("s0")?;
         let bytes = numbered(self.alloc, first.as_slice(), number)?;
-        let config = Arc::try_clone(&self.config)?;
-        let digest = State::from_canonical(self.alloc, config, &bytes)?.digest();
+        let digest = self.digest_of(&bytes)?;
         self.words.add(name, digest, &bytes)?;
         Ok(())
+    }
+
+    // The digest of the state that has these bytes.
+    fn digest_of(&self, bytes: &[u8]) -> Result<Digest, Fail> {
+        let config = Arc::try_clone(&self.config)?;
+        Ok(State::from_canonical(self.alloc, config, bytes)?.digest())
+    }
+
+    // The bytes, of version 2, of the state that has these bytes, of either version.
+    fn written_again(&self, bytes: &[u8]) -> Result<Vec<u8>, Fail> {
+        let config = Arc::try_clone(&self.config)?;
+        Ok(State::from_bytes(self.alloc, config, bytes)?.to_bytes()?)
     }
 
     // The state `s2` in bytes of version 1, which has no procedures: behind the version they are those of version 2.
     fn add_first_version(&mut self) -> Result<(), Fail> {
         let second = self.words.state("s2")?;
         let first = of_first_version(self.alloc, second.as_slice())?;
-        let config = Arc::try_clone(&self.config)?;
-        let again = State::from_bytes(self.alloc, config, &first)?.to_bytes()?;
-        if again.as_slice() != second.as_slice() {
+        if self.written_again(&first)?.as_slice() != second.as_slice() {
             return Err(Fail::new("another state is read"));
         }
         let digest = Digest(<Sha256 as sha2::Digest>::digest(first.as_slice()));
@@ -346,23 +369,34 @@ impl Scene {
         let Some(node) = self.node.first() else {
             return Err(Fail::new("no replica"));
         };
-        let status = node.replica().status();
+        let mut text = String::new(self.alloc);
+        self.push_status(&mut text, node.replica())?;
+        self.push_state(&mut text, node.replica())?;
+        Ok(text)
+    }
+
+    fn push_status(&self, text: &mut String, replica: &Replica) -> Result<(), Fail> {
+        let status = replica.status();
         let (view, low, executed) = (status.view.0, status.low.0, status.executed.0);
         let active = if status.active { "active" } else { "changing" };
-        let left = node.replica().leaves_left();
-        let mut text = format!(in self.alloc;
+        let left = replica.leaves_left();
+        text.push_str(&format!(in self.alloc;
             "view {view} {active} low {low} executed {executed} left {left}"
-        )?;
+        )?)?;
         if let Some(halt) = status.halted {
             text.push_str(&format!(in self.alloc; " halted {halt}")?)?;
         }
-        match node.replica().state() {
+        Ok(())
+    }
+
+    fn push_state(&self, text: &mut String, replica: &Replica) -> Result<(), Fail> {
+        match replica.state() {
             Some(state) => {
                 let name = self.words.of(&state.digest());
                 text.push_str(&format!(in self.alloc; " state {name}")?)?;
             }
             None => text.push_str(" no state")?,
         }
-        Ok(text)
+        Ok(())
     }
 }

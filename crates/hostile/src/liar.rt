@@ -123,8 +123,8 @@ pub(crate) fn print_small(rt: &HostRuntime) -> Result<()> {
 }
 
 fn send_few(rt: &HostRuntime, pair: &mut Pair) -> Result<()> {
-    for kind in KINDS {
-        let outputs = outputs_for_few(pair, kind)?;
+    for kind in &KINDS {
+        let outputs = outputs_for_few(pair, *kind)?;
         println!(rt; "{}: {TURNS} sent, {outputs} outputs", kind.name())?;
     }
     Ok(())

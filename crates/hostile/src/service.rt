@@ -24,10 +24,14 @@ const ROUNDS: u64 = 3;
 /// Applies a call. Where it is refused, the number is to be what it was; the rest of the state is then unusable.
 pub(crate) fn print_apply(rt: &HostRuntime) -> Result<()> {
     let mut state = state(rt.alloc())?;
+    apply_one(rt, &mut state)
+}
+
+fn apply_one(rt: &HostRuntime, state: &mut State) -> Result<()> {
     let request = call(rt.alloc(), 0, 2)?;
     let number = state.number();
     begin(rt)?;
-    match apply(&mut state, &request)? {
+    match apply(state, &request)? {
         Ok(outcome) => print_outcome(rt, &outcome),
         Err(AllocError) => {
             memory(rt)?;

@@ -60,15 +60,25 @@ fn digest_byte(digest: &Digest) -> u8 {
     }
 }
 
+/// Whether a line's ViewChanges give its opening.
+fn is_given(
+    alloc: Global,
+    config: &Arc<Config>,
+    signers: &mut [Signer],
+    line: &str,
+) -> Result<bool, Fail> {
+    let (text, wanted) = line.split_once("=> ").ok_or("no opening")?;
+    let list = list_of(alloc, config, signers, text.trim_end())?;
+    let opening = new_view(alloc, View(1), &list)?;
+    Ok(opening_text(alloc, &opening)?.as_str() == wanted)
+}
+
 #[test]
 fn view_changes_give_floor_top_and_proposals(rt: HostRuntime) -> Result<(), Fail> {
     let (mut signers, config) = replicas(rt.alloc(), 12)?;
     for line in OPENINGS.lines() {
-        let (text, wanted) = line.split_once("=> ").ok_or("no opening")?;
-        let list = list_of(rt.alloc(), &config, &mut signers, text.trim_end())?;
-        let opening = new_view(rt.alloc(), View(1), &list)?;
         assert!(rt;
-            opening_text(rt.alloc(), &opening)?.as_str() == wanted,
+            is_given(rt.alloc(), &config, &mut signers, line)?,
             "{line}"
         );
     }

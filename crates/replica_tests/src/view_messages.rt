@@ -115,22 +115,45 @@ fn proof(
     Ok(checkpoints)
 }
 
-/// The ViewChange of `VIEW low MARK, proof .., CERTIFICATE ..`.
-pub fn change(alloc: Global, signers: &mut [Signer], text: &str) -> Result<ViewChange, Fail> {
-    let mut checkpoints = Vec::new(alloc);
-    let mut certificates = Vec::new(alloc);
-    let (head, rest) = text.split_once(", ").unwrap_or((text, ""));
-    for part in rest.split(", ") {
+/// The proof of `proof .., CERTIFICATE ..`; without one, none.
+fn proof_in(
+    alloc: Global,
+    signers: &mut [Signer],
+    text: &str,
+) -> Result<Vec<Signed<Checkpoint>>, Fail> {
+    for part in text.split(", ") {
         if let Some(said) = part.strip_prefix("proof ") {
-            checkpoints = proof(alloc, signers, said)?;
-        } else if !part.is_empty() {
+            return proof(alloc, signers, said);
+        }
+    }
+    Ok(Vec::new(alloc))
+}
+
+/// The certificates of `proof .., CERTIFICATE ..`.
+fn certificates_in(
+    alloc: Global,
+    signers: &mut [Signer],
+    text: &str,
+) -> Result<Vec<Certificate>, Fail> {
+    let mut certificates = Vec::new(alloc);
+    for part in text.split(", ") {
+        if !part.is_empty() && !part.starts_with("proof ") {
             certificates.push(certificate(alloc, signers, part)?)?;
         }
     }
+    Ok(certificates)
+}
+
+/// The ViewChange of `VIEW low MARK, proof .., CERTIFICATE ..`.
+pub fn change(alloc: Global, signers: &mut [Signer], text: &str) -> Result<ViewChange, Fail> {
+    let (head, rest) = text.split_once(", ").unwrap_or((text, ""));
     let (view, low) = head.split_once(" low ").ok_or("no low mark")?;
+    let (view, low) = (View(view.parse()?), SeqNo(low.parse()?));
+    let checkpoints = proof_in(alloc, signers, rest)?;
+    let certificates = certificates_in(alloc, signers, rest)?;
     Ok(ViewChange {
-        view: View(view.parse()?),
-        low: SeqNo(low.parse()?),
+        view,
+        low,
         checkpoints: Sequence::from_vec(checkpoints),
         certificates: Sequence::from_vec(certificates),
     })
@@ -161,19 +184,30 @@ fn proposals(
     Ok(proposals)
 }
 
-/// The NewView of `VIEW; SIGNER CHANGE; ..; with PROPOSAL ..`.
-pub fn new_view_of(alloc: Global, signers: &mut [Signer], text: &str) -> Result<NewView, Fail> {
+/// The ViewChanges of `SIGNER CHANGE; ..; with PROPOSAL ..`.
+fn changes_in(
+    alloc: Global,
+    signers: &mut [Signer],
+    text: &str,
+) -> Result<Vec<Signed<ViewChange>>, Fail> {
     let mut changes = Vec::new(alloc);
-    let mut pre_prepares = Vec::new(alloc);
-    let (view, rest) = text.split_once("; ").ok_or("no ViewChanges")?;
-    let view = View(view.parse()?);
-    for part in rest.split("; ") {
-        if let Some(said) = part.strip_prefix("with ") {
-            pre_prepares = proposals(alloc, signers, (view.0 % 4) as u8, said)?;
-        } else {
+    for part in text.split("; ") {
+        if !part.starts_with("with ") {
             changes.push(signed_change(alloc, signers, part)?)?;
         }
     }
+    Ok(changes)
+}
+
+/// The NewView of `VIEW; SIGNER CHANGE; ..; with PROPOSAL ..`.
+pub fn new_view_of(alloc: Global, signers: &mut [Signer], text: &str) -> Result<NewView, Fail> {
+    let (view, rest) = text.split_once("; ").ok_or("no ViewChanges")?;
+    let view = View(view.parse()?);
+    let changes = changes_in(alloc, signers, rest)?;
+    let pre_prepares = match rest.split_once("with ") {
+        Some((_, said)) => proposals(alloc, signers, (view.0 % 4) as u8, said)?,
+        None => Vec::new(alloc),
+    };
     Ok(NewView {
         view,
         changes: Sequence::from_vec(changes),

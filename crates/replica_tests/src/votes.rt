@@ -110,15 +110,23 @@ fn least(alloc: Global, config: &Arc<Config>, votes: &Votes, many: usize) -> Res
 // Votes for digests 7 and 8.
 const SPLIT: &str = "3:7 1:7 2:8 0:7";
 
+// Whether the least are those of each line.
+fn are_least(alloc: Global, config: &Arc<Config>, votes: &Votes) -> Result<bool, Fail>
+    requires { AreUnder config.now.value votes.now }
+{
+    let mut right = true;
+    for line in LEAST.lines() {
+        let (many, wanted) = line.split_once(" =>").ok_or("no signers")?;
+        right = right && least(alloc, config, votes, many.parse()?)?.as_str() == wanted;
+    }
+    Ok(right)
+}
+
 #[test]
 fn the_least_signers_come_first(rt: HostRuntime) -> Result<(), Fail> {
     let (mut signers, config) = replicas(rt.alloc(), 5)?;
     let votes = commits(rt.alloc(), &config, &mut signers, SPLIT)?;
-    for line in LEAST.lines() {
-        let (many, wanted) = line.split_once(" =>").ok_or("no signers")?;
-        let found = least(rt.alloc(), &config, &votes, many.parse()?)?;
-        assert!(rt; found.as_str() == wanted, "{line}");
-    }
+    assert!(rt; are_least(rt.alloc(), &config, &votes)?);
     Ok(())
 }
 
@@ -146,15 +154,28 @@ fn enough(
     format!(in alloc; "{quorum} {backups}")
 }
 
+// Whether the answers are those of a line.
+fn is_answered(
+    alloc: Global,
+    config: &Arc<Config>,
+    signers: &mut [Signer],
+    line: &str,
+) -> Result<bool, Fail> {
+    let (said, wanted) = line.split_once(" => ").ok_or("no answer")?;
+    let (voted, view) = said.split_once(" in ").ok_or("no view")?;
+    let view = view.parse()?;
+    let votes = commits(alloc, config, signers, voted)?;
+    Ok(enough(alloc, config, &votes, view)?.as_str() == wanted)
+}
+
 #[test]
 fn quorums_and_backups(rt: HostRuntime) -> Result<(), Fail> {
     let (mut signers, config) = replicas(rt.alloc(), 5)?;
     for line in ENOUGH.lines() {
-        let (said, wanted) = line.split_once(" => ").ok_or("no answer")?;
-        let (voted, view) = said.split_once(" in ").ok_or("no view")?;
-        let votes = commits(rt.alloc(), &config, &mut signers, voted)?;
-        let found = enough(rt.alloc(), &config, &votes, view.parse()?)?;
-        assert!(rt; found.as_str() == wanted, "{line}");
+        assert!(rt;
+            is_answered(rt.alloc(), &config, &mut signers, line)?,
+            "{line}"
+        );
     }
     Ok(())
 }

@@ -1,7 +1,10 @@
 //! Calls through a host.
 
+ghost use Rattle.std.specs.Prelude.{◌≡◌};
+
 use crate::gates::{Held, TURNS, Watch};
 use crate::place::{Place, call_it, four_replicas, install, session, spend};
+use client_session::Session;
 use host_client::{SessionFault, call};
 use host_types::{Bytes, Config, ReplicaId, Reply};
 use lms_tree::Signer;
@@ -22,16 +25,28 @@ fn calls<R: Wait>(
     rt: &R,
     alloc: Global,
     host: &Host,
-    client: Signer,
+    client: Box<Signer>,
     ops: Vec<Bytes>,
 ) -> Result<Vec<Result<Reply, SessionFault>>, Fail> {
-    let mut session = session(alloc, host.config(), client)?;
+    let mut session = session(alloc, host.config(), Box::into_inner(client))?;
+    calls_in(rt, alloc, host, &mut session, ops)
+}
+
+fn calls_in<R: Wait>(
+    rt: &R,
+    alloc: Global,
+    host: &Host,
+    session: &mut Session,
+    ops: Vec<Bytes>,
+) -> Result<Vec<Result<Reply, SessionFault>>, Fail>
+    requires { session.old.config ≡ host.now }
+{
     let mut replies = Vec::new(alloc);
     for op in ops {
         if op.as_slice().len() > 1_000 {
             return Err(Fail::new("a long operation"));
         }
-        replies.push(call(rt, alloc, host, &mut session, op))?;
+        replies.push(call(rt, alloc, host, session, op))?;
     }
     Ok(replies)
 }
@@ -57,15 +72,27 @@ pub fn called<R: Threads + Wait + Clock + Copy + Send + Sync + Drop + 'static>(
     rt: &R,
     alloc: Global,
     signers: Vec<Signer>,
-    place: (Arc<Config>, Signer),
+    place: (Arc<Config>, Box<Signer>),
     ops: Vec<Bytes>,
     turns: u64,
 ) -> Result<(Vec<Result<Reply, SessionFault>>, Vec<(ReplicaId, Vec<Row>)>), Fail> {
     let (config, client) = place;
     let gate = Arc::new(alloc, Watch::new(*rt, Held::No))?;
     let host = Host::start(rt, alloc, &config, signers, LIMIT, 2, gate)?;
+    called_at(rt, alloc, &host, client, ops, turns)
+}
+
+// What calls of a host answer beside a watcher, and the journals.
+fn called_at<R: Threads + Wait + Clock + Copy + Send + Sync + Drop + 'static>(
+    rt: &R,
+    alloc: Global,
+    host: &Host,
+    client: Box<Signer>,
+    ops: Vec<Bytes>,
+    turns: u64,
+) -> Result<(Vec<Result<Reply, SessionFault>>, Vec<(ReplicaId, Vec<Row>)>), Fail> {
     let done = AtomicBool::new(false);
-    let (host, done) = (&host, &done);
+    let done = &done;
     let caller = move || {
         let replies = calls(rt, alloc, host, client, ops);
         done.store(true, Ordering::SeqCst);
@@ -80,7 +107,7 @@ fn answers<R: Threads + Wait + Clock + Copy + Send + Sync + Drop + 'static>(
     rt: &R,
     alloc: Global,
     signers: Vec<Signer>,
-    place: (Arc<Config>, Signer),
+    place: (Arc<Config>, Box<Signer>),
     ops: Vec<Bytes>,
     turns: u64,
 ) -> Result<Vec<Result<Reply, SessionFault>>, Fail> {
@@ -130,6 +157,14 @@ fn four_spent(alloc: Global) -> Result<Place, Fail> {
     Ok(place)
 }
 
+fn two_installations(alloc: Global) -> Result<Vec<Bytes>, Fail> {
+    let mut ops = Vec::new(alloc);
+    for _ in 0..2 {
+        ops.push(install(alloc)?)?;
+    }
+    Ok(ops)
+}
+
 #[test]
 fn a_call_that_waits_at_close_has_no_quorum(rt: HostRuntime) -> Result<(), Fail> {
     let Place {
@@ -137,9 +172,7 @@ fn a_call_that_waits_at_close_has_no_quorum(rt: HostRuntime) -> Result<(), Fail>
         signers,
         client,
     } = four_spent(rt.alloc())?;
-    let mut ops = Vec::new(rt.alloc());
-    ops.push(install(rt.alloc())?)?;
-    ops.push(install(rt.alloc())?)?;
+    let ops = two_installations(rt.alloc())?;
     let replies = answers(&rt, rt.alloc(), signers, (config, client), ops, 500)?;
     match replies.as_slice() {
         [Err(SessionFault::NoQuorum), Err(SessionFault::Closed)] => Ok(()),

@@ -2,6 +2,7 @@
 
 use crate::gates::{Held, Watch, wait_for_steps};
 use crate::place::{CLIENT, Place, four_replicas, install, session};
+use client_session::Session;
 use host_types::{Bytes, ClientId, Config, ReplicaId};
 use lms_tree::Signer;
 use replica_core::{Done, Input, Row};
@@ -24,18 +25,18 @@ fn has_timeout(rows: &[Row]) -> bool {
     rows.iter().any(|row| matches!(row.input(), Input::Timeout))
 }
 
-// A host of these replicas, and its gate.
+// A host of these replicas, which a proof drops in one step since it is boxed, and its gate.
 fn begin<R: Threads + Wait + Clock + Copy + Send + Sync + Drop + 'static>(
     rt: &R,
     alloc: Global,
     config: &Arc<Config>,
     signers: Vec<Signer>,
     held: Held,
-) -> Result<(Host, Arc<Watch<R>>), Fail> {
+) -> Result<(Box<Host>, Arc<Watch<R>>), Fail> {
     let gate = Arc::new(alloc, Watch::new(*rt, held))?;
     let shared = Arc::try_clone(&gate)?;
     let host = Host::start(rt, alloc, config, signers, LIMIT, 1, shared)?;
-    Ok((host, gate))
+    Ok((Box::new(alloc, host)?, gate))
 }
 
 // Gives replica 3 a timeout, and closes the host. Whether that replica's journal has it.
@@ -92,11 +93,15 @@ fn times(rows: &[Row], bytes: &[u8]) -> usize {
 // The signed requests of so many installations.
 fn requests(
     alloc: Global,
-    place: Signer,
+    client: Box<Signer>,
     config: &Arc<Config>,
     many: u8,
 ) -> Result<Vec<Vec<u8>>, Fail> {
-    let mut session = session(alloc, config, place)?;
+    let mut session = session(alloc, config, Box::into_inner(client))?;
+    requests_in(alloc, &mut session, many)
+}
+
+fn requests_in(alloc: Global, session: &mut Session, many: u8) -> Result<Vec<Vec<u8>>, Fail> {
     let mut requests = Vec::new(alloc);
     for _ in 0..many {
         let request = session.request(install(alloc)?)?;

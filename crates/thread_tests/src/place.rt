@@ -15,12 +15,12 @@ use std::test::Fail;
 /// The one client.
 pub const CLIENT: ClientId = ClientId(16);
 
-/// The replicas' signers, and the client's.
+/// The replicas' signers, and the client's. A box is dropped in one step of a proof.
 #[derive(Drop)]
 pub struct Place {
     pub config: Arc<Config>,
     pub signers: Vec<Signer>,
-    pub client: Signer,
+    pub client: Box<Signer>,
 }
 
 /// A fresh signer of this number, whose key is of one tree.
@@ -70,7 +70,7 @@ fn place_of(alloc: Global, signers: Vec<Signer>) -> Result<Place, Fail> {
     for signer in &signers {
         keys.push(signer.public_key())?;
     }
-    let client = signer(alloc, 9)?;
+    let client = Box::new(alloc, signer(alloc, 9)?)?;
     let mut clients = Vec::new(alloc);
     clients.push(ClientEntry {
         id: CLIENT,

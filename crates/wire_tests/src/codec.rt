@@ -1,5 +1,7 @@
 //! Messages against the bytes of another writer, and the first fault of damaged ones.
 
+ghost use Rattle.pbft_codec.specs.WellFormed.{BodyWellFormed};
+
 use hex::decode as bytes_of;
 use host_types::{Bytes, Digest, SeqNo, View};
 use pbft_codec::{
@@ -118,22 +120,37 @@ Trailing | a byte left in a body before a faulty signature | 01000000020000002e0
 Truncated | a body past the end before its faulty kind | 0100000002000000630b\n\
 ";
 
+/// Whether a message is a Snapshot, and the bytes that it is written as.
+fn written(alloc: Global, message: &Signed) -> Result<(bool, Vec<u8>), Fail>
+    requires { BodyWellFormed message.now.body }
+{
+    let is_snapshot = matches!(message.body, Body::Snapshot(_));
+    Ok((is_snapshot, encode(alloc, message)?))
+}
+
+fn read_and_written(alloc: Global, bytes: &[u8]) -> Result<(bool, Vec<u8>), Fail> {
+    written(alloc, &decode(alloc, bytes)?)
+}
+
+/// The bytes that a Snapshot is written as which is found in a buffer; None where there is none.
+fn snapshot_written(alloc: Global, buffer: &Arc<Vec<u8>>) -> Result<Option<Vec<u8>>, Fail> {
+    let Some(snapshot) = snapshot_in(buffer.as_slice()) else {
+        return Ok(None);
+    };
+    Ok(Some(encode(alloc, &snapshot.message(alloc, buffer)?)?))
+}
+
 /// Whether a message is written again as its bytes, and found as a Snapshot exactly if it is one, which is then
 /// written again, too.
 fn is_written_again(alloc: Global, bytes: Vec<u8>) -> Result<bool, Fail> {
     let buffer = Arc::new(alloc, bytes)?;
-    let message = decode(alloc, buffer.as_slice())?;
-    let is_snapshot = matches!(message.body, Body::Snapshot(_));
-    if encode(alloc, &message)?.as_slice() != buffer.as_slice() {
-        return Ok(false);
-    }
-    match snapshot_in(buffer.as_slice()) {
-        Some(snapshot) => {
-            let again = encode(alloc, &snapshot.message(alloc, &buffer)?)?;
-            Ok(is_snapshot && again.as_slice() == buffer.as_slice())
-        }
-        None => Ok(!is_snapshot),
-    }
+    let (is_snapshot, again) = read_and_written(alloc, buffer.as_slice())?;
+    let found = snapshot_written(alloc, &buffer)?;
+    let is_found = match &found {
+        Some(bytes) => is_snapshot && bytes.as_slice() == buffer.as_slice(),
+        None => !is_snapshot,
+    };
+    Ok(is_found && again.as_slice() == buffer.as_slice())
 }
 
 #[test]
@@ -155,13 +172,18 @@ fn fault_of(alloc: Global, bytes: &[u8]) -> Result<String, Fail> {
     }
 }
 
+/// Whether a line's bytes have its fault.
+fn has_its_fault(alloc: Global, line: &str) -> Result<bool, Fail> {
+    let (fault, rest) = line.split_once(" | ").ok_or("no name")?;
+    let (_, hex) = rest.split_once(" |").ok_or("no bytes")?;
+    let bytes = bytes_of(alloc, hex.trim())?;
+    Ok(fault_of(alloc, &bytes)?.as_str() == fault)
+}
+
 #[test]
 fn the_first_fault_is_reported(rt: HostRuntime) -> Result<(), Fail> {
     for line in FAULTY.lines() {
-        let (fault, rest) = line.split_once(" | ").ok_or("no name")?;
-        let (name, hex) = rest.split_once(" |").ok_or("no bytes")?;
-        let bytes = bytes_of(rt.alloc(), hex.trim())?;
-        assert!(rt; fault_of(rt.alloc(), &bytes)?.as_str() == fault, "{name}");
+        assert!(rt; has_its_fault(rt.alloc(), line)?, "{line}");
     }
     Ok(())
 }
@@ -182,7 +204,15 @@ const COVERED: &str = "\
 010000000203000000000000000000000001\
 e3b0c44298fc1c149afbf4c8996fb92427ae41e4649b934ca495991b7852b855";
 
-/// That Prepare's encoding, and what its signature covers.
+/// A message's encoding, and what its signature covers.
+fn encoded(alloc: Global, message: &Signed) -> Result<(Vec<u8>, Vec<u8>), Fail>
+    requires { BodyWellFormed message.now.body }
+{
+    let bytes = encode(alloc, message)?;
+    Ok((bytes, signed_bytes(alloc, message)?))
+}
+
+/// The same of that Prepare.
 fn a_prepare(alloc: Global) -> Result<(Vec<u8>, Vec<u8>), Fail> {
     let message = Signed {
         role: Role::Replica,
@@ -194,8 +224,7 @@ fn a_prepare(alloc: Global) -> Result<(Vec<u8>, Vec<u8>), Fail> {
         }),
         sig: Bytes::from_vec(Vec::new(alloc)),
     };
-    let bytes = encode(alloc, &message)?;
-    Ok((bytes, signed_bytes(alloc, &message)?))
+    encoded(alloc, &message)
 }
 
 #[test]
@@ -221,21 +250,28 @@ fn a_snapshot_has_a_sender_and_what_is_signed(rt: HostRuntime) -> Result<(), Fai
     Ok(())
 }
 
-#[test]
-fn messages_have_at_most_8_388_608_bytes(rt: HostRuntime) -> Result<(), Fail> {
-    let mut bytes = Vec::from_elem(rt.alloc(), 0u8, 8_388_609)?;
-    assert!(rt; decode(rt.alloc(), &bytes).err() == Some(CodecFault::TooLong));
-    let _ = bytes.pop();
-    assert!(rt; decode(rt.alloc(), &bytes).err() == Some(CodecFault::BadField));
+/// The fault of a Snapshot with this state, when it is written.
+fn fault_of_snapshot(alloc: Global, state: Vec<u8>) -> Option<CodecFault> {
     let message = Signed {
         role: Role::Replica,
         id: 0,
         body: Body::Snapshot(Snapshot {
             number: SeqNo(8),
-            state: Bytes::from_vec(bytes),
+            state: Bytes::from_vec(state),
         }),
-        sig: Bytes::from_vec(Vec::new(rt.alloc())),
+        sig: Bytes::from_vec(Vec::new(alloc)),
     };
-    assert!(rt; encode(rt.alloc(), &message).err() == Some(CodecFault::TooLong));
+    encode(alloc, &message).err()
+}
+
+#[test]
+fn messages_have_at_most_8_388_608_bytes(rt: HostRuntime) -> Result<(), Fail> {
+    let mut bytes = Vec::from_elem(rt.alloc(), 0u8, 8_388_609)?;
+    let longer = decode(rt.alloc(), &bytes).err();
+    let _ = bytes.pop();
+    let longest = decode(rt.alloc(), &bytes).err();
+    let written = fault_of_snapshot(rt.alloc(), bytes);
+    assert!(rt; longer == Some(CodecFault::TooLong) && longest == Some(CodecFault::BadField));
+    assert!(rt; written == Some(CodecFault::TooLong));
     Ok(())
 }

@@ -102,12 +102,17 @@ fn session_faults(alloc: Global) -> Result<String, AllocError> {
     Ok(text)
 }
 
+/// Whether a text, which took memory, is the one that is wanted.
+fn is(text: Result<String, AllocError>, wanted: &str) -> Result<bool, AllocError> {
+    Ok(text?.as_str() == wanted)
+}
+
 #[test]
 fn faults_have_names_and_numbers(rt: HostRuntime) -> Result<(), Fail> {
-    assert!(rt; config_faults(rt.alloc())?.as_str() == CONFIG);
-    assert!(rt; codec_faults(rt.alloc())?.as_str() == CODEC);
-    assert!(rt; signature_faults(rt.alloc())?.as_str() == SIGNATURES);
-    assert!(rt; seal_faults(rt.alloc())?.as_str() == SEAL);
-    assert!(rt; session_faults(rt.alloc())?.as_str() == SESSION);
+    assert!(rt; is(config_faults(rt.alloc()), CONFIG)?);
+    assert!(rt; is(codec_faults(rt.alloc()), CODEC)?);
+    assert!(rt; is(signature_faults(rt.alloc()), SIGNATURES)?);
+    assert!(rt; is(seal_faults(rt.alloc()), SEAL)?);
+    assert!(rt; is(session_faults(rt.alloc()), SESSION)?);
     Ok(())
 }

@@ -9,24 +9,19 @@ use lms_tree::Signer;
 use pbft_codec::{Body, Role};
 use seal::Checked;
 use std::alloc::Global;
-use std::process::Abort;
 use std::sync::Arc;
 use std::test::Fail;
 
-/// The session of client 16 before its first request, after what the caller of `new` owes was tested.
-fn session(
-    rt: &impl Abort,
-    alloc: Global,
-    config: &Arc<Config>,
-    signer: Signer,
-) -> Result<Session, Fail>
+/// The session of client 16 before its first request, where the signer has the key that is listed for it.
+fn session(alloc: Global, config: &Arc<Config>, signer: Signer) -> Result<Session, Fail>
     ensures { IfOk result (λ s. s.config ≡ config.now.value) }
 {
-    let Some(entry) = config.client(ClientId(16)) else {
-        return Err("no entry")?;
-    };
-    assert!(rt; entry.key == signer.public_key());
-    Ok(Session::new(alloc, config, ClientId(16), signer)?)
+    match config.client(ClientId(16)) {
+        Some(entry) if entry.key == signer.public_key() => {
+            Ok(Session::new(alloc, config, ClientId(16), signer)?)
+        }
+        _ => Err(Fail::new("not the client's key")),
+    }
 }
 
 /// The request of the operation 9.
@@ -120,13 +115,13 @@ const LATER: &str = "\
 ";
 
 /// The replicas' signers, the configuration and the session.
-fn parties(rt: &impl Abort, alloc: Global) -> Result<(Vec<Signer>, Arc<Config>, Session), Fail>
+fn parties(alloc: Global) -> Result<(Vec<Signer>, Arc<Config>, Session), Fail>
     ensures { IfOk result (λ r. r.2.config ≡ r.1.value) }
 {
     let replicas = signers(alloc)?;
     let signer = signer(alloc, 16)?;
     let config = config(alloc, &replicas, signer.public_key())?;
-    let session = session(rt, alloc, &config, signer)?;
+    let session = session(alloc, &config, signer)?;
     Ok((replicas, config, session))
 }
 
@@ -136,15 +131,27 @@ fn goes_on(alloc: Global, session: &mut Session) -> Result<bool, Fail> {
     Ok(is_request(&request, 3) && session.accepted().is_none())
 }
 
+/// Whether what the replicas reply is accepted as it should be, and the session goes on then.
+fn accepts_two_of_four(
+    alloc: Global,
+    config: &Arc<Config>,
+    replicas: &mut [Signer],
+    session: &mut Session,
+) -> Result<bool, Fail>
+    requires { session.old.config ≡ config.now.value }
+{
+    let is_client = session.client() == ClientId(16);
+    let is_early = answers(alloc, config, replicas, session, &EARLY)?;
+    let asked = ask_up_to(alloc, session, 2)?;
+    let is_later = answers(alloc, config, replicas, session, &LATER)?;
+    Ok(is_client && is_early && asked && is_later && goes_on(alloc, session)?)
+}
+
 #[test]
 fn what_2_replicas_reply_is_accepted(rt: HostRuntime) -> Result<(), Fail> {
-    let alloc = rt.alloc();
-    let (mut replicas, config, mut session) = parties(&rt, alloc)?;
-    assert!(rt; session.client() == ClientId(16));
-    assert!(rt; answers(alloc, &config, &mut replicas, &mut session, &EARLY)?);
-    assert!(rt; ask_up_to(alloc, &mut session, 2)?);
-    assert!(rt; answers(alloc, &config, &mut replicas, &mut session, &LATER)?);
-    assert!(rt; goes_on(alloc, &mut session)?);
+    let (mut replicas, config, mut session) = parties(rt.alloc())?;
+    let holds = accepts_two_of_four(rt.alloc(), &config, &mut replicas, &mut session)?;
+    assert!(rt; holds);
     Ok(())
 }
 
@@ -163,13 +170,26 @@ fn is_exhausted(alloc: Global, session: &mut Session) -> Result<bool, Fail>
     Ok(ask(alloc, session)?.err() == Some(SessionFault::Exhausted))
 }
 
+/// Whether the last request of the signer stays open where a further one is refused.
+fn stays_open(
+    alloc: Global,
+    config: &Arc<Config>,
+    replicas: &mut [Signer],
+    session: &mut Session,
+) -> Result<bool, Fail>
+    requires { session.old.config ≡ config.now.value }
+{
+    let asked = ask_up_to(alloc, session, 32)?;
+    let is_first = answers(alloc, config, replicas, session, &FIRST)?;
+    let is_refused = is_exhausted(alloc, session)?;
+    let is_second = answers(alloc, config, replicas, session, &SECOND)?;
+    Ok(asked && is_first && is_refused && is_second)
+}
+
 #[test]
 fn a_refused_request_leaves_the_open_one(rt: HostRuntime) -> Result<(), Fail> {
-    let alloc = rt.alloc();
-    let (mut replicas, config, mut session) = parties(&rt, alloc)?;
-    assert!(rt; ask_up_to(alloc, &mut session, 32)?);
-    assert!(rt; answers(alloc, &config, &mut replicas, &mut session, &FIRST)?);
-    assert!(rt; is_exhausted(alloc, &mut session)?);
-    assert!(rt; answers(alloc, &config, &mut replicas, &mut session, &SECOND)?);
+    let (mut replicas, config, mut session) = parties(rt.alloc())?;
+    let holds = stays_open(rt.alloc(), &config, &mut replicas, &mut session)?;
+    assert!(rt; holds);
     Ok(())
 }

@@ -1,6 +1,10 @@
 //! A correct replica that takes messages as the bytes that come to it.
 
-ghost use Rattle.std.specs.Prelude.{◌≡◌};
+ghost use Rattle.std.specs.Prelude.{◌≡◌, ◌<◌, true, IsSomeAnd};
+ghost use Rattle.host_types.specs.Configuration.{replicas_for};
+ghost use Rattle.lms_tree.specs.Keys.{IsKeyOf};
+ghost use Rattle.pbft_codec.specs.declared.signed.Role.TheVariants as roles;
+ghost use Rattle.seal.specs.Signers.{key_of};
 
 use anyhow::{Result, anyhow};
 use host_types::{Config, ReplicaId};
@@ -10,13 +14,25 @@ use seal::open;
 use std::alloc::Global;
 use std::sync::Arc;
 
+/// Whether the signer has the key that is listed for a replica, which there is.
+fn is_listed(config: &Arc<Config>, id: ReplicaId, signer: &Signer) -> bool
+    ensures { result ≡ true → (id.0 < replicas_for config.now.value.f)
+        × IsSomeAnd (key_of config.now.value roles.Replica id.0) (λ key. IsKeyOf key signer.now) }
+{
+    match config.replica_key(id) {
+        Some(key) => id.0 < config.replica_count() && *key == signer.public_key(),
+        None => false,
+    }
+}
+
 /// A replica, and the configuration under which it opens what it is sent.
 #[derive(Drop)]
 pub(crate) struct Node {
     alloc: Global,
     config: Arc<Config>,
-    replica: Replica,
-    ghost under: { replica.config ≡ config.value },
+    /// A box is dropped in one step of a proof.
+    replica: Box<Replica>,
+    ghost under: { replica.value.config ≡ config.value },
 }
 
 impl Node {
@@ -27,14 +43,12 @@ impl Node {
         id: ReplicaId,
         signer: Signer,
     ) -> Result<Node> {
-        let Some(key) = config.replica_key(id) else {
-            return Err(anyhow!("there is no such replica"));
-        };
-        if id.0 >= config.replica_count() || *key != signer.public_key() {
+        if !is_listed(config, id, &signer) {
             return Err(anyhow!("the signer's key is not listed"));
         }
         let config = Arc::try_clone(config)?;
         let replica = Replica::new(alloc, &config, id, signer)?;
+        let replica = Box::new(alloc, replica)?;
         Ok(Node {
             alloc,
             config,

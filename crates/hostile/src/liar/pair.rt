@@ -77,21 +77,27 @@ impl Liars {
     }
 }
 
-/// Those who lie, and who takes it.
+/// The correct replica of a group.
+fn correct_of(alloc: Global, group: &mut Group) -> Result<Node> {
+    let signer = taken(&mut group.replicas, usize::from(CORRECT.0))?;
+    Node::new(alloc, &group.config, CORRECT, signer)
+}
+
+/// Those who lie, and who takes it. A box is dropped in one step of a proof.
 #[derive(Drop)]
 pub(crate) struct Pair {
-    liars: Liars,
-    correct: Node,
+    liars: Box<Liars>,
+    correct: Box<Node>,
 }
 
 impl Pair {
     /// A pair before the first lie.
     pub(crate) fn new(alloc: Global, keys: Keys) -> Result<Pair> {
         let mut group = Group::new(alloc, keys, INTERVAL)?;
-        let liars = Liars::new(alloc, &mut group)?;
-        let signer = taken(&mut group.replicas, usize::from(CORRECT.0))?;
-        let correct = Node::new(alloc, &group.config, CORRECT, signer)?;
-        Ok(Pair { liars, correct })
+        Ok(Pair {
+            liars: Box::new(alloc, Liars::new(alloc, &mut group)?)?,
+            correct: Box::new(alloc, correct_of(alloc, &mut group)?)?,
+        })
     }
 
     /// The message of a kind with this index is signed, and the correct replica takes it. How many messages it

@@ -1,6 +1,6 @@
 //! A client's session, and what replicas reply to it.
 
-ghost use Rattle.std.specs.Prelude.{◌≡◌, IfOk};
+ghost use Rattle.std.specs.Prelude.{◌≡◌};
 
 use crate::common::members::CLIENT;
 use crate::common::signing::message;
@@ -17,22 +17,24 @@ use std::sync::Arc;
 #[derive(Drop)]
 pub(crate) struct Client {
     config: Arc<Config>,
-    session: Session,
-    ghost same: { session.config ≡ config.value },
+    /// A box is dropped in one step of a proof.
+    session: Box<Session>,
+    ghost same: { session.value.config ≡ config.value },
 }
 
 impl Client {
     /// A client before its first request.
     pub(crate) fn new(alloc: Global, config: &Arc<Config>, signer: Signer) -> Result<Client> {
-        let Some(entry) = config.client(CLIENT) else {
-            return Err(anyhow!("the client is not listed"));
-        };
-        if entry.key != signer.public_key() {
-            return Err(anyhow!("the signer's key is not listed"));
+        match config.client(CLIENT) {
+            Some(entry) if entry.key == signer.public_key() => {
+                let session = Session::new(alloc, config, CLIENT, signer)?;
+                Ok(Client {
+                    session: Box::new(alloc, session)?,
+                    config: Arc::try_clone(config)?,
+                })
+            }
+            _ => Err(anyhow!("the signer's key is not listed")),
         }
-        let session = Session::new(alloc, config, CLIENT, signer)?;
-        let config = Arc::try_clone(config)?;
-        Ok(Client { config, session })
     }
 
     /// The client's next request.

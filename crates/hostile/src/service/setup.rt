@@ -43,11 +43,16 @@ fn config(alloc: Global) -> Result<Arc<Config>> {
 /// A state in which each tenant has installed the procedure.
 pub(crate) fn state(alloc: Global) -> Result<State> {
     let mut state = State::genesis(alloc, config(alloc)?)?;
+    install(alloc, &mut state)?;
+    Ok(state)
+}
+
+fn install(alloc: Global, state: &mut State) -> Result<()> {
     for tenant in 0..TENANTS {
         let request = request(tenant, 1, INSTALLATION.to_vec(alloc)?);
-        apply(&mut state, &request)??;
+        apply(state, &request)??;
     }
-    Ok(state)
+    Ok(())
 }
 
 fn request(tenant: u32, time: u64, op: Vec<u8>) -> Request {

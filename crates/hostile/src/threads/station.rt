@@ -68,15 +68,28 @@ fn take_at<K: Named, R: Threads + Wait + Sync>(
 {
     let (station, seat) = Station::<K>::new(rt.alloc(), blank, config, REPLICA, signer, PARTS)?;
     let mut seat = seat;
+    take_messages(rt, threads, config, &station, &mut seat, messages)
+}
+
+fn take_messages<K: Named, R: Threads + Wait + Sync>(
+    rt: &HostRuntime,
+    threads: &R,
+    config: &Arc<Config>,
+    station: &Station<K>,
+    seat: &mut Seat<K>,
+    messages: &[Vec<u8>],
+) -> Result<()>
+    requires { config.now.value ≡ K.config }
+{
     let Some((last, first)) = messages.split_last() else {
         return Err(anyhow!("there is no message"));
     };
     for bytes in first {
         let message = open(rt.alloc(), config, bytes)?;
-        take(threads, &station, &mut seat, &message)?;
+        take(threads, station, seat, &message)?;
     }
     let message = open(rt.alloc(), config, last)?;
-    take_last(rt, threads, &station, &mut seat, &message)
+    take_last(rt, threads, station, seat, &message)
 }
 
 /// Takes a message that was opened under the station's configuration.

@@ -1,5 +1,5 @@
 use Rattle.std.specs.Prelude.{◌≡◌}
-use Rattle.thread_tests.proofs.calls.calls.Given as goal
+use Rattle.thread_tests.proofs.calls.calls_in.Given as goal
 
 abbrev pub invariant-loop-op : goal.invariant-loop-op
 invariant-loop-op g l =
