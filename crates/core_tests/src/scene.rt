@@ -1,5 +1,7 @@
 //! One replica, and those around it, who say whatever a test has them say.
 
+ghost use Rattle.std.specs.Prelude.{◌≡◌, ◌+◌, IfSome};
+
 use crate::node::Node;
 use crate::signing::checked;
 use crate::words::Words;
@@ -61,6 +63,13 @@ pub struct Scene {
 /// The signer of this id; ids 0 to 3 are replicas.
 pub fn key(alloc: Global, secret: u8, id: u8) -> Result<Signer, Fail> {
     Ok(Signer::from_seed(alloc, Height::H5, [id; 16], [secret; 32])?)
+}
+
+// How many leaves were left before a row behind which so many are left.
+fn leaves_before(row: &Row, left: u32) -> Option<u32>
+    ensures { IfSome result (λ before. before ≡ left + row.now.leaves) }
+{
+    left.checked_add(row.leaves())
 }
 
 /// The replicas' signers.
@@ -329,7 +338,7 @@ impl Scene {
             self.check_output(output)?;
         }
         let left = self.node()?.replica().leaves_left();
-        if left.checked_add(row.leaves()) != Some(self.left) {
+        if leaves_before(row, left) != Some(self.left) {
             return Err(Fail::new("other leaves were taken"));
         }
         self.left = left;

@@ -16,7 +16,7 @@ use Rattle.pbft_model.specs.Words.{Signed, ViewChange}
 use Rattle.seal.specs.Opening.{CheckedMessage, sealed_message}
 use Rattle.replica_core.specs.Doing.{Says}
 use Rattle.replica_core.specs.Replicas.{AreOne, KeptReplica, Parts, kept_in}
-use Rattle.replica_core.specs.Stores.{KeptChanges}
+use Rattle.replica_stores.specs.Stores.{KeptChanges}
 use Rattle.replica_core.specs.OwnViewChange.{own_view_change}
 use Rattle.replica_core.proofs.Fulfilling.{no_more}
 use Rattle.view_change.specs.Setups.{setup_of}

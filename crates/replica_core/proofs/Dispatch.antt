@@ -24,7 +24,7 @@ use Rattle.replica_core.specs.Replicas.{KeptReplica}
 use Rattle.replica_core.specs.Settling.{Advances, IsHaltedAt}
 use Rattle.view_change.specs.Setups.{setup_of}
 use Rattle.replica_core.proofs.Fulfilling.{no_more}
-use Rattle.replica_core.proofs.Results.{on_ok}
+use Rattle.replica_stores.proofs.Results.{on_ok}
 
 none_some : {X : Type 0} (o : Option X) → o ≡ None → IsSome o → ⊥
 none_some o e some = false≢true (sym (ap is_some e) ∙ some)

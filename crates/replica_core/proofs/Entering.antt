@@ -21,7 +21,7 @@ use Rattle.quorum_log.specs.Log.{AreProposals, KeptLog, Log, is_within, log_of, 
 use Rattle.seal.specs.Opening.{CheckedMessage}
 use Rattle.seal.specs.Parts.{as_message}
 use Rattle.replica_core.specs.Replicas.{AreOne, KeptReplica, Parts, basis_in, changes_in, core_in, kept_in}
-use Rattle.replica_core.specs.Stores.{KeptSent, only_states_asked}
+use Rattle.replica_stores.specs.Stores.{KeptSent, only_states_asked}
 use Rattle.replica_core.proofs.Admitting.{admitted_is}
 use Rattle.view_change.specs.Setups.{setup_of}
 

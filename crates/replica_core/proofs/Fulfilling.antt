@@ -19,7 +19,7 @@ use Rattle.replica_core.specs.Doing.{Fulfilled}
 use Rattle.replica_core.specs.Replicas.{AreOne, KeptReplica, Parts, kept_in}
 use Rattle.pbft_model.specs.Rows.{Fulfils}
 use Rattle.replica_core.proofs.Entering.{same_new_view}
-use Rattle.replica_core.proofs.Results.{on_ok}
+use Rattle.replica_stores.proofs.Results.{on_ok}
 use Rattle.view_change.specs.Setups.{setup_of}
 
 pub no_more : {X : Type 0} (xs : List X) → xs ≡ xs ++ []

@@ -14,7 +14,7 @@ use Rattle.pbft_model.specs.Acts.{left_for}
 use Rattle.quorum_log.specs.declared.certificate.CheckedCertificate.{CheckedCertificate}
 use Rattle.quorum_log.specs.Log.{KeptLog, checked_certificate, left, as_checked}
 use Rattle.replica_core.specs.Replicas.{AreOne, KeptReplica, Parts, core_in, kept_in}
-use Rattle.replica_core.specs.Stores.{KeptCertificates, KeptChanges, KeptSent, only_states_asked}
+use Rattle.replica_stores.specs.Stores.{KeptCertificates, KeptChanges, KeptSent, only_states_asked}
 use Rattle.view_change.specs.Setups.{setup_of}
 
 abbrev Pre : Type 0

@@ -1,12 +1,3 @@
-pub mod Lists
-pub mod Entries
-pub mod Results
-pub mod Counting
-pub mod Certifying
-pub mod Changing
-pub mod Choosing
-pub mod Joining
-pub mod Holding
 pub mod Readings
 pub mod Admitting
 pub mod Snapshots

@@ -36,11 +36,11 @@ use Rattle.replica_core.specs.Doing.{Says}
 use Rattle.replica_core.specs.Opens.{AreGiven, IsProposal, IsToOpen, after_leaves, chosen_by, given_to, opening_message, opening_of, signed_by_all, with_opening}
 use Rattle.replica_core.specs.Replicas.{AreOne, KeptReplica, Parts, core_in, kept_in}
 use Rattle.replica_core.specs.Settling.{IsReached}
-use Rattle.replica_core.specs.Stores.{KeptSent}
+use Rattle.replica_stores.specs.Stores.{KeptSent}
 use Rattle.replica_core.proofs.Ascending.{gathered_ascends, some_id}
 use Rattle.replica_core.proofs.Entering.{floor_small, same_new_view}
 use Rattle.replica_core.proofs.Fulfilling.{no_more}
-use Rattle.replica_core.proofs.Lists.{all_implied}
+use Rattle.replica_stores.proofs.Lists.{all_implied}
 
 -- ---- the PrePrepares are signed
 

@@ -17,7 +17,7 @@ use Rattle.checkpoints.proofs.Stable.{stable_is}
 use Rattle.quorum_log.specs.Log.{KeptLog, Log, discarded as log_discarded}
 use Rattle.view_change.specs.Setups.{setup_of}
 use Rattle.replica_core.specs.Replicas.{AreOne, KeptReplica, Parts, basis_in, core_in, kept_in}
-use Rattle.replica_core.specs.Stores.{KeptCertificates, KeptRequests, KeptSent, sent_above}
+use Rattle.replica_stores.specs.Stores.{KeptCertificates, KeptRequests, KeptSent, sent_above}
 
 -- ---- the parts
 

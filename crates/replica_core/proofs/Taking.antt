@@ -17,7 +17,7 @@ use Rattle.checkpoints.specs.Kept.{KeptCheckpoints}
 use Rattle.view_change.specs.Faults.{answer}
 use Rattle.view_change.specs.declared.fault.ViewFault.{ViewFault}
 use Rattle.view_change.specs.Setups.{setup_of, IsViewChange, IsNewView}
-use Rattle.replica_core.specs.Stores.{KeptChanges}
+use Rattle.replica_stores.specs.Stores.{KeptChanges}
 use Rattle.replica_core.specs.Replicas.{AreOne, KeptReplica, Parts, core_in, kept_in}
 
 -- ---- valid or not

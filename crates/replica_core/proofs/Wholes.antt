@@ -4,7 +4,7 @@ use Rattle.host_types.specs.Configuration.{Configuration}
 use Rattle.pbft_codec.specs.declared.body.Body.{Body}
 use Rattle.pbft_codec.specs.declared.body.Body.TheVariants as bodies
 use Rattle.pbft_model.specs.Words.{RequestBody}
-use Rattle.replica_core.specs.Stores.{IsRequest, KeptRequests}
+use Rattle.replica_stores.specs.Stores.{IsRequest, KeptRequests}
 use Rattle.replica_core.specs.Replicas.{AreOne, Parts}
 
 pub with_requests : (c : Configuration) (me : ℕ) (p : Parts) (new : KeptRequests) → AreOne c me p → new.config ≡ p.requests.config → AreOne c me (record p { requests = new })

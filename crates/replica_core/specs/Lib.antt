@@ -1,10 +1,4 @@
 pub mod Halts
-pub mod Stores
-pub mod Entries
-pub mod Sent
-pub mod Certificates
-pub mod Changes
-pub mod Requests
 pub mod Facts
 pub mod Replicas
 pub mod Doing

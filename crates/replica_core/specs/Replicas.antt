@@ -21,7 +21,7 @@ use Rattle.quorum_log.specs.Log.{KeptLog}
 use Rattle.checkpoints.specs.Kept.{KeptCheckpoints}
 use Rattle.replica_core.specs.declared.step.Step.{Step}
 use Rattle.replica_core.specs.Facts.{done_of, output_of}
-use Rattle.replica_core.specs.Stores.{KeptCertificates, KeptChanges, KeptRequests, KeptSent}
+use Rattle.replica_stores.specs.Stores.{KeptCertificates, KeptChanges, KeptRequests, KeptSent}
 
 -- What a contract sees of a replica that has not stopped.
 pub record KeptReplica : Type 0 where
@@ -89,8 +89,8 @@ core_in p = record {
   reading = p.step.reading;
   is_fresh = p.step.is_fresh;
   timed_out = p.step.timed_out;
-  reply_due = p.step.reply_due;
-  checkpoint_due = p.step.checkpoint_due;
+  reply_due = p.step.owed.reply;
+  checkpoint_due = p.step.owed.checkpoint;
   signer = p.signer;
 }
 
@@ -125,7 +125,7 @@ pub record AreOne (c : Configuration) (me : ℕ) (p : Parts) : Type 0 where
   pub opened_at : IfSome p.log.log.floor (λ floor. floor < number_limit)
   pub proposed : AllByRecursion (λ x. x.number < number_limit) p.sent.proposed
   -- a reply that is owed has room in a message
-  pub owed : IfSome p.step.reply_due (λ r. (length r.result ≤ 265) × (r.number.0 < number_limit))
+  pub owed : IfSome p.step.owed.reply (λ r. (length r.result ≤ 265) × (r.number.0 < number_limit))
   -- the leaves taken for the input are the signer's
   pub few : p.step.leaves ≤ p.signer.next_leaf
 

@@ -22,11 +22,11 @@ ghost use Rattle.replica_core.specs.Doing.{Does, Executes, Fulfilled, IsShortOf,
 use crate::halt::Halt;
 use crate::kept::{Core, null_digest};
 use crate::row::{Dest, Done};
-use crate::sent::Proposal;
 use host_types::{Bytes, ClientId, Digest, ReplicaId, Reply, Request, SeqNo, View};
 use pbft_codec::{
     Body, Checkpoint, Commit, Fetch, PrePrepare, Prepare, ReplyBody, Snapshot, TryClone,
 };
+use replica_stores::Proposal;
 use service_core::Outcome;
 use std::alloc::Global;
 
@@ -164,7 +164,7 @@ impl Core {
         ensures short { IfErr result (IsShortOf self.old 1) }
     {
         self.need_leaves(1)?;
-        let Some(reply) = &self.step.reply_due else {
+        let Some(reply) = &self.step.owed.reply else {
             unreachable!();
         };
         let client = reply.client;
@@ -179,7 +179,7 @@ impl Core {
         ensures sent { OnOk result (SendsOwed self.old self.old.core.reply_due self.new) }
         ensures short { IfErr result (λ halt. IsSome self.old.core.reply_due × IsShortOf self.old 1 halt) }
     {
-        if self.step.reply_due.is_none() {
+        if self.step.owed.reply.is_none() {
             return Ok(());
         }
         self.send_reply()?;

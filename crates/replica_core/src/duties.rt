@@ -148,7 +148,7 @@ impl Core {
     fn due_reply(&self) -> Option<Duty>
         ensures { Finds self.now (λ c me s. model.due_reply me s s.reply_due) result }
     {
-        self.step.reply_due.as_ref()?;
+        self.step.owed.reply.as_ref()?;
         Some(Duty::Reply)
     }
 
@@ -156,7 +156,7 @@ impl Core {
     fn due_checkpoint(&self) -> Option<Duty>
         ensures { Finds self.now model.due_checkpoint result }
     {
-        if self.step.checkpoint_due {
+        if self.step.owed.checkpoint {
             Some(Duty::Checkpoint)
         } else {
             None

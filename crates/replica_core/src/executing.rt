@@ -13,6 +13,7 @@ use crate::halt::{Halt, or_out_of_memory};
 use crate::kept::Core;
 use crate::row::Done;
 use host_types::{Bytes, Digest, Reply, Request, SeqNo};
+use replica_stores::Owed;
 use service_core::Outcome;
 
 impl Core {
@@ -67,8 +68,7 @@ impl Core {
         requires short { IfSome reply (λ r. (length r.result ≤ 265) × (r.number.0 < 2 ^ 48)) }
         ensures { self.new ≡ record self.old { core = record self.old.core { reply_due = reply; checkpoint_due = checkpoint } } }
     {
-        self.step.reply_due = reply;
-        self.step.checkpoint_due = checkpoint;
+        self.step.owed = Owed { reply, checkpoint };
     }
 
     /// Goes on from the state that the message just taken reads as.
@@ -89,7 +89,6 @@ impl Core {
             unreachable!();
         };
         self.service = state;
-        self.step.reply_due = None;
-        self.step.checkpoint_due = false;
+        self.step.owed = Owed::nothing();
     }
 }

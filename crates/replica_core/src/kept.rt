@@ -14,15 +14,12 @@ ghost use Rattle.seal.specs.Signers.{key_of};
 ghost use Rattle.sha2.specs.Sha256.{sha256};
 ghost use Rattle.view_change.specs.Setups.{setup_of};
 
-use crate::certificates::Certificates;
-use crate::changes::Changes;
-use crate::requests::Requests;
-use crate::sent::Sent;
 use crate::step::Step;
 use checkpoints::Checkpoints;
 use host_types::{Config, Digest, ReplicaId, SeqNo, View};
 use lms_tree::Signer;
 use quorum_log::QuorumLog;
+use replica_stores::{Certificates, Changes, Requests, Sent};
 use seal::Checked;
 use service_core::State;
 use sha2::Sha256;

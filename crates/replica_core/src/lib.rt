@@ -8,8 +8,6 @@
 
 mod acts;
 mod batch;
-mod certificates;
-mod changes;
 mod duties;
 mod executing;
 mod halt;
@@ -19,10 +17,8 @@ mod laws;
 mod noting;
 mod recording;
 mod replica;
-mod requests;
 mod row;
 mod sending;
-mod sent;
 mod settling;
 mod step;
 mod views;

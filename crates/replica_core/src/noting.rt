@@ -5,13 +5,13 @@ ghost use Rattle.std.specs.List.{AllByRecursion};
 ghost use Rattle.pbft_model.specs.Acts.{acted};
 ghost use Rattle.pbft_model.specs.Certificates.{of_pre_prepare};
 ghost use Rattle.replica_core.specs.declared.halt.Halt.TheVariants.{Memory};
-ghost use Rattle.replica_core.specs.Sent.{fields_of};
+ghost use Rattle.replica_stores.specs.Sent.{fields_of};
 
 use crate::halt::Halt;
 use crate::kept::Core;
-use crate::sent::Proposal;
 use host_types::{Digest, SeqNo};
 use pbft_codec::PrePrepare;
+use replica_stores::Proposal;
 
 impl Core {
     /// An act was done: what is asked as a message comes is asked no more.
@@ -71,13 +71,13 @@ impl Core {
     pub(crate) fn note_reply(&mut self)
         ensures { self.new ≡ record self.old { core = record self.old.core { reply_due = None } } }
     {
-        self.step.reply_due = None;
+        self.step.owed.reply = None;
     }
 
     /// The Checkpoint of the number just executed is sent.
     pub(crate) fn note_checkpoint(&mut self)
         ensures { self.new ≡ record self.old { core = record self.old.core { checkpoint_due = false } } }
     {
-        self.step.checkpoint_due = false;
+        self.step.owed.checkpoint = false;
     }
 }

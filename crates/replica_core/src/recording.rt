@@ -8,7 +8,7 @@ ghost use Rattle.pbft_model.specs.Rules.{IsReading, IsReadingOf};
 ghost use Rattle.seal.specs.Parts.{as_message};
 ghost use Rattle.seal.specs.Votes.{vote_of};
 ghost use Rattle.checkpoints.specs.Kept.{checkpoint_of};
-ghost use Rattle.replica_core.specs.Stores.{IsRequest};
+ghost use Rattle.replica_stores.specs.Stores.{IsRequest};
 ghost use Rattle.replica_core.specs.declared.halt.Halt.TheVariants.{Memory};
 ghost use Rattle.view_change.specs.Setups.{IsNewView, IsViewChange, setup_of};
 

@@ -3,7 +3,7 @@
 ghost use Rattle.std.specs.Prelude.{◌≡◌, [], false, None};
 
 use crate::row::{Dest, Done, Output};
-use host_types::Reply;
+use replica_stores::Owed;
 use seal::Checked;
 use service_core::State;
 use std::alloc::{AllocError, Global};
@@ -20,8 +20,7 @@ pub(crate) struct Step {
     /// A timeout has come, and nothing was done since.
     pub timed_out: bool,
     /// What the last execution still has to send.
-    pub reply_due: Option<Reply>,
-    pub checkpoint_due: bool,
+    pub owed: Owed,
     /// What was done so far.
     pub outputs: Vec<Output>,
     pub done: Vec<Done>,
@@ -35,8 +34,8 @@ impl Step {
         ensures reading { result.reading ≡ None }
         ensures fresh { result.is_fresh ≡ false }
         ensures timed { result.timed_out ≡ false }
-        ensures reply { result.reply_due ≡ None }
-        ensures checkpoint { result.checkpoint_due ≡ false }
+        ensures reply { result.owed.reply ≡ None }
+        ensures checkpoint { result.owed.checkpoint ≡ false }
         ensures outputs { result.outputs.items ≡ [] }
         ensures done { result.done.items ≡ [] }
         ensures leaves { result.leaves ≡ 0 }
@@ -46,8 +45,7 @@ impl Step {
             reading: None,
             is_fresh: false,
             timed_out: false,
-            reply_due: None,
-            checkpoint_due: false,
+            owed: Owed::nothing(),
             outputs: Vec::new(alloc),
             done: Vec::new(alloc),
             leaves: 0,

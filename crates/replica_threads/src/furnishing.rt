@@ -74,26 +74,36 @@ pub(crate) fn open_parts<G: Drop>(
     gate: Arc<G>,
 ) -> Result<Parts<G>, AllocError> {
     let (posts, inboxes) = open_posts(alloc, config.replica_count())?;
-    let posts = Arc::new(alloc, posts)?;
     let (senders, replies) = reply_queues(alloc, config.clients().len())?;
-    let records = Arc::new(
-        alloc,
-        Mutex::new(no_records(alloc, config.replica_count())?),
-    )?;
-    let links = Links {
-        config: Arc::try_clone(config)?,
-        posts: Arc::try_clone(&posts)?,
-        replies: senders,
-        records: Arc::try_clone(&records)?,
-        gate,
-    };
+    let posts = Arc::new(alloc, posts)?;
+    let records = open_records(alloc, config.replica_count())?;
+    let links = open_links(alloc, config, &posts, &records, senders, gate)?;
     Ok(Parts {
         posts,
         inboxes,
         replies,
         records,
-        links: Arc::new(alloc, links)?,
+        links,
     })
+}
+
+// What the threads speak by.
+fn open_links<G: Drop>(
+    alloc: Global,
+    config: &Arc<Config>,
+    posts: &Arc<Posts>,
+    records: &Arc<Mutex<Vec<Option<JournalRecord>>>>,
+    replies: Vec<Sender<Checked>>,
+    gate: Arc<G>,
+) -> Result<Arc<Links<G>>, AllocError> {
+    let links = Links {
+        config: Arc::try_clone(config)?,
+        posts: Arc::try_clone(posts)?,
+        replies,
+        records: Arc::try_clone(records)?,
+        gate,
+    };
+    Ok(Arc::new(alloc, links)?)
 }
 
 // The queues that lead to replicas, and their other ends.
@@ -104,13 +114,18 @@ fn open_posts(alloc: Global, replicas: u8) -> Result<(Posts, Vec<Inbox>), AllocE
     };
     let mut inboxes = Vec::new(alloc);
     for _ in 0..replicas {
-        let (to_openers, parcels) = unbounded(alloc)?;
-        let (to_thread, letters) = unbounded(alloc)?;
-        posts.parcels.push(to_openers)?;
-        posts.letters.push(to_thread)?;
-        inboxes.push(Inbox { parcels, letters })?;
+        inboxes.push(open_inbox(alloc, &mut posts)?)?;
     }
     Ok((posts, inboxes))
+}
+
+// The queues that lead to one replica: what reads them, beside the posts that fill them.
+fn open_inbox(alloc: Global, posts: &mut Posts) -> Result<Inbox, AllocError> {
+    let (to_openers, parcels) = unbounded(alloc)?;
+    posts.parcels.push(to_openers)?;
+    let (to_thread, letters) = unbounded(alloc)?;
+    posts.letters.push(to_thread)?;
+    Ok(Inbox { parcels, letters })
 }
 
 /// A desk for each replica.
@@ -155,10 +170,13 @@ fn reply_queues(
 }
 
 // A slot for the record of each replica.
-fn no_records(alloc: Global, replicas: u8) -> Result<Vec<Option<JournalRecord>>, AllocError> {
+fn open_records(
+    alloc: Global,
+    replicas: u8,
+) -> Result<Arc<Mutex<Vec<Option<JournalRecord>>>>, AllocError> {
     let mut records = Vec::new(alloc);
     for _ in 0..replicas {
         records.push(None)?;
     }
-    Ok(records)
+    Ok(Arc::new(alloc, Mutex::new(records))?)
 }

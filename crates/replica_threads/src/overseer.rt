@@ -47,13 +47,29 @@ fn hire_all<
     crew: &mut Vec<JoinHandle<()>>,
 ) -> Result<(), AllocError> {
     // A thread is made only where its handle can be kept.
-    crew.reserve(desks.len() * (usize::from(openers) + 1))?;
+    let threads = desks.len().saturating_mul(usize::from(openers) + 1);
+    crew.reserve(threads)?;
     for desk in desks {
-        for _ in 0..openers {
-            let parcels = desk.parcels.clone()?;
-            crew.push(hire_opener(rt, alloc, links, desk.id, parcels)?)?;
-        }
+        hire_openers(rt, alloc, links, &desk, openers, crew)?;
         crew.push(hire_replica(rt, links, desk)?)?;
+    }
+    Ok(())
+}
+
+fn hire_openers<
+    R: Threads + Wait + Copy + Send + Sync + 'static,
+    G: Gate + Send + Sync + Drop + 'static,
+>(
+    rt: R,
+    alloc: Global,
+    links: &Arc<Links<G>>,
+    desk: &Desk,
+    openers: u8,
+    crew: &mut Vec<JoinHandle<()>>,
+) -> Result<(), AllocError> {
+    for _ in 0..openers {
+        let parcels = desk.parcels.clone()?;
+        crew.push(hire_opener(rt, alloc, links, desk.id, parcels)?)?;
     }
     Ok(())
 }

@@ -31,7 +31,15 @@ pub(crate) fn serve_at<R: Wait + Threads + Sync, G: Gate + Sync + Drop>(
         letters,
     } = desk;
     let blank = Blank::new(PARTS);
-    serve::<Brand, R, G>(rt, links, blank, config, id, journal, letters)
+    serve::<Brand, R, G>(
+        rt,
+        links,
+        blank,
+        config,
+        id,
+        Box::into_inner(journal),
+        letters,
+    )
 }
 
 // Serves as the replica that the name stands for.

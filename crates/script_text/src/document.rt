@@ -1,6 +1,6 @@
 //! A script from its text.
 
-ghost use Rattle.std.specs.Prelude.{◌≡◌, ◌≤◌, ◌⊎◌, [], None, Ok, Some, IfErr, MatchResult, Result};
+ghost use Rattle.std.specs.Prelude.{◌≡◌, ◌≤◌, ◌⊎◌, ◌++◌, ◌∷◌, [], None, Ok, Some, IfErr, MatchResult, OnOk, Result};
 ghost use Rattle.std.specs.Option.{option_map};
 ghost use Rattle.toml.specs.Parse.{parse_document};
 ghost use Rattle.toml.specs.View.{items_view, table_view};
@@ -17,7 +17,7 @@ use crate::head::{Head, read_head};
 use crate::script::{NamedStep, Script};
 use crate::step_keys::read_step;
 use pbft_codec::Sequence;
-use std::alloc::Global;
+use std::alloc::{AllocError, Global};
 use toml::{Table, Value};
 
 /// The most bytes of a script.
@@ -153,10 +153,17 @@ fn with_step(
     ensures at { IfErr result (λ fault. fault.step ≡ number) }
 {
     match step {
-        Ok(step) => match steps.push(step) {
+        Ok(step) => match add_step(&mut steps, step) {
             Ok(()) => Ok(steps),
             Err(_) => Err(TableFault::Memory.at_step(number)),
         },
         Err(fault) => Err(fault.at_step(number)),
     }
+}
+
+/// Adds a step.
+fn add_step(steps: &mut Vec<NamedStep>, step: NamedStep) -> Result<(), AllocError>
+    ensures { OnOk result (steps.new.items ≡ steps.old.items ++ step ∷ []) }
+{
+    Ok(steps.push(step)?)
 }

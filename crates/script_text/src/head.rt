@@ -1,11 +1,12 @@
 //! The head of a script, and its keys.
 
-ghost use Rattle.std.specs.Prelude.{◌≡◌, ◌≤◌, IfOk, Result, is_none, map, replicate};
+ghost use Rattle.std.specs.Prelude.{◌≡◌, ◌≤◌, ◌⊎◌, IfOk, MatchResult, Result, false, is_none, map, replicate};
 ghost use Rattle.host_types.specs.Configuration.{fault_of, replicas_for};
 ghost use Rattle.toml.specs.Data.{as_array};
 ghost use Rattle.toml.specs.View.{table_view, view};
 ghost use Rattle.script_text.specs.Dialects.{has_item, head_for, names_faulty};
 ghost use Rattle.script_text.specs.declared.fault.TableFault.{TableFault};
+ghost use Rattle.script_text.specs.declared.fault.TableFault.TheVariants.{BadConfig, Memory};
 ghost use Rattle.script_text.specs.Faults.{IsUnlessMemory};
 ghost use Rattle.script_text.specs.Forms.{only_keys};
 ghost use Rattle.script_text.specs.Heads.{IsLegal, byte_of, client_heights_in, client_shape, count_of_faulty, head_from, head_in, head_keys, head_of, if_legal, keyless, keyless_configuration, listed_clients, named_count, needed_head, no_key, optional_faulty, optional_head, replica_count};
@@ -267,11 +268,8 @@ fn legal_head(
     ensures { IsUnlessMemory result (if_legal (head_of f k secret optional clients)) }
 {
     let clients = given_or(clients, Sequence::from_vec(Vec::new(alloc)));
-    let legal = is_legal(alloc, f, k, clients.as_slice())?;
+    must_be_legal(alloc, f, k, clients.as_slice())?;
     let faulty = given_or(optional.faulty, Sequence::from_vec(Vec::new(alloc)));
-    if !legal {
-        return Err(TableFault::BadConfig);
-    }
     Ok(Head {
         f,
         k,
@@ -282,6 +280,17 @@ fn legal_head(
         faulty,
         clients,
     })
+}
+
+/// Refuses what is the head of no configuration.
+fn must_be_legal(alloc: Global, f: u8, k: u8, clients: &[Client]) -> Result<(), TableFault>
+    ensures { MatchResult result (λ _. IsLegal f k clients.now) (λ fault. (fault ≡ Memory) ⊎ ((fault ≡ BadConfig) × (is_none (fault_of (keyless_configuration f k clients.now)) ≡ false))) }
+{
+    let legal = is_legal(alloc, f, k, clients)?;
+    if !legal {
+        return Err(TableFault::BadConfig);
+    }
+    Ok(())
 }
 
 /// The number of replicas for a legal number of faulty ones.

@@ -1,6 +1,7 @@
 //! The keys of a script's steps.
 
-ghost use Rattle.std.specs.Prelude.{◌≡◌, ◌∷◌, ℕ, IfOk, List, Option, Result, codes, map};
+ghost use Rattle.std.specs.Int.{to_be_bytes, w32};
+ghost use Rattle.std.specs.Prelude.{◌≡◌, ◌∷◌, ◌++◌, ℕ, IfOk, List, Ok, Option, Result, codes, map};
 ghost use Rattle.host_types.specs.Configuration.{replicas_for};
 ghost use Rattle.toml.specs.View.{table_view, view};
 ghost use Rattle.script_text.specs.declared.fault.TableFault.{TableFault};
@@ -9,7 +10,7 @@ ghost use Rattle.script_text.specs.declared.script.Damage.TheVariants as damages
 ghost use Rattle.script_text.specs.declared.script.Step.{Step as StepSaid};
 ghost use Rattle.script_text.specs.Faults.{IsUnlessMemory};
 ghost use Rattle.script_text.specs.Naming.{named};
-ghost use Rattle.script_text.specs.Steps.{Selection as SelectionSaid, asm_in, bare, call_in, damage_at, deliver_in, drop_in, expect_in, filter_in, filter_of, install_in, mangle_from, mangle_in, mangle_with, name_in, order_in, order_with, queue_in, repeat_in, selection_in, state_in, step_named, timeout_in, upgrade_in};
+ghost use Rattle.script_text.specs.Steps.{Selection as SelectionSaid, arguments_of, asm_in, bare, call_in, damage_at, deliver_in, drop_in, expect_in, filter_in, filter_of, install_in, mangle_from, mangle_in, mangle_with, name_in, order_in, order_with, queue_in, repeat_in, selection_in, state_in, step_named, timeout_in, upgrade_in};
 ghost use Rattle.script_text.specs.Dialects.{step, step_named_for, thread_step};
 
 use crate::assembly::AssemblerText;
@@ -348,13 +349,31 @@ fn read_call(alloc: Global, table: &Table) -> Result<Operation, TableFault>
         needed(alloc, table, "call", &Word),
         optional(alloc, table, "args", &HexBytes),
     )?;
-    let mut op = Vec::new(alloc);
-    op.push(CALL)?;
-    op.extend_from_slice(&procedure.to_be_bytes())?;
+    call(alloc, procedure, &arguments)
+}
+
+fn call(
+    alloc: Global,
+    procedure: u32,
+    arguments: &Option<ScriptBytes>,
+) -> Result<Operation, TableFault>
+    ensures { IsUnlessMemory result (Ok (2 ∷ to_be_bytes w32 procedure ++ arguments_of arguments.now)) }
+{
+    let mut op = bare_call(alloc, procedure)?;
     if let Some(arguments) = arguments {
         op.extend_from_slice(arguments.as_slice())?;
     }
     Ok(Operation::new(Bytes::from_vec(op)))
+}
+
+/// A call without its arguments.
+fn bare_call(alloc: Global, procedure: u32) -> Result<Vec<u8>, AllocError>
+    ensures { IfOk result (λ op. op.items ≡ 2 ∷ to_be_bytes w32 procedure) }
+{
+    let mut op = Vec::new(alloc);
+    op.push(CALL)?;
+    op.extend_from_slice(&procedure.to_be_bytes())?;
+    Ok(op)
 }
 
 /// Which messages of the queue are delivered, and in which order.

@@ -2,10 +2,11 @@
 
 ghost use Rattle.std.specs.Prelude.{◌≡◌, true, false, IfOk, IsErrOf, OnOk, position, option_map};
 ghost use Rattle.lms_tree.specs.declared.fault.SignFault.{SignFault};
-ghost use Rattle.lms_tree.specs.Keys.{after_signing};
+ghost use Rattle.lms_tree.specs.Keys.{after_signing, signature_of};
 ghost use Rattle.pbft_codec.specs.declared.body.Body.TheVariants as bodies;
-ghost use Rattle.pbft_codec.specs.Encoding.{encoding};
+ghost use Rattle.pbft_codec.specs.Encoding.{encoding, signed_text};
 ghost use Rattle.pbft_codec.specs.WellFormed.{BodyWellFormed};
+ghost use Rattle.seal.specs.Opening.{sealed_message};
 ghost use Rattle.world_script.specs.Parts.{Forges};
 ghost use Rattle.world_script.specs.Stages.{bare_view_change, forged_message, has_no_leaf, is_forger, vote_body};
 
@@ -63,24 +64,49 @@ impl Forger {
         ensures can { OnOk result (has_no_leaf self.old.signer ≡ false) }
         ensures exhausted { IsErrOf result SignFault.Exhausted → (has_no_leaf self.old.signer ≡ true) × (self.new ≡ self.old) }
     {
-        if self.signer.leaves_left() == 0 {
-            return Err(SignFault::Exhausted);
-        }
         let mut message = Signed {
             role: Role::Replica,
             id: u32::from(forgery.from.0),
             body,
             sig: Bytes::from_vec(Vec::new(alloc)),
         };
-        let Ok(text) = signed_bytes(alloc, &message) else {
-            return Err(SignFault::Memory);
-        };
-        message.sig = Bytes::from_vec(self.signer.sign(&text)?);
-        match encode(alloc, &message) {
-            Ok(bytes) => Ok(bytes),
-            Err(_) => Err(SignFault::Memory),
-        }
+        sign_and_encode(alloc, &mut self.signer, &mut message)
     }
+}
+
+/// Puts a signer's signature into a message. Its bytes.
+fn sign_and_encode(
+    alloc: Global,
+    signer: &mut Signer,
+    message: &mut Signed,
+) -> Result<Vec<u8>, SignFault>
+    requires { BodyWellFormed message.old.body }
+    ensures message { IfOk result (λ bytes. bytes.items ≡ encoding (sealed_message signer.old message.old.role message.old.id message.old.body)) }
+    ensures signed { OnOk result (signer.new ≡ after_signing signer.old) }
+    ensures can { OnOk result (has_no_leaf signer.old ≡ false) }
+    ensures exhausted { IsErrOf result SignFault.Exhausted → (has_no_leaf signer.old ≡ true) × (signer.new ≡ signer.old) }
+{
+    message.sig = signature(alloc, signer, message)?;
+    match encode(alloc, message) {
+        Ok(bytes) => Ok(bytes),
+        Err(_) => Err(SignFault::Memory),
+    }
+}
+
+/// The signature of a signer under a message, whatever stands there.
+fn signature(alloc: Global, signer: &mut Signer, message: &Signed) -> Result<Bytes, SignFault>
+    ensures signature { IfOk result (λ sig. sig ≡ signature_of signer.old (signed_text message.now)) }
+    ensures signed { OnOk result (signer.new ≡ after_signing signer.old) }
+    ensures can { OnOk result (has_no_leaf signer.old ≡ false) }
+    ensures exhausted { IsErrOf result SignFault.Exhausted → (has_no_leaf signer.old ≡ true) × (signer.new ≡ signer.old) }
+{
+    if signer.leaves_left() == 0 {
+        return Err(SignFault::Exhausted);
+    }
+    let Ok(text) = signed_bytes(alloc, message) else {
+        return Err(SignFault::Memory);
+    };
+    Ok(Bytes::from_vec(signer.sign(&text)?))
 }
 
 /// The body of a forged vote for a digest.

@@ -6,6 +6,7 @@ ghost use Rattle.script_text.specs.declared.fault.ScriptKind.TheVariants as kind
 ghost use Rattle.world_script.specs.Running.{Compares, PlaysWhatIsRead, Reports, RunsSteps, StepEnds};
 ghost use Rattle.world_script.specs.Scripts.{WritesWhatIsRead};
 ghost use Rattle.world_script.specs.Stages.{after_naming};
+ghost use Rattle.world_script.specs.Starts.{start_of};
 
 use crate::expecting::{differing_line, line_of_unexpected};
 use crate::fault::RunFault;
@@ -75,16 +76,29 @@ fn run_steps<O: Write, P: Progress>(
 ) -> Result<Played, ScriptFault>
     ensures { RunsSteps script.now (O.contents writer.old) (O.contents writer.new) result }
 {
-    let mut stage = match Stage::watched(alloc, &script.head, progress) {
-        Ok(stage) => stage,
-        Err(_) => return Err(ScriptFault::at_head(ScriptKind::Memory)),
-    };
+    match Stage::watched(alloc, &script.head, progress) {
+        Ok(mut stage) => run_steps_at(alloc, script, &mut stage, writer, progress),
+        Err(_) => Err(ScriptFault::at_head(ScriptKind::Memory)),
+    }
+}
+
+/// Runs them from the stage of its head on.
+fn run_steps_at<O: Write, P: Progress>(
+    alloc: Global,
+    script: &Script,
+    stage: &mut Stage,
+    writer: &mut O,
+    progress: &mut P,
+) -> Result<Played, ScriptFault>
+    requires { stage.old ≡ start_of script.now.head }
+    ensures { RunsSteps script.now (O.contents writer.old) (O.contents writer.new) result }
+{
     let mut unread = String::new(alloc);
     let mut number: u32 = 0;
     for step in script.steps.as_slice() {
         number = number.saturating_add(1);
         progress.step(number, script.steps.as_slice().len());
-        match run_step(alloc, &mut stage, &mut unread, number, step, writer) {
+        match run_step(alloc, stage, &mut unread, number, step, writer) {
             Ok(Played::Whole) => {}
             Ok(Played::Unexpected) => return Ok(Played::Unexpected),
             Err(fault) => {

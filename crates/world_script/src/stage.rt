@@ -12,6 +12,7 @@ ghost use Rattle.script_text.specs.declared.script.Node.TheVariants as nodes;
 ghost use Rattle.world_script.specs.Endings.{Ends};
 ghost use Rattle.world_script.specs.Keys.{correct_from, key_of, keys_of};
 ghost use Rattle.world_script.specs.Letters.{copies, first_meant, letter_of, meant_count};
+ghost use Rattle.byz_world.specs.declared.event.Event.TheVariants as events;
 ghost use Rattle.world_script.specs.Parts.{DeliversNext, Performs, Happened, HasMore, ahead, with_message};
 ghost use Rattle.pbft_codec.specs.declared.body.Body.TheVariants as bodies;
 ghost use Rattle.pbft_codec.specs.declared.body.request.RequestBody.{RequestBody};
@@ -434,16 +435,23 @@ impl Stage {
         if !self.is_running(id) {
             return Ok(String::new(self.alloc));
         }
-        let event = Event::Deliver {
-            to: id,
-            bytes: Bytes::from_vec(Vec::from_slice(self.alloc, bytes)?),
-        };
-        let gave = self.happen(id, &event)?;
+        let gave = self.receive(id, bytes)?;
         if gave || !self.is_running(id) {
             return Ok(String::new(self.alloc));
         }
         let text = self.refusal_text(id, bytes)?;
         Ok(text)
+    }
+
+    /// Lets bytes come to a replica, and queues what it gives. Whether it gave a row.
+    fn receive(&mut self, id: ReplicaId, bytes: &[u8]) -> Result<bool, AllocError>
+        ensures { IfOk result (λ gave. Happened self.old id (events.Deliver id bytes.now) gave self.new) }
+    {
+        let event = Event::Deliver {
+            to: id,
+            bytes: Bytes::from_vec(Vec::from_slice(self.alloc, bytes)?),
+        };
+        self.happen(id, &event)
     }
 
     /// Timeouts at replicas, one after another.

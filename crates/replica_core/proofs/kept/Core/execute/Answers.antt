@@ -2,7 +2,7 @@ use Rattle.std.proofs.Common.{◌≡◌, ◌∙◌, refl, subst}
 use Rattle.std.specs.Option.{option_copied}
 use Rattle.replica_core.specs.Replicas.{KeptReplica}
 use Rattle.replica_core.proofs.Performing.{executes, owes}
-use Rattle.replica_core.proofs.Results.{on_ok}
+use Rattle.replica_stores.proofs.Results.{on_ok}
 use Rattle.replica_core.proofs.kept.Core.execute.Goals as goal
 
 pub report-requires : goal.report-requires

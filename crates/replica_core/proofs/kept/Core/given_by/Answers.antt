@@ -2,7 +2,7 @@ use Rattle.std.proofs.Common.{ap, subst}
 use Rattle.host_types.specs.Configuration.{IsConfiguration}
 use Rattle.replica_core.specs.Replicas.{KeptReplica}
 use Rattle.replica_core.proofs.Opening.{given_are}
-use Rattle.replica_core.proofs.Results.{given}
+use Rattle.replica_stores.proofs.Results.{given}
 use Rattle.replica_core.proofs.kept.Core.given_by.Goals as goal
 
 pub returns-clause-given : goal.returns-clause-given

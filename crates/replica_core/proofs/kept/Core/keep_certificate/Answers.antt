@@ -1,7 +1,7 @@
 use Rattle.std.proofs.Common.{ap, not, sym, ◌∙◌}
 use Rattle.sha2.specs.Sha256.{sha256}
 use Rattle.replica_core.proofs.Leaving.{its, keeps, keeps_nothing, still_one, there_is}
-use Rattle.replica_core.proofs.Results.{given}
+use Rattle.replica_stores.proofs.Results.{given}
 use Rattle.replica_core.proofs.kept.Core.keep_certificate.Goals as goal
 
 pub keep-requires : goal.keep-requires

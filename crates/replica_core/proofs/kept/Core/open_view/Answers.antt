@@ -6,7 +6,7 @@ use Rattle.std.specs.Prelude.{IfErr, List, map, length}
 use Rattle.replica_core.specs.Doing.{IsShortOf}
 use Rattle.replica_core.specs.Opens.{AreGiven, opening_of}
 use Rattle.replica_core.proofs.Opening.{many_are, numbers_small, opening_valid, says_opening, to_open}
-use Rattle.replica_core.proofs.Results.{on_ok}
+use Rattle.replica_stores.proofs.Results.{on_ok}
 use Rattle.replica_core.proofs.kept.Core.open_view.Goals as goal
 
 pub given_by-requires-clause-to_open : goal.given_by-requires-clause-to_open

@@ -1,5 +1,5 @@
 use Rattle.std.proofs.Common.{ap}
-use Rattle.replica_core.specs.Stores.{KeptRequests}
+use Rattle.replica_stores.specs.Stores.{KeptRequests}
 use Rattle.replica_core.proofs.Wholes.{a_request, with_requests}
 use Rattle.replica_core.proofs.kept.Core.record_request.Goals as goal
 

@@ -4,7 +4,7 @@ use Rattle.seal.specs.Lists.{CheckedMessages}
 use Rattle.replica_core.specs.Opens.{opening_of}
 use Rattle.replica_core.specs.Replicas.{KeptReplica}
 use Rattle.replica_core.proofs.Opening.{few_messages, is_new_view, may_sign_opening, opening_is_sealable, opening_sent, opening_signed, still_view}
-use Rattle.replica_core.proofs.Results.{given, if_ok, on_ok}
+use Rattle.replica_stores.proofs.Results.{given, if_ok, on_ok}
 use Rattle.replica_core.proofs.kept.Core.send_opening.Goals as goal
 
 pub send-requires-clause-role : goal.send-requires-clause-role

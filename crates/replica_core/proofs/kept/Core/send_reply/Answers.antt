@@ -7,7 +7,7 @@ use Rattle.replica_core.proofs.kept.Core.send_reply.Goals as goal
 pub send-requires-clause-sealable : goal.send-requires-clause-sealable
 send-requires-clause-sealable c =
     reply_fits c.args.self.now.config c.view.result.0 c.in-Some.reply c.in_ok-body.body c.in_ok-body.ensures.body
-    (owed_number c.self.inside.step.reply_due c.in-Some.reply c.in-Some.is c.self.invariant.owed) (owed_short c.self.inside.step.reply_due c.in-Some.reply c.in-Some.is c.self.invariant.owed)
+    (owed_number c.self.inside.step.owed.reply c.in-Some.reply c.in-Some.is c.self.invariant.owed) (owed_short c.self.inside.step.owed.reply c.in-Some.reply c.in-Some.is c.self.invariant.owed)
 
 pub returns-clause-sent : goal.returns-clause-sent
 returns-clause-sent c =

@@ -4,7 +4,7 @@ use Rattle.host_types.specs.Configuration.{Configuration}
 use Rattle.view_change.specs.Sealable.{IsSealable}
 use Rattle.replica_core.specs.OwnViewChange.{own_view_change}
 use Rattle.replica_core.proofs.Reporting.{its_config, made_of, under_one}
-use Rattle.replica_core.proofs.Results.{given, passed}
+use Rattle.replica_stores.proofs.Results.{given, passed}
 use Rattle.replica_core.proofs.kept.Core.view_change_body.Goals as goal
 
 pub returns-clause-made : goal.returns-clause-made
