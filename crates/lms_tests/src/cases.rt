@@ -1,7 +1,9 @@
 //! Cases of a key, a message and a signature, which are read from rows and damaged.
 
-use crate::valid::VALID;
+use crate::one_tree::ONE_TREE;
+use crate::two_levels::TWO_LEVELS;
 use hex::{FromHex, decode};
+use host_types::PublicKey;
 use std::alloc::Global;
 use std::test::Fail;
 
@@ -15,25 +17,43 @@ pub(crate) fn halves(line: &str) -> (&str, &str) {
     line.split_once(" ").unwrap_or((line, ""))
 }
 
-/// A key of two levels, a message and a signature.
+/// The key of hex text: of one tree, which takes 56 bytes, or else of two levels.
+pub(crate) fn key_of(text: &str) -> Result<PublicKey, Fail> {
+    if text.len() == 112 {
+        Ok(PublicKey::Lms(array(text)?))
+    } else {
+        Ok(PublicKey::Hss(array(text)?))
+    }
+}
+
+/// A key, a message and a signature.
 #[derive(Drop)]
 pub(crate) struct Case {
-    pub(crate) key: [u8; 60],
+    pub(crate) key: PublicKey,
     pub(crate) message: Vec<u8>,
     pub(crate) signature: Vec<u8>,
 }
 
+/// What stands behind a name in the table's line of that name, if there is one.
+fn row_of(table: &'static str, name: &str) -> Option<&'static str> {
+    let line = table.lines().find(|line| halves(line).0 == name)?;
+    Some(halves(line).1)
+}
+
 /// The valid case of this name.
 pub(crate) fn valid_case(alloc: Global, name: &str) -> Result<Case, Fail> {
-    let found = VALID.lines().find(|line| halves(line).0 == name);
-    read_case(alloc, halves(found.ok_or("no such case")?).1)
+    let row = match row_of(ONE_TREE, name) {
+        Some(row) => row,
+        None => row_of(TWO_LEVELS, name).ok_or("no such case")?,
+    };
+    read_case(alloc, row)
 }
 
 /// The case of a key, a message, `-` for an empty one, and a signature, in hex.
 fn read_case(alloc: Global, row: &str) -> Result<Case, Fail> {
     let (key, rest) = halves(row);
     let (message, signature) = halves(rest);
-    let key = array(key)?;
+    let key = key_of(key)?;
     let message = if message == "-" { "" } else { message };
     let message = decode(alloc, message)?;
     let signature = decode(alloc, signature)?;
@@ -63,7 +83,10 @@ impl Case {
             "" => {}
             "length" => self.signature.resize(rest.parse::<usize>()?, 0)?,
             "message" => self.message = decode(alloc, rest)?,
-            "key" => put(&mut self.key, rest)?,
+            "key" => match &mut self.key {
+                PublicKey::Lms(key) => put(key, rest)?,
+                PublicKey::Hss(key) => put(key, rest)?,
+            },
             "signature" => put(&mut self.signature, rest)?,
             _ => return Err(Fail::new("no such change")),
         }

@@ -1,13 +1,28 @@
-//! What is wrong with signatures under keys of two levels.
+//! What is wrong with signatures under keys of one tree and of two levels.
 
 use crate::cases::{Case, halves, valid_case};
-use host_types::PublicKey;
 use lms_tree::{SigFault, Verifier, verify};
 use std::alloc::Global;
 use std::test::Fail;
 
 /// Valid cases, and those that a change damages, with the fault.
 const CHANGES: &str = "\
+first => -\n\
+ten => -\n\
+zero => -\n\
+five => -\n\
+rfc => -\n\
+five length 2349 => Length\n\
+five length 8 => Length\n\
+five key 3 06 => Length\n\
+five key 7 04 => WrongType\n\
+ten key 3 00 => WrongType\n\
+ten signature 2187 00 => WrongType\n\
+five signature 0 00000020 => Leaf\n\
+five signature 0 ffffffff => Leaf\n\
+ten signature 0 00000001 => Mismatch\n\
+five message 61 => Mismatch\n\
+ten signature 2188 01 => Mismatch\n\
 5/5 => -\n\
 5/10 => -\n\
 10/5 => -\n\
@@ -96,7 +111,7 @@ fn verdict(alloc: Global, line: &str) -> Result<String, Fail> {
     for change in changes.split(", ") {
         case.change(alloc, change)?;
     }
-    match verify(&PublicKey::Hss(case.key), &case.message, &case.signature) {
+    match verify(&case.key, &case.message, &case.signature) {
         Ok(()) => Ok(String::from_str(alloc, "-")?),
         Err(fault) => Ok(fault.to_string(alloc)?),
     }
@@ -120,10 +135,9 @@ fn the_first_of_two_faults(rt: HostRuntime) -> Result<(), Fail> {
     Ok(())
 }
 
-/// The verdict on a message in pieces of 7 bytes, and these more bytes behind it.
+/// The verdict on a case's message in pieces of 7 bytes, and these more bytes behind it.
 fn in_pieces(case: &Case, more: &[u8]) -> Result<(), SigFault> {
-    let key = PublicKey::Hss(case.key);
-    let mut verifier = Verifier::new(&key, &case.signature)?;
+    let mut verifier = Verifier::new(&case.key, &case.signature)?;
     for piece in case.message.chunks(7) {
         verifier.update(piece);
     }
@@ -131,10 +145,16 @@ fn in_pieces(case: &Case, more: &[u8]) -> Result<(), SigFault> {
     verifier.finish()
 }
 
+/// Whether the case of this name is valid in pieces, and refused with a byte more.
+fn is_valid_in_pieces(alloc: Global, name: &str) -> Result<bool, Fail> {
+    let case = valid_case(alloc, name)?;
+    let refused = in_pieces(&case, &[0]).err() == Some(SigFault::Mismatch);
+    Ok(in_pieces(&case, &[]).is_ok() && refused)
+}
+
 #[test]
 fn a_message_in_pieces(rt: HostRuntime) -> Result<(), Fail> {
-    let case = valid_case(rt.alloc(), "10/5")?;
-    assert!(rt; in_pieces(&case, &[]).is_ok());
-    assert!(rt; in_pieces(&case, &[0]).err() == Some(SigFault::Mismatch));
+    assert!(rt; is_valid_in_pieces(rt.alloc(), "rfc")?);
+    assert!(rt; is_valid_in_pieces(rt.alloc(), "10/5")?);
     Ok(())
 }

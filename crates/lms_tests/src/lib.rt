@@ -7,6 +7,8 @@ mod cases;
 #[cfg(test)]
 mod faults;
 #[cfg(test)]
+mod one_tree;
+#[cfg(test)]
 mod signers;
 #[cfg(test)]
-mod valid;
+mod two_levels;

@@ -1,12 +1,13 @@
 //! Keys and signatures that signers make, beside those of another implementation.
 
-use crate::cases::{Case, array, halves, valid_case};
+use crate::cases::{Case, array, halves, key_of, valid_case};
 use host_types::PublicKey;
-use lms_tree::{Height, KeySource, SignFault, Signer};
+use lms_ots::digits;
+use lms_tree::{Height, KeySource, SignFault, Signer, verify};
 use std::alloc::{AllocError, Global};
 use std::test::Fail;
 
-/// The heights of the top tree and of the bottom trees, an identifier, a seed and the key of two levels over them.
+/// The heights of the top tree and of the bottom trees, `-` for none, an identifier, a seed and the key over them.
 const KEYS: &str = "\
 5 5 \
 000102030405060708090a0b0c0d0e0f \
@@ -24,50 +25,153 @@ const KEYS: &str = "\
 000102030405060708090a0b0c0d0e0f \
 2222222222222222222222222222222222222222222222222222222222222222 \
 000000020000000600000003000102030405060708090a0b0c0d0e0f51284c545277537a0cc7352b07269b5925b8ee4bfd605703b08655e0820ae6ad\n\
+5 - \
+00000000000000000000000000000000 \
+0000000000000000000000000000000000000000000000000000000000000000 \
+0000000500000003000000000000000000000000000000007e14ed0d8b44b61918a5647b0567a49e969e0454cb0f14df2a62b1ca787edcb0\n\
+5 - \
+000102030405060708090a0b0c0d0e0f \
+1111111111111111111111111111111111111111111111111111111111111111 \
+0000000500000003000102030405060708090a0b0c0d0e0f2cdd4a5bf162e109fc106952210cafed891e470667f100962c910a33cac7afc4\n\
+5 - \
+31c635aa95ecf2d28e39f18b79fdd758 \
+45b171b720630b2e1424a6ae17e1359039813d92c98f4c4b6b7564c0cbf708ed \
+000000050000000331c635aa95ecf2d28e39f18b79fdd758c4bad6fbbcf0a0d4fb83d6a9d67369c87e67453be8a541ec1083e7904542d27d\n\
+5 - \
+354b4087b88b37f5c0529baab950a363 \
+b2dfbb0deece7479444346ce9820fc2cfb82ae8dab8786bfabf5ef578e55c25c \
+0000000500000003354b4087b88b37f5c0529baab950a363d2e9139f3225a86c546e9f3633b5747863111ef040d7e11e5a12162bb8fdf731\n\
+5 - \
+48c10cad86b416fae1bc02d0d460f3db \
+756780b9fb119fdce5d2c188f11fc4c9aac2265d9e9c8f189338e0ac1c1c1b95 \
+000000050000000348c10cad86b416fae1bc02d0d460f3db22c3f1e44f9892944924507669b7578abe9f6c1791bd3455f0b93c0b742274f4\n\
+5 - \
+6e41d77279bf5bd8c687069e87769e95 \
+46243ec8dcc1eca2c44931eeca88321849c1991785f9b8cf5371f951ddd28d1b \
+00000005000000036e41d77279bf5bd8c687069e87769e95d22a4217f63ff9086a0857c8b5eebba952f7177308e4724acd709f45733c71be\n\
+5 - \
+0a037b8aaf7425703a1b94a0435bb812 \
+81e4a5f580421aff7199167a36f4577dd6a121801ebe93d95e348792063a0bd1 \
+00000005000000030a037b8aaf7425703a1b94a0435bb812e4d27c28549f6640f49f6b16722936fbe916e8b9cdc49764d8ccaa1850a5ba4b\n\
+5 - \
+356066ac17ab6adb73dbbdef973a032e \
+85a51bcdfd5fac55fc7439dc685a9a903e5386f9bb1878095a8bd879636370cb \
+0000000500000003356066ac17ab6adb73dbbdef973a032ec61ab59b5a4a0100febaaccc0d8f495cc00af6f6766251b557c3b3cdc6d5978b\n\
 ";
 
-/// A height by its number.
-fn height(text: &str) -> Result<Height, Fail> {
-    match text.as_bytes() {
-        b"5" => Ok(Height::H5),
-        b"10" => Ok(Height::H10),
-        _ => Err(Fail::new("no such height")),
+/// A height by its number; `-` is none.
+fn height(text: &str) -> Result<Option<Height>, Fail> {
+    if text == "-" {
+        Ok(None)
+    } else if text == "5" {
+        Ok(Some(Height::H5))
+    } else if text == "10" {
+        Ok(Some(Height::H10))
+    } else {
+        Err(Fail::new("no such height"))
     }
 }
 
-/// A signer of two levels. The seeds are parameters, so that a proof computes nothing of them.
+/// A signer of one tree, or with bottom trees. The seeds are parameters, so that a proof computes nothing of them; a box
+/// is dropped in one step of a proof.
 fn signer(
     alloc: Global,
     top: Height,
-    bottom: Height,
+    bottom: Option<Height>,
     identifier: [u8; 16],
     seed: [u8; 32],
-) -> Result<Signer, AllocError> {
-    Signer::from_seed2(alloc, top, bottom, identifier, seed)
+) -> Result<Box<Signer>, AllocError> {
+    let signer = match bottom {
+        None => Signer::from_seed(alloc, top, identifier, seed)?,
+        Some(bottom) => Signer::from_seed2(alloc, top, bottom, identifier, seed)?,
+    };
+    Ok(Box::new(alloc, signer)?)
 }
 
 /// The signer of a line of `KEYS`, and the public key that it should have.
-fn signer_of(alloc: Global, line: &str) -> Result<(Signer, [u8; 60]), Fail> {
+fn signer_of(alloc: Global, line: &str) -> Result<(Box<Signer>, PublicKey), Fail> {
     let (top, rest) = halves(line);
     let (bottom, rest) = halves(rest);
     let (identifier, rest) = halves(rest);
     let (seed, key) = halves(rest);
+    let key = key_of(key)?;
+    let top = height(top)?.ok_or("no height")?;
     let signer = signer(
         alloc,
-        height(top)?,
+        top,
         height(bottom)?,
         array(identifier)?,
         array(seed)?,
     )?;
-    Ok((signer, array(key)?))
+    Ok((signer, key))
+}
+
+/// Whether the signer of a line of `KEYS` has the key there.
+fn has_its_key(alloc: Global, line: &str) -> Result<bool, Fail> {
+    let (signer, key) = signer_of(alloc, line)?;
+    Ok(signer.public_key() == key)
 }
 
 #[test]
 fn public_keys_of_another_implementation(rt: HostRuntime) -> Result<(), Fail> {
     for line in KEYS.lines() {
-        let (signer, key) = signer_of(rt.alloc(), line)?;
-        assert!(rt; signer.public_key() == PublicKey::Hss(key), "{line}");
+        assert!(rt; has_its_key(rt.alloc(), line)?, "{line}");
     }
+    Ok(())
+}
+
+#[test]
+fn digits_of_zeros_and_of_ones(rt: HostRuntime) {
+    let mut want = [0u8; 67];
+    want[64] = 3;
+    want[65] = 12;
+    assert!(rt; digits(&[0; 32]).as_slice() == want.as_slice());
+    let mut want = [15u8; 67];
+    want[64] = 0;
+    want[65] = 0;
+    want[66] = 0;
+    assert!(rt; digits(&[0xff; 32]).as_slice() == want.as_slice());
+}
+
+/// Whether the signer is at this leaf of its one tree, and signs with it.
+fn signs(signer: &mut Signer, key: &PublicKey, leaf: u32) -> Result<bool, SignFault> {
+    let is_there = signer.next_leaf() == leaf && signer.leaves_left() == 32u32.saturating_sub(leaf);
+    let body = leaf.to_be_bytes();
+    let sig = signer.sign(&body)?;
+    Ok(is_there && verify(key, &body, &sig) == Ok(()))
+}
+
+/// Whether each of its 32 leaves signs once.
+fn signs_32_times(signer: &mut Signer) -> Result<bool, SignFault> {
+    let key = signer.public_key();
+    let mut right = true;
+    for leaf in 0..32u32 {
+        right = signs(signer, &key, leaf)? && right;
+    }
+    let refused = signer.sign(b"once more").err() == Some(SignFault::Exhausted);
+    Ok(right && refused && signer.next_leaf() == 32)
+}
+
+#[test]
+fn a_tree_of_height_5_signs_32_times(rt: HostRuntime) -> Result<(), Fail> {
+    let mut signer = signer(rt.alloc(), Height::H5, None, [7; 16], [9; 32])?;
+    assert!(rt; signs_32_times(&mut signer)?);
+    Ok(())
+}
+
+/// Whether a case's key is this signer's, and its signature the second that the signer makes of its message.
+fn is_second_of(case: &Case, signer: &mut Signer) -> Result<bool, SignFault> {
+    signer.sign(&case.message)?;
+    let second = signer.sign(&case.message)?;
+    Ok(signer.public_key() == case.key && second.as_slice() == case.signature.as_slice())
+}
+
+#[test]
+fn signatures_of_another_implementation(rt: HostRuntime) -> Result<(), Fail> {
+    let case = valid_case(rt.alloc(), "first")?;
+    let line = KEYS.lines().nth(6).ok_or("no third key of one tree")?;
+    let (mut signer, _) = signer_of(rt.alloc(), line)?;
+    assert!(rt; is_second_of(&case, &mut signer)?);
     Ok(())
 }
 
@@ -156,24 +260,10 @@ fn signs_as(signer: &mut Signer, case: &Case) -> Result<bool, Fail> {
 fn heights_5_and_10_across_a_change_of_trees(rt: HostRuntime) -> Result<(), Fail> {
     let case = valid_case(rt.alloc(), "5/10:1024")?;
     let (mut signer, key) = signer_of(rt.alloc(), ACROSS)?;
-    assert!(rt; signer.public_key() == PublicKey::Hss(key) && key == case.key);
+    assert!(rt; signer.public_key() == key && key == case.key);
     use_leaves(&mut signer, 1024)?;
     assert!(rt; signs_as(&mut signer, &case)? && signer.next_leaf() == 1025);
     Ok(())
-}
-
-/// A signer of one level, or with bottom trees of this height. The seed is a parameter, so that a proof computes nothing
-/// of it.
-fn signer_over(
-    alloc: Global,
-    bottom: Option<Height>,
-    identifier: [u8; 16],
-    seed: [u8; 32],
-) -> Result<Signer, AllocError> {
-    match bottom {
-        None => Signer::from_seed(alloc, Height::H5, identifier, seed),
-        Some(bottom) => Signer::from_seed2(alloc, Height::H5, bottom, identifier, seed),
-    }
 }
 
 /// A source and a signer of one seed.
@@ -182,9 +272,10 @@ fn source_and_signer(
     bottom: Option<Height>,
     identifier: [u8; 16],
     seed: [u8; 32],
-) -> Result<(KeySource, Signer), AllocError> {
-    let signer = signer_over(alloc, bottom, identifier, seed)?;
+) -> Result<(Box<KeySource>, Box<Signer>), AllocError> {
     let source = KeySource::from_seed(alloc, Height::H5, bottom, identifier, seed)?;
+    let source = Box::new(alloc, source)?;
+    let signer = signer(alloc, Height::H5, bottom, identifier, seed)?;
     Ok((source, signer))
 }
 
@@ -193,7 +284,7 @@ fn source_and_signer_of(
     alloc: Global,
     line: &str,
     bottom: Option<Height>,
-) -> Result<(KeySource, Signer), Fail> {
+) -> Result<(Box<KeySource>, Box<Signer>), Fail> {
     let (_, rest) = halves(line);
     let (_, rest) = halves(rest);
     let (identifier, rest) = halves(rest);
@@ -218,7 +309,7 @@ fn begins_alike(
     other: &mut Signer,
     many: u32,
 ) -> Result<bool, Fail> {
-    let mut signer = source.signer(alloc)?;
+    let mut signer = Box::new(alloc, source.signer(alloc)?)?;
     Ok(
         other.next_leaf() == 0
             && signer.public_key() == other.public_key()
@@ -242,7 +333,7 @@ fn begin_alike(
 fn sources_sign_alike(alloc: Global, bottom: Option<Height>, many: u32) -> Result<bool, Fail> {
     let line = KEYS.lines().nth(1).ok_or("no second key")?;
     let (source, mut signer) = source_and_signer_of(alloc, line, bottom)?;
-    let mut early = source.signer(alloc)?;
+    let mut early = Box::new(alloc, source.signer(alloc)?)?;
     begin_alike(alloc, &source, &mut signer, &mut early, many)
 }
 

@@ -1,7 +1,7 @@
 //! Bytes that encode a state under a configuration, and bytes near them that encode none.
 
 use crate::answers::{FIRST_FULL_STATE, FULL_STATE};
-use crate::service::{bytes_of, config, halves};
+use crate::asked::{bytes_of, config, halves};
 use host_types::Config;
 use service_core::{State, StateFault};
 use std::alloc::{AllocError, Global};

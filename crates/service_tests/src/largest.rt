@@ -1,7 +1,7 @@
 //! A largest state, written out by its layout, and bytes near it that encode none.
 
+use crate::asked::config;
 use crate::changes::wants;
-use crate::service::config;
 use std::alloc::{AllocError, Global};
 use std::test::Fail;
 

@@ -1,88 +1,14 @@
 //! A service that is asked line by line: what clients get, and states as bytes.
 
-use crate::answers::{FIRST_FULL_STATE, FULL_STATE};
-use hex::{decode, encode};
-use host_types::{Bytes, ClientEntry, ClientId, Config, PublicKey, Request, TenantId};
+use crate::answers::FULL_STATE;
+use crate::asked::{bytes_of, config, halves, request_of};
+use hex::encode;
+use host_types::{ClientId, Config, Request};
 use service_core::{Outcome, State};
 use sha2::{Digest, Sha256};
 use std::alloc::Global;
 use std::sync::Arc;
 use std::test::Fail;
-
-/// The part of a line that stands before a blank, and what stands behind it.
-pub(crate) fn halves(line: &str) -> (&str, &str) {
-    line.split_once(" ").unwrap_or((line, ""))
-}
-
-/// What a word stands for: `-` for no digits, `full` for those of `FULL_STATE`, and `first` for those of it in
-/// version 1.
-fn digits_of(text: &str) -> &str {
-    match text.as_bytes() {
-        b"full" => FULL_STATE,
-        b"first" => FIRST_FULL_STATE,
-        b"-" => "",
-        _ => text,
-    }
-}
-
-/// Bytes in hex; `HEX*N` has them N times, `-` stands for none, and `full` and `first` for those of `FULL_STATE`.
-pub(crate) fn bytes_of(alloc: Global, text: &str) -> Result<Vec<u8>, Fail> {
-    let text = digits_of(text);
-    match text.split_once("*") {
-        Some((piece, times)) => {
-            let piece = piece.repeat(alloc, times.parse::<usize>()?)?;
-            Ok(decode(alloc, piece.as_str())?)
-        }
-        None => Ok(decode(alloc, text)?),
-    }
-}
-
-/// A configuration of four replicas, with a client for each `ID:TENANT`.
-pub(crate) fn config(alloc: Global, pairs: &str) -> Result<Arc<Config>, Fail> {
-    let mut keys = Vec::new(alloc);
-    for index in 0..4u8 {
-        keys.push(PublicKey::Lms([index; 56]))?;
-    }
-    let clients = clients(alloc, pairs)?;
-    Ok(Arc::new(alloc, Config::new(1, 8, keys, clients)?)?)
-}
-
-/// A client for each `ID:TENANT`.
-fn clients(alloc: Global, pairs: &str) -> Result<Vec<ClientEntry>, Fail> {
-    let mut clients = Vec::new(alloc);
-    for pair in pairs.split(' ') {
-        let (id, tenant) = pair.split_once(":").ok_or("no tenant")?;
-        clients.push(ClientEntry {
-            id: ClientId(id.parse()?),
-            tenant: TenantId(tenant.parse()?),
-            key: PublicKey::Lms([7; 56]),
-        })?;
-    }
-    Ok(clients)
-}
-
-/// The operation of `install CODE`, `install2 CODE`, `call PROCEDURE ARGUMENTS` or `raw BYTES`.
-fn operation(alloc: Global, text: &str) -> Result<Bytes, Fail> {
-    let (verb, rest) = halves(text);
-    match verb.as_bytes() {
-        b"install" => joined(alloc, &[1], rest),
-        b"install2" => joined(alloc, &[4], rest),
-        b"call" => {
-            let (procedure, arguments) = halves(rest);
-            let [a, b, c, d] = procedure.parse::<u32>()?.to_be_bytes();
-            joined(alloc, &[2, a, b, c, d], arguments)
-        }
-        b"raw" => joined(alloc, &[], rest),
-        _ => Err(Fail::new("no such operation")),
-    }
-}
-
-/// These bytes, and those of a text behind them.
-fn joined(alloc: Global, front: &[u8], text: &str) -> Result<Bytes, Fail> {
-    let mut bytes = front.to_vec(alloc)?;
-    bytes.extend_from_slice(&bytes_of(alloc, text)?)?;
-    Ok(Bytes::from_vec(bytes))
-}
 
 /// A service under a configuration.
 #[derive(Drop)]
@@ -118,12 +44,7 @@ impl Service {
 
     /// What a client gets for an operation at a time: a number and a result, whether it was kept; or `-`.
     fn asked(&mut self, client: &str, rest: &str) -> Result<String, Fail> {
-        let (time, op) = halves(rest);
-        let request = Request {
-            client: ClientId(client.parse()?),
-            time: time.parse()?,
-            op: operation(self.alloc, op)?,
-        };
+        let request = request_of(self.alloc, client, rest)?;
         let Outcome { reply, kept, .. } = self.apply(Some(&request))?;
         let Some(reply) = reply else {
             return Ok(String::from_str(self.alloc, "-")?);
@@ -184,9 +105,10 @@ impl Service {
     /// What is known of a client: `last` its last reply's number, `time` its last time.
     fn known(&self, what: &str, client: &str) -> Result<String, Fail> {
         let client = ClientId(client.parse()?);
-        let known = match what.as_bytes() {
-            b"last" => self.state.last_reply(client).map(|reply| reply.number.0),
-            _ => self.state.last_time(client),
+        let known = if what == "last" {
+            self.state.last_reply(client).map(|reply| reply.number.0)
+        } else {
+            self.state.last_time(client)
         };
         match known {
             Some(known) => Ok(format!(in self.alloc; "{known}")?),
@@ -197,41 +119,54 @@ impl Service {
     /// The answer to a line.
     fn answer(&mut self, asked: &str) -> Result<String, Fail> {
         let (verb, rest) = halves(asked);
-        match verb.as_bytes() {
-            b"number" => {
-                let number = self.state.number().0;
-                Ok(format!(in self.alloc; "{number}")?)
-            }
-            b"bytes" => self.bytes(),
-            b"length" => {
-                let length = self.state.to_bytes()?.len();
-                Ok(format!(in self.alloc; "{length}")?)
-            }
-            b"last" | b"time" => self.known(verb, rest),
-            _ => self.asked(verb, rest),
+        if verb == "number" {
+            let number = self.state.number().0;
+            Ok(format!(in self.alloc; "{number}")?)
+        } else if verb == "bytes" {
+            self.bytes()
+        } else if verb == "length" {
+            let length = self.state.to_bytes()?.len();
+            Ok(format!(in self.alloc; "{length}")?)
+        } else if verb == "last" || verb == "time" {
+            self.known(verb, rest)
+        } else {
+            self.asked(verb, rest)
         }
+    }
+
+    /// Takes the state of these bytes.
+    fn read(&mut self, text: &str) -> Result<(), Fail> {
+        let bytes = bytes_of(self.alloc, text)?;
+        self.state = State::from_bytes(self.alloc, self.config.clone()?, &bytes)?;
+        Ok(())
+    }
+
+    /// Takes the null request, which has no reply.
+    fn take_null(&mut self) -> Result<(), Fail> {
+        let outcome = self.apply(None)?;
+        if outcome.reply.is_some() || outcome.kept {
+            return Err(Fail::new("a reply to the null request"));
+        }
+        Ok(())
     }
 
     /// Does what a line says that has no answer.
     fn act(&mut self, line: &str) -> Result<(), Fail> {
         let (verb, rest) = halves(line);
-        match verb.as_bytes() {
-            b"clients" => *self = Service::new(self.alloc, rest)?,
-            b"read" => {
-                let bytes = bytes_of(self.alloc, rest)?;
-                self.state = State::from_bytes(self.alloc, self.config.clone()?, &bytes)?;
-            }
-            b"null" => {
-                let outcome = self.apply(None)?;
-                if outcome.reply.is_some() || outcome.kept {
-                    return Err(Fail::new("a reply to the null request"));
-                }
-            }
-            b"fill" => self.fill(rest)?,
-            b"times" => self.times(rest)?,
-            _ => return Err(Fail::new("no such line")),
+        if verb == "clients" {
+            *self = Service::new(self.alloc, rest)?;
+            Ok(())
+        } else if verb == "read" {
+            self.read(rest)
+        } else if verb == "null" {
+            self.take_null()
+        } else if verb == "fill" {
+            self.fill(rest)
+        } else if verb == "times" {
+            self.times(rest)
+        } else {
+            Err(Fail::new("no such line"))
         }
-        Ok(())
     }
 
     /// Does what a line says, and returns whether its answer is the one that it wants, if it wants one.
@@ -249,7 +184,7 @@ impl Service {
     /// Takes a client's request, or the null request, whatever its answer.
     pub(crate) fn take(&mut self, line: &str) -> Result<(), Fail> {
         if line == "null" {
-            return self.act(line);
+            return self.take_null();
         }
         let (client, rest) = halves(line);
         self.asked(client, rest)?;

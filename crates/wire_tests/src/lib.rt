@@ -1,5 +1,5 @@
-//! Tests of configurations, keys, signatures, messages, what is signed, and a client's session, over the public
-//! calls of their crates. They stand apart, so that those crates are proved once and not again beside their tests.
+//! Tests of configurations, keys, messages, what is signed, and a client's session, over the public calls of their
+//! crates. They stand apart, so that those crates are proved once and not again beside their tests.
 #![tactic(auto)]
 
 #[cfg(test)]
@@ -12,7 +12,5 @@ mod replies;
 mod sealing;
 #[cfg(test)]
 mod sessions;
-#[cfg(test)]
-mod signatures;
 #[cfg(test)]
 mod types;

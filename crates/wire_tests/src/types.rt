@@ -1,7 +1,11 @@
 //! Configurations and their first fault, sets of replicas, lists of bytes.
 
+ghost use Rattle.std.specs.Prelude.{◌≡◌};
+ghost use Rattle.host_types.specs.Configuration.{Configuration, fault_of};
+
 use host_types::{
-    Bytes, ClientEntry, ClientId, Config, PublicKey, ReplicaId, ReplicaSet, TenantId, View,
+    Bytes, ClientEntry, ClientId, Config, ConfigFault, PublicKey, ReplicaId, ReplicaSet, TenantId,
+    View,
 };
 use std::alloc::{AllocError, Global};
 use std::sync::Arc;
@@ -61,13 +65,20 @@ fn halves(line: &str) -> (&str, &str) {
     line.split_once(" ").unwrap_or((line, ""))
 }
 
-/// The name of the fault of a configuration, or `-`.
-fn fault_of(alloc: Global, text: &str) -> Result<String, Fail> {
+/// The first fault of a configuration with these parts, if it has one.
+fn first_fault(f: u8, k: u8, keys: Vec<PublicKey>, clients: Vec<ClientEntry>) -> Option<ConfigFault>
+    ensures { let given : Configuration = record { f = f; k = k; keys = keys.items; clients = clients.items } in result ≡ fault_of given }
+{
+    Config::new(f, k, keys, clients).err()
+}
+
+/// The name of the first fault of a configuration, or `-`.
+fn name_of_fault(alloc: Global, text: &str) -> Result<String, Fail> {
     let (f, rest) = halves(text);
     let (k, rest) = halves(rest);
     let (count, pairs) = halves(rest);
     let keys = keys(alloc, count.parse()?)?;
-    match Config::new(f.parse()?, k.parse()?, keys, clients(alloc, pairs)?).err() {
+    match first_fault(f.parse()?, k.parse()?, keys, clients(alloc, pairs)?) {
         Some(fault) => Ok(fault.to_string(alloc)?),
         None => Ok(String::from_str(alloc, "-")?),
     }
@@ -77,7 +88,10 @@ fn fault_of(alloc: Global, text: &str) -> Result<String, Fail> {
 fn the_first_fault_is_reported(rt: HostRuntime) -> Result<(), Fail> {
     for line in CONFIGURATIONS.lines() {
         let (text, wanted) = line.split_once(" => ").ok_or("no fault")?;
-        assert!(rt; fault_of(rt.alloc(), text)?.as_str() == wanted, "{line}");
+        assert!(rt;
+            name_of_fault(rt.alloc(), text)?.as_str() == wanted,
+            "{line}"
+        );
     }
     Ok(())
 }

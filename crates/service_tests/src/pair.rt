@@ -1,9 +1,10 @@
-//! Two states under one configuration: one takes requests one after another, the other in lanes.
+//! Two states under one configuration: one takes requests one after another, as a service, the other in lanes.
 
 ghost use Rattle.std.specs.Prelude.{◌≡◌, ◌<◌, true, All, IfSome, IsSome};
 ghost use Rattle.host_types.specs.Configuration.{entry_of};
 
-use crate::asked::{config, requests};
+use crate::asked::requests;
+use crate::service::Service;
 use host_types::{Gate, Reply, Request};
 use service_core::{Outcome, State};
 use std::alloc::Global;
@@ -55,38 +56,28 @@ fn are_same(outcomes: &[Outcome], others: &[Outcome]) -> bool {
             .all(|(one, other)| is_same(one, other))
 }
 
-/// The state after the requests, one after another, with their outcomes.
-fn one_by_one(
-    alloc: Global,
-    mut state: State,
-    requests: &[Option<Request>],
-) -> Result<(State, Vec<Outcome>), Fail> {
-    let mut outcomes = Vec::new(alloc);
+/// What the requests come to, one after another.
+fn one_by_one(service: &mut Service, requests: &[Option<Request>]) -> Result<Vec<Outcome>, Fail> {
+    let mut outcomes = Vec::new(service.alloc);
     for request in requests {
-        if state.number().0 > 1_000_000 || !is_listed(&state, request) {
-            return Err(Fail::new("can't be applied"));
-        }
-        outcomes.push(state.apply(request.as_ref())?)?;
+        outcomes.push(service.apply(request.as_ref())?)?;
     }
-    Ok((state, outcomes))
+    Ok(outcomes)
 }
 
-/// Two states that have taken the same requests.
+/// A service and a state that have taken the same requests.
 #[derive(Drop)]
 pub(crate) struct Pair {
-    alloc: Global,
-    sequential: State,
+    sequential: Service,
     parallel: State,
 }
 
 impl Pair {
     /// Two first states.
     pub(crate) fn new(alloc: Global, pairs: &str) -> Result<Pair, Fail> {
-        let config = config(alloc, pairs)?;
-        let sequential = State::genesis(alloc, config.clone()?)?;
-        let parallel = State::genesis(alloc, config)?;
+        let sequential = Service::new(alloc, pairs)?;
+        let parallel = State::genesis(alloc, sequential.config.clone()?)?;
         Ok(Pair {
-            alloc,
             sequential,
             parallel,
         })
@@ -102,30 +93,24 @@ impl Pair {
     ) -> Result<(Pair, Vec<Outcome>), Fail>
         requires { 0 < workers }
     {
-        let requests = requests(self.alloc, text)?;
-        let (sequential, wanted) = one_by_one(self.alloc, self.sequential, &requests)?;
+        let alloc = self.sequential.alloc;
+        let requests = requests(alloc, text)?;
+        let mut sequential = self.sequential;
+        let wanted = one_by_one(&mut sequential, &requests)?;
         if self.parallel.number().0 > 1_000_000
             || requests.len() > 1_000_000
             || !are_listed(&self.parallel, &requests)
         {
             return Err(Fail::new("can't be applied"));
         }
-        let (parallel, outcomes) = apply_all(
-            rt,
-            self.alloc,
-            self.parallel,
-            &requests,
-            workers,
-            gate,
-        )?;
+        let (parallel, outcomes) = apply_all(rt, alloc, self.parallel, &requests, workers, gate)?;
         if !are_same(&outcomes, &wanted) {
             return Err(Fail::new("other outcomes"));
         }
-        if parallel.to_bytes()?.as_slice() != sequential.to_bytes()?.as_slice() {
+        if parallel.to_bytes()?.as_slice() != sequential.state.to_bytes()?.as_slice() {
             return Err(Fail::new("another state"));
         }
         let pair = Pair {
-            alloc: self.alloc,
             sequential,
             parallel,
         };

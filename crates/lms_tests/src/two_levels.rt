@@ -1,8 +1,8 @@
-//! Keys and signatures of another implementation.
+//! Signatures under keys of two levels.
 
-/// Valid signatures under keys of two levels: a name, which begins with the heights of the top tree and of the
+/// Valid signatures of another implementation: a name, which begins with the heights of the top tree and of the
 /// bottom trees, a key, a message and a signature in hex; `-` is no message.
-pub(super) const VALID: &str = "\
+pub(crate) const TWO_LEVELS: &str = "\
 5/5 \
 0000000200000005000000036bc6532a25c954af70b5a6fd30598b1681ab6cfe2855537a32b5700010a4daebc1c1bfea83785b27f1a81db0527fe86f \
 137e42241de251b3dada071b51fd00a3326f7be6ff80dad19607acde7905 \

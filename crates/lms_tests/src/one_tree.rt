@@ -1,6 +1,8 @@
+//! Signatures under keys of one tree.
+
 /// Valid signatures of another implementation and of RFC 8554, appendix F: a name, a key, a message and a
 /// signature in hex; `-` is no message.
-pub(super) const VALID: &str = "\
+pub(crate) const ONE_TREE: &str = "\
 first \
 000000050000000331c635aa95ecf2d28e39f18b79fdd758c4bad6fbbcf0a0d4fb83d6a9d67369c87e67453be8a541ec1083e7904542d27d \
 61 \

@@ -1,7 +1,9 @@
-//! Worked lists, and lanes that begin.
+//! Lists of requests in lanes: worked ones, those of a generator, and which lanes begin.
 
 use crate::gates::Watch;
+use crate::numbers::Numbers;
 use crate::pair::Pair;
+use std::alloc::{AllocError, Global};
 use std::test::Fail;
 
 /// Two tenants: an installation by each, a null request between them, and a call.
@@ -86,5 +88,45 @@ fn lanes_with_requests_begin_once(rt: HostRuntime) -> Result<(), Fail> {
         let (_, none) = pair.take(&rt, "", workers.max(1), &quiet)?;
         assert!(rt; quiet.steps(0) == 0 && none.is_empty());
     }
+    Ok(())
+}
+
+/// Clients of eight tenants, and each with its tenant.
+const MANY_CLIENTS: [u32; 12] = [300, 100, 200, 150, 400, 16, 500, 600, 700, 101, 301, 701];
+
+const MANY_PAIRS: &str =
+    "300:2 100:1 200:11 150:12 400:7 16:3 500:5 600:6 700:11 101:1 301:2 701:12";
+
+/// A list of up to twenty requests.
+fn list_of(numbers: &mut Numbers, alloc: Global, number: u64) -> Result<String, AllocError> {
+    let mut text = String::new(alloc);
+    for _ in 0..numbers.below(20) {
+        let line = numbers.line(alloc, &MANY_CLIENTS, number)?;
+        text.push_str(&line)?;
+        text.push('\n')?;
+    }
+    Ok(text)
+}
+
+/// A thousand lists: 125 times eight, each behind the one before, with 1 to 8 workers.
+#[test]
+fn lists_in_lanes_are_lists_in_turn(rt: HostRuntime) -> Result<(), Fail> {
+    let alloc = rt.alloc();
+    let mut numbers = Numbers { last: 20_261_127 };
+    let mut replies = 0u64;
+    for _ in 0..125 {
+        let mut pair = Pair::new(alloc, MANY_PAIRS)?;
+        for round in 0..8u64 {
+            let text = list_of(&mut numbers, alloc, round * 4 + 4)?;
+            let workers = 1 + numbers.below(8) as u8;
+            let gate = Watch::new(rt, false);
+            let (next, outcomes) = pair.take(&rt, &text, workers, &gate)?;
+            pair = next;
+            for outcome in &outcomes {
+                replies = replies.wrapping_add(u64::from(outcome.reply.is_some()));
+            }
+        }
+    }
+    assert!(rt; replies > 3000, "{replies}");
     Ok(())
 }
