@@ -12,7 +12,7 @@ use Rattle.host_types.specs.Configuration.{Configuration, IsConfiguration}
 use Rattle.host_types.specs.declared.Digest.{Digest}
 use Rattle.host_types.specs.declared.SeqNo.{SeqNo}
 use Rattle.pbft_model.specs.Tables.{Key, with_entry, number_key}
-use Rattle.quorum_log.specs.Ballots.{Ballot}
+use Rattle.ballots.specs.Ballots.{Ballot}
 use Rattle.quorum_log.specs.Windows.{table_by}
 use Rattle.checkpoints.specs.Kept.{IsGreatestStable, KeptCheckpoints, NoneStableAbove, by_sha256, start}
 use Rattle.checkpoints.specs.Reading.{AreKept, IsBallotAt, IsGreatest, ballot_in, bytes_at_key, checkpoint_at_key, keys_by_number, kept_in, no_votes, number_keys, quorum_digest, quorum_proof, said_by, snapshots_in, stable_now}

@@ -10,7 +10,7 @@ use Rattle.host_types.specs.declared.SeqNo.{SeqNo}
 use Rattle.pbft_model.specs.Core.{if_passes}
 use Rattle.pbft_model.specs.Tables.{Key, keep, first_in, is_above}
 use Rattle.pbft_model.specs.Words.{Signed, Checkpoint}
-use Rattle.quorum_log.specs.Ballots.{Ballot}
+use Rattle.ballots.specs.Ballots.{Ballot}
 use Rattle.quorum_log.proofs.Tables.{kept_table}
 use Rattle.checkpoints.specs.Kept.{KeptCheckpoints, by_sha256, discarded, proof_at}
 use Rattle.checkpoints.specs.Reading.{AreKept, IsBallotAt, IsGreatest, ballot_in, bytes_at_key, checkpoint_at_key, keys_by_number, kept_in, no_votes, number_keys, proof_now, quorum_digest, quorum_proof, said_by, stable_now}

@@ -12,7 +12,7 @@ use Rattle.std.proofs.lemmas.Bool.{cases_Bool, cases_eq, cases_lt, le-ltb}
 use Rattle.std.proofs.lemmas.Map.Entries.{lookup-filter-keys}
 use Rattle.std.proofs.lemmas.Map.Text.{is_eq-slice_cmp}
 use Rattle.pbft_model.specs.Tables.{Key, at, with_entry}
-use Rattle.quorum_log.specs.Ballots.{Ballot}
+use Rattle.ballots.specs.Ballots.{Ballot}
 use Rattle.quorum_log.specs.Windows.{is_among, table_by, Covers}
 use Rattle.quorum_log.proofs.Covering.{among_append}
 use Rattle.quorum_log.proofs.Tables.{ties, is_equal, is_read_off, sorted_by, found}

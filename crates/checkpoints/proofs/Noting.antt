@@ -17,7 +17,7 @@ use Rattle.pbft_model.specs.Acts.{with_body}
 use Rattle.pbft_model.specs.Tables.{Key, at, add_if, checkpoint_key}
 use Rattle.pbft_model.specs.Words.{Signed, Checkpoint}
 use Rattle.seal.specs.Opening.{CheckedMessage}
-use Rattle.quorum_log.specs.Ballots.{Ballot, digest_in, is_digest, vote_at}
+use Rattle.ballots.specs.Ballots.{Ballot, digest_in, is_digest, vote_at}
 use Rattle.quorum_log.specs.Slots.{is_for_other, with_first}
 use Rattle.quorum_log.proofs.Tables.{added_table, same_table}
 use Rattle.checkpoints.specs.declared.fault.CheckpointFault.{CheckpointFault}

@@ -13,7 +13,7 @@ use Rattle.pbft_model.specs.Certificates.{is_stable}
 use Rattle.pbft_model.specs.Setup.{quorum}
 use Rattle.seal.specs.Lists.{CheckedMessages}
 use Rattle.seal.specs.Parts.{as_message}
-use Rattle.quorum_log.specs.Ballots.{Ballot, is_digest, least_votes}
+use Rattle.ballots.specs.Ballots.{Ballot, is_digest, least_votes}
 use Rattle.checkpoints.specs.declared.fault.CheckpointFault.TheVariants.{Old, DigestDiffers}
 use Rattle.checkpoints.specs.Kept.{IsStableExactly, proof_list, KeptCheckpoints, by_sha256, digest_of_proof, offer_fault, proof_at, stable_at, stable_digest}
 use Rattle.checkpoints.specs.Reading.{AreKept, ballot_in, kept_in, proof_now, quorum_digest, quorum_proof, said_by}

@@ -23,7 +23,7 @@ use Rattle.pbft_model.specs.Duties.{Do, Duty, may_rise, or_else, rise_among, ris
 use Rattle.pbft_model.specs.Setup.{Setup}
 use Rattle.pbft_model.specs.Tables.{Key, Table, at, first_in, number_key}
 use Rattle.pbft_model.specs.Words.{Signed, Checkpoint}
-use Rattle.quorum_log.specs.Ballots.{is_digest}
+use Rattle.ballots.specs.Ballots.{is_digest}
 use Rattle.quorum_log.proofs.Tables.{by, is_equal, same_key}
 use Rattle.checkpoints.specs.Kept.{HasTablesOf, IsRaised, KeptCheckpoints, by_sha256, stable_at, stable_digest}
 use Rattle.checkpoints.specs.Reading.{IsGreatestRaised, NoneRaised, is_raised}

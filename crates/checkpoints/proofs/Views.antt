@@ -10,7 +10,7 @@ use Rattle.host_types.specs.declared.Digest.{Digest}
 use Rattle.host_types.specs.declared.SeqNo.{SeqNo}
 use Rattle.pbft_model.specs.Tables.{at, checkpoint_key}
 use Rattle.pbft_model.specs.Words.{Signed, Checkpoint}
-use Rattle.quorum_log.specs.Ballots.{Ballot}
+use Rattle.ballots.specs.Ballots.{Ballot}
 use Rattle.checkpoints.specs.Kept.{KeptCheckpoints, by_sha256, digest_of_proof, proof_at, proof_for, stable_at, stable_digest}
 use Rattle.checkpoints.specs.Reading.{AreKept, IsBallotAt, as_checkpoint, ballot_in, checkpoints_in, kept_in, no_votes, proof_now, quorum_digest, quorum_proof, said_by, stable_now}
 use Rattle.checkpoints.proofs.Keys.{checkpoint_found}

@@ -22,9 +22,9 @@ use Rattle.pbft_model.proofs.Gathering.{numbers_last, filter_append}
 use Rattle.seal.specs.Opening.{CheckedMessage, IsChecked}
 use Rattle.seal.specs.Parts.{as_message}
 use Rattle.seal.specs.Signers.{key_of, may_sign}
-use Rattle.quorum_log.specs.Ballots.{Ballot, AreListed, AreUnder, digest_in, is_digest, is_for, least_votes, recorded, vote_at, voted_for}
+use Rattle.ballots.specs.Ballots.{Ballot, AreListed, AreUnder, digest_in, is_digest, is_for, least_votes, recorded, vote_at, voted_for}
 use Rattle.quorum_log.specs.Slots.{with_first}
-use Rattle.quorum_log.proofs.Ballots.{nobody, own_vote}
+use Rattle.ballots.proofs.Ballots.{nobody, own_vote}
 use Rattle.quorum_log.proofs.Recording.{first_at}
 use Rattle.checkpoints.specs.Kept.{by_sha256, checkpoint_in, checkpoint_of}
 use Rattle.checkpoints.specs.Reading.{IsBallotAt, IsCheckpointAt, as_checkpoint, digest_said, no_votes, quorum_by, quorum_proof, said, said_by}

@@ -18,7 +18,7 @@ use Rattle.pbft_model.specs.Core.{if_passes}
 use Rattle.pbft_model.specs.Setup.{Setup, gathered, is_least, numbers_from, quorum, replicas}
 use Rattle.pbft_model.specs.Tables.{Key, Table, at, number_key}
 use Rattle.seal.specs.Opening.{CheckedMessage}
-use Rattle.quorum_log.specs.Ballots.{Ballot, is_digest, vote_at}
+use Rattle.ballots.specs.Ballots.{Ballot, is_digest, vote_at}
 use Rattle.quorum_log.specs.Windows.{table_by}
 use Rattle.checkpoints.specs.Kept.{KeptCheckpoints, by_sha256, checkpoint_of, stable_at}
 

@@ -7,7 +7,7 @@
 //!     }
 #![tactic(auto)]
 
-mod ballots;
+mod by_number;
 mod fault;
 mod snapshot;
 mod table;

@@ -7,13 +7,13 @@ ghost use Rattle.pbft_model.specs.Duties.{Do};
 ghost use Rattle.sha2.specs.Sha256.{sha256};
 ghost use Rattle.pbft_model.specs.Tables.{at, number_key, with_entry};
 ghost use Rattle.pbft_model.specs.Core.{if_passes};
-ghost use Rattle.quorum_log.specs.Ballots.{is_digest};
+ghost use Rattle.ballots.specs.Ballots.{is_digest};
 ghost use Rattle.checkpoints.specs.Faults.{Reports};
 ghost use Rattle.checkpoints.specs.Kept.{IsFetched, IsGreatestStable, IsRaised, IsStableExactly, NoneStableAbove, checkpoint_of, discarded, note_fault, noted, offer_fault, proof_list, stable_at, start, with_snapshot};
 ghost use Rattle.checkpoints.specs.Reading.{IsGreatestRaised, NoneRaised, greater_of, is_raised, snapshots_in};
 ghost use Rattle.checkpoints.specs.declared.fault.CheckpointFault.TheVariants.{Memory};
 
-use crate::ballots::{accept, drop_below, quorum_at};
+use crate::by_number::{accept, drop_below, quorum_at};
 use crate::fault::CheckpointFault;
 use crate::snapshot::Snapshot;
 use host_types::{Bytes, Config, Digest, SeqNo};

@@ -1,10 +1,11 @@
 -- Reading and writing values one after the other, as loops do.
 use Rattle.std.proofs.Common.{◌≡◌, ℕ, suc, ◌-◌, ◌+◌, ◌≤◌, ◌<◌, List, [], ◌∷◌, ◌++◌, Result, Ok, Err, refl, sym, ap, ◌∙◌, append_assoc, arith}
 use Rattle.std.proofs.lemmas.List.{append-nil}
-use Rattle.pbft_codec.specs.declared.fault.CodecFault.{CodecFault}
-use Rattle.pbft_codec.specs.declared.fault.ReadError.{ReadError}
-use Rattle.pbft_codec.specs.declared.fault.ReadError.TheVariants as errors
-use Rattle.pbft_codec.specs.Reading.{◌>>=◌, Fails, Reading, many_at}
+use Rattle.message_fields.specs.declared.fault.CodecFault.{CodecFault}
+use Rattle.message_fields.specs.declared.fault.ReadError.{ReadError}
+use Rattle.message_fields.specs.declared.fault.ReadError.TheVariants as errors
+use Rattle.message_fields.specs.Fields.{◌>>=◌, Fails, Reading}
+use Rattle.pbft_codec.specs.Reading.{many_at}
 
 -- what was read before, and what is still read
 abbrev pub with_front : {A : Type 0} → List A → Result (List A × List ℕ) CodecFault → Result (List A × List ℕ) CodecFault

@@ -7,14 +7,15 @@ use Rattle.std.proofs.lemmas.Bool.{eqb-true, ltb-false, le-ltb}
 use Rattle.std.proofs.lemmas.List.{length-append, append-nil}
 use Rattle.pbft_codec.specs.declared.body.Body.{Body}
 use Rattle.pbft_codec.specs.declared.body.Body.TheVariants as bodies
-use Rattle.pbft_codec.specs.declared.fault.CodecFault.{CodecFault}
-use Rattle.pbft_codec.specs.declared.fault.CodecFault.TheVariants.{Truncated, Trailing, TooLong}
+use Rattle.message_fields.specs.declared.fault.CodecFault.{CodecFault}
+use Rattle.message_fields.specs.declared.fault.CodecFault.TheVariants.{Truncated, Trailing, TooLong}
 use Rattle.pbft_codec.specs.declared.kind.Kind.{Kind}
 use Rattle.pbft_codec.specs.declared.kind.Kind.TheVariants as kinds
 use Rattle.pbft_codec.specs.declared.signed.Role.{Role}
 use Rattle.pbft_codec.specs.declared.signed.Signed.{Signed}
 use Rattle.pbft_codec.specs.Kinds.{kind_byte, kind_of, kinds as every_kind}
-use Rattle.pbft_codec.specs.Reading.{IsUnlessMemory, Reading, pair, map, whole, number_at, role_at, signed_at, request_at, pre_prepare_at, prepare_at, commit_at, reply_at, checkpoint_at, view_change_at, new_view_at, fetch_at, snapshot_at, fields_at, known_at, body_at, reading}
+use Rattle.message_fields.specs.Fields.{Reading, pair, map, number_at}
+use Rattle.pbft_codec.specs.Reading.{IsUnlessMemory, whole, role_at, signed_at, request_at, pre_prepare_at, prepare_at, commit_at, reply_at, checkpoint_at, view_change_at, new_view_at, fetch_at, snapshot_at, fields_at, known_at, body_at, reading}
 use Rattle.pbft_codec.specs.WellFormed.{WellFormed, Encodes}
 use Rattle.pbft_codec.proofs.Widths.{SignedWidths, narrow_body, widen_message}
 use Rattle.pbft_codec.specs.Layouts.{request, pre_prepare, prepare, commit, reply, checkpoint, view_change, new_view, fetch, snapshot, role_byte}

@@ -3,14 +3,15 @@ use Rattle.std.proofs.Common.{◌≡◌, ℕ, ◌+◌, ◌-◌, ◌≤◌, List,
 use Rattle.std.specs.List.{slice_range}
 use Rattle.pbft_codec.specs.declared.body.Body.TheVariants as bodies
 use Rattle.pbft_codec.specs.declared.body.snapshot.Snapshot.{Snapshot}
-use Rattle.pbft_codec.specs.declared.fault.CodecFault.{CodecFault}
-use Rattle.pbft_codec.specs.declared.fault.ReadError.{ReadError}
-use Rattle.pbft_codec.specs.declared.fault.ReadError.TheVariants as errors
+use Rattle.message_fields.specs.declared.fault.CodecFault.{CodecFault}
+use Rattle.message_fields.specs.declared.fault.ReadError.{ReadError}
+use Rattle.message_fields.specs.declared.fault.ReadError.TheVariants as errors
 use Rattle.pbft_codec.specs.declared.kind.Kind.TheVariants as kinds
 use Rattle.pbft_codec.specs.declared.signed.Signed.{Signed}
 use Rattle.pbft_codec.specs.Encoding.{body, encoding, max_bytes}
 use Rattle.pbft_codec.specs.Layouts.{length_prefixed, of_kind, signed, snapshot}
-use Rattle.pbft_codec.specs.Reading.{Fails, IsFault, whole, kind_at, signed_at, snapshot_at}
+use Rattle.message_fields.specs.Fields.{Fails, IsFault}
+use Rattle.pbft_codec.specs.Reading.{whole, kind_at, signed_at, snapshot_at}
 use Rattle.pbft_codec.specs.Snapshots.{message_of}
 use Rattle.pbft_codec.specs.WellFormed.{Encodes}
 use Rattle.pbft_codec.proofs.Forms.{IsBytes, IsForm, whole_takes, whole_again}

@@ -1,4 +1,3 @@
-pub mod Faults
 pub mod Kinds
 pub mod Layouts
 pub mod Limits

@@ -3,17 +3,18 @@
 //! Sequence numbers in messages are below 2^48. Times are a client's own.
 
 ghost use Rattle.std.specs.Prelude.{◌≡◌, List};
-ghost use Rattle.pbft_codec.specs.Reading.{Gives, fields_at, body_at};
+ghost use Rattle.message_fields.specs.Fields.{Gives};
+ghost use Rattle.pbft_codec.specs.Reading.{fields_at, body_at};
 ghost use Rattle.pbft_codec.specs.Bodies.{kind_in, sender_of, BodyFieldsInRange};
 ghost use Rattle.pbft_codec.specs.Encoding.{body};
 
 use crate::codec::Codec;
-use crate::fault::{CodecFault, ReadError};
 use crate::kind::Kind;
 use crate::message_body::{MessageBody, kind_of, read_any};
 use crate::sender::Sender;
 use crate::try_clone::TryClone;
 use crate::writing::put_kind;
+use message_fields::{CodecFault, ReadError};
 use std::alloc::{AllocError, Global};
 
 mod certificate;

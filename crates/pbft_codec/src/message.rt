@@ -2,20 +2,21 @@
 
 ghost use Rattle.std.specs.Prelude.{◌≡◌, ◌≤◌, ◌<◌, ◌+◌, ◌++◌, ◌⊎◌, List, ℕ, length, Ok, Err, OnOk, IfOk, IfErr, IsOkUnless};
 ghost use Rattle.pbft_codec.specs.declared.body.Body.{Body};
-ghost use Rattle.pbft_codec.specs.declared.fault.CodecFault.TheVariants.{Truncated, Trailing, TooLong, Memory};
+ghost use Rattle.message_fields.specs.declared.fault.CodecFault.TheVariants.{Truncated, Trailing, TooLong, Memory};
 ghost use Rattle.pbft_codec.specs.declared.signed.Signed.{Signed};
 ghost use Rattle.pbft_codec.specs.Kinds.{kind_byte};
-ghost use Rattle.pbft_codec.specs.Reading.{Gives, IsUnlessMemory, fields_at, body_at, reading};
+ghost use Rattle.message_fields.specs.Fields.{Gives};
+ghost use Rattle.pbft_codec.specs.Reading.{IsUnlessMemory, fields_at, body_at, reading};
 ghost use Rattle.pbft_codec.specs.Bodies.{BodyWellFormed, BodyFieldsInRange};
 ghost use Rattle.pbft_codec.specs.WellFormed.{WellFormed, Encodes};
 ghost use Rattle.pbft_codec.specs.Bodies.{kind_in};
 ghost use Rattle.pbft_codec.specs.Encoding.{body, encoding, signed_text, max_bytes};
 
 use crate::codec::Codec;
-use crate::fault::{CodecFault, ReadError};
 use crate::lists::{put_signed, read_signed, read_whole};
 use crate::signed::Signed;
 use crate::writing::{put_role, put_u32};
+use message_fields::{CodecFault, ReadError};
 use std::alloc::{AllocError, Global};
 
 /// The most bytes of a message.

@@ -25,14 +25,14 @@ use Rattle.seal.specs.declared.vote.VoteKind.TheVariants as kinds
 use Rattle.quorum_log.specs.declared.view_slots.ViewSlots.{ViewSlots}
 use Rattle.quorum_log.specs.declared.slot.Slot.{Slot}
 use Rattle.quorum_log.specs.Asking.{Represents}
-use Rattle.quorum_log.specs.Ballots.{Ballot, AreListed, AreUnder, digest_in, is_digest, is_for, vote_at, voted_for}
+use Rattle.ballots.specs.Ballots.{Ballot, AreListed, AreUnder, digest_in, is_digest, is_for, vote_at, voted_for}
 use Rattle.quorum_log.specs.Log.{KeptLog, Log, certified_at, if_certified, is_certified_in, is_committed_at, is_committed_by, proposal_in}
 use Rattle.quorum_log.specs.Reading.{AreKept, as_pre_prepare, as_prepare, as_commit, log_in, read_by}
 use Rattle.quorum_log.specs.Slots.{AreVotesAt, IsVoteAt, digest_here, digest_of_some, empty_slot, is_certified_for, is_certified_here, is_committed_for, is_committed_here, setup_of}
 use Rattle.quorum_log.specs.Windows.{if_by, index_in, slot_of, slots_at}
 use Rattle.quorum_log.proofs.Accepting.{slot_was}
 use Rattle.quorum_log.proofs.Windows.{beyond}
-use Rattle.quorum_log.proofs.Counts.{same_count}
+use Rattle.ballots.proofs.Counts.{same_count}
 use Rattle.quorum_log.proofs.KindReadings.{kind_of, proposer, voter_listed}
 use Rattle.quorum_log.proofs.Logging.{read_at, vote_is}
 

@@ -17,14 +17,14 @@ use Rattle.seal.specs.Parts.{as_message}
 use Rattle.seal.specs.declared.vote.VoteKind.TheVariants as kinds
 use Rattle.quorum_log.specs.declared.slot.Slot.{Slot}
 use Rattle.quorum_log.specs.Asking.{Represents}
-use Rattle.quorum_log.specs.Ballots.{digest_in, is_for, least_votes, vote_at, voted_for}
+use Rattle.ballots.specs.Ballots.{digest_in, is_for, least_votes, vote_at, voted_for}
 use Rattle.quorum_log.specs.Log.{Log, backing, certificate_in, checked_certificate, if_certified, is_certified_in, as_checked}
 use Rattle.quorum_log.specs.Reading.{as_pre_prepare, as_prepare, read_by}
 use Rattle.quorum_log.specs.Slots.{IsVoteAt, certificate_for, certificate_here, certificate_with, digest_of_some, is_certified_for}
 use Rattle.quorum_log.proofs.Asking.{Asked, asked, fields, prepared_by, proposal_is, setup, unlisted}
-use Rattle.quorum_log.proofs.Counts.{same_count}
+use Rattle.ballots.proofs.Counts.{same_count}
 use Rattle.quorum_log.proofs.KindReadings.{not_primary, prepare_is}
-use Rattle.quorum_log.proofs.Least.{append_nil, gathered_next}
+use Rattle.ballots.proofs.Least.{append_nil, gathered_next}
 
 -- ---- what is gathered
 

@@ -13,7 +13,7 @@ use Rattle.quorum_log.specs.declared.view_slots.ViewSlots.{ViewSlots}
 use Rattle.quorum_log.specs.declared.slot.Slot.{Slot}
 use Rattle.quorum_log.specs.Slots.{empty_slot}
 use Rattle.quorum_log.specs.Windows.{is_among, slots_at, slot_of, vote_by, vote_at_key, keys_by_signer, keys_by_view, keys_by_number, Covers}
-use Rattle.quorum_log.proofs.Ballots.{nobody}
+use Rattle.ballots.proofs.Ballots.{nobody}
 use Rattle.quorum_log.proofs.Tables.{ties, is_equal, is_read_off}
 use Rattle.quorum_log.proofs.Slots.{slot_none}
 use Rattle.quorum_log.specs.Slots.{IsSlotAt}

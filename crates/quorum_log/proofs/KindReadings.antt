@@ -17,7 +17,7 @@ use Rattle.seal.specs.declared.vote.Vote.{Vote}
 use Rattle.seal.specs.declared.vote.VoteKind.{VoteKind}
 use Rattle.seal.specs.declared.vote.VoteKind.TheVariants.{PrePrepare, Prepare, Commit}
 use Rattle.quorum_log.specs.declared.slot.Slot.{Slot}
-use Rattle.quorum_log.specs.Ballots.{digest_in, is_digest}
+use Rattle.ballots.specs.Ballots.{digest_in, is_digest}
 use Rattle.quorum_log.specs.Log.{is_other}
 use Rattle.quorum_log.specs.Reading.{as_pre_prepare, as_prepare, as_commit, read_by}
 use Rattle.quorum_log.specs.Slots.{IsVoteAt, IsSlotAt, is_for_other, met_by, first_of, with_vote}

@@ -1,7 +1,3 @@
-mod Masks
-pub mod Ballots
-pub mod Least
-pub mod Counts
 pub mod Slots
 pub mod Windows
 pub mod Tables

@@ -7,7 +7,7 @@ use Rattle.seal.specs.Opening.{CheckedMessage}
 use Rattle.seal.specs.declared.vote.VoteKind.{VoteKind}
 use Rattle.seal.specs.declared.vote.VoteKind.TheVariants.{PrePrepare, Prepare, Commit}
 use Rattle.quorum_log.specs.declared.slot.Slot.{Slot}
-use Rattle.quorum_log.specs.Ballots.{Ballot, vote_at, recorded}
+use Rattle.ballots.specs.Ballots.{Ballot, vote_at, recorded}
 use Rattle.quorum_log.specs.Slots.{with_vote}
 use Rattle.quorum_log.specs.Windows.{vote_by}
 

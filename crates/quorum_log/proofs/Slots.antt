@@ -13,9 +13,9 @@ use Rattle.seal.specs.Opening.{CheckedMessage}
 use Rattle.seal.specs.declared.vote.VoteKind.{VoteKind}
 use Rattle.seal.specs.declared.vote.VoteKind.TheVariants.{PrePrepare, Prepare, Commit}
 use Rattle.quorum_log.specs.declared.slot.Slot.{Slot}
-use Rattle.quorum_log.specs.Ballots.{Ballot, vote_at, recorded}
+use Rattle.ballots.specs.Ballots.{Ballot, vote_at, recorded}
 use Rattle.quorum_log.specs.Slots.{IsVoteAt, AreVotesAt, IsSlotAt, IsRefusal, met_by, is_for_other, first_of, with_vote, empty_slot}
-use Rattle.quorum_log.proofs.Ballots.{nobody, own_vote}
+use Rattle.ballots.proofs.Ballots.{nobody, own_vote}
 
 pub no_other : (digest : List ℕ) (kind : VoteKind) (signer : ℕ) → is_for_other digest (met_by kind signer empty_slot) ≡ false
 no_other digest PrePrepare signer = refl

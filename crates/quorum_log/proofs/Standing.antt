@@ -21,7 +21,7 @@ use Rattle.seal.specs.declared.vote.VoteKind.{VoteKind}
 use Rattle.seal.specs.declared.vote.VoteKind.TheVariants as kinds
 use Rattle.quorum_log.specs.declared.view_slots.ViewSlots.{ViewSlots}
 use Rattle.quorum_log.specs.declared.slot.Slot.{Slot}
-use Rattle.quorum_log.specs.Ballots.{digest_in, is_digest}
+use Rattle.ballots.specs.Ballots.{digest_in, is_digest}
 use Rattle.quorum_log.specs.Log.{AreBetweenMarks, IsBetweenMarks}
 use Rattle.quorum_log.specs.Reading.{AreKept, as_commit, as_pre_prepare, as_prepare, log_in, read_by, table_of}
 use Rattle.quorum_log.specs.Slots.{IsSlotAt, IsVoteAt, digest_of_some, empty_slot, is_named, number_here, number_of_some, slot_in}

@@ -1,4 +1,3 @@
-pub mod Ballots
 pub mod Faults
 pub mod Log
 pub mod Slots

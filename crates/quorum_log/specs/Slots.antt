@@ -17,7 +17,7 @@ use Rattle.host_types.specs.declared.SeqNo.{SeqNo}
 use Rattle.pbft_model.specs.Certificates.{certified, has_quorum}
 use Rattle.pbft_model.specs.Setup.{Setup}
 use Rattle.quorum_log.specs.declared.certificate.CheckedCertificate.{CheckedCertificate}
-use Rattle.quorum_log.specs.Ballots.{Ballot, vote_at, recorded, is_digest, is_for, digest_in, voted_for, least_votes}
+use Rattle.ballots.specs.Ballots.{Ballot, vote_at, recorded, is_digest, is_for, digest_in, voted_for, least_votes}
 
 -- A message of the configuration that is a vote of this kind at this number of this view.
 pub record IsVoteAt (c : Configuration) (kind : VoteKind) (view number : ℕ) (m : CheckedMessage) : Type 0 where

@@ -11,10 +11,9 @@ mod fault;
 mod log;
 mod slot;
 mod view_slots;
-mod votes;
 mod window;
 
+pub use ballots::{Votes, digest_named};
 pub use certificate::CheckedCertificate;
 pub use fault::LogFault;
 pub use log::QuorumLog;
-pub use votes::{Votes, digest_named};

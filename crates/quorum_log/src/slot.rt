@@ -3,12 +3,12 @@
 ghost use Rattle.std.specs.Prelude.{◌≡◌, ℕ, ◌<◌, List, false, IfErr, IfOk, OnOk, OnErr, IsSome, true};
 ghost use Rattle.quorum_log.specs.declared.fault.LogFault.TheVariants.{OtherDigest};
 ghost use Rattle.host_types.specs.Configuration.{Configuration};
-ghost use Rattle.quorum_log.specs.Ballots.{AreListed, AreUnder, digest_in, is_digest, vote_at};
+ghost use Rattle.ballots.specs.Ballots.{AreListed, AreUnder, digest_in, is_digest, vote_at};
 ghost use Rattle.quorum_log.specs.Slots.{certificate_here, empty_slot, IsRefusal, digest_here, first_of, is_certified_here, is_committed_here, is_for_other, met_by, number_here, with_first, with_vote};
 
 use crate::certificate::CheckedCertificate;
 use crate::fault::LogFault;
-use crate::votes::{Votes, digest_named};
+use ballots::{Votes, digest_named};
 use host_types::{Config, Digest, ReplicaId, SeqNo, View};
 use seal::{Checked, VoteKind};
 use std::alloc::{AllocError, Global};

@@ -66,11 +66,11 @@ fn accept(log: &mut QuorumLog, message: &Checked) -> bool
     }
 }
 
-/// A log of these replicas that has recorded the votes.
-fn recorded(alloc: Global, secret: u8) -> Result<QuorumLog, Fail> {
+/// A log of these replicas that has recorded the votes. A box is dropped in one step of a proof.
+fn recorded(alloc: Global, secret: u8) -> Result<Box<QuorumLog>, Fail> {
     let mut signers = signers(alloc, secret)?;
     let config = config(alloc, &signers)?;
-    let mut log = QuorumLog::new(alloc, &config)?;
+    let mut log = Box::new(alloc, QuorumLog::new(alloc, &config)?)?;
     if log.greatest_in(View(0)).is_none()
         && record(alloc, &config, &mut signers, &mut log, VOTES)?
     {
@@ -142,14 +142,26 @@ fn note_three(
     Ok(())
 }
 
-/// A table in which 2, 4 and 6 are stable.
-fn three_stable(alloc: Global) -> Result<Checkpoints, Fail> {
+/// Notes them at 2, 4 and 6.
+fn note_all(
+    alloc: Global,
+    config: &Arc<Config>,
+    signers: &mut [Signer],
+    kept: &mut Checkpoints,
+) -> Result<(), Fail>
+    requires { kept.old.config ≡ config.now.value }
+{
+    note_three(alloc, config, signers, kept, SeqNo(2))?;
+    note_three(alloc, config, signers, kept, SeqNo(4))?;
+    note_three(alloc, config, signers, kept, SeqNo(6))
+}
+
+/// A table in which 2, 4 and 6 are stable. A box is dropped in one step of a proof.
+fn three_stable(alloc: Global) -> Result<Box<Checkpoints>, Fail> {
     let mut signers = signers(alloc, 11)?;
     let config = config(alloc, &signers)?;
-    let mut kept = Checkpoints::new(alloc, &config)?;
-    note_three(alloc, &config, &mut signers, &mut kept, SeqNo(2))?;
-    note_three(alloc, &config, &mut signers, &mut kept, SeqNo(4))?;
-    note_three(alloc, &config, &mut signers, &mut kept, SeqNo(6))?;
+    let mut kept = Box::new(alloc, Checkpoints::new(alloc, &config)?)?;
+    note_all(alloc, &config, &mut signers, &mut kept)?;
     Ok(kept)
 }
 
@@ -221,8 +233,9 @@ fn three_changes(
 fn made(alloc: Global, config: &Arc<Config>, signers: &mut [Signer]) -> Result<(Body, bool), Fail> {
     let changes = three_changes(alloc, config, signers)?;
     let none = CheckedList::new(alloc, config)?;
+    let are_copied = changes.copy()?.len() == 3;
     let body = make_new_view(alloc, View(1), &changes, &none)?;
-    let is_right = has_floor(&body) && changes.copy()?.len() == 3;
+    let is_right = has_floor(&body) && are_copied;
     Ok((body, is_right))
 }
 

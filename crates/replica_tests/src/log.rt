@@ -248,7 +248,7 @@ fn a_sequence(
     requires { pool.now.config ≡ config.now.value }
 {
     let mut drawn = seed;
-    let mut log = QuorumLog::new(alloc, config)?;
+    let mut log = Box::new(alloc, QuorumLog::new(alloc, config)?)?;
     let mut flat = FlatLog::new(alloc);
     for _ in 0..48 {
         drawn = drawn.wrapping_mul(1_664_525).wrapping_add(1_013_904_223);

@@ -95,13 +95,16 @@ fn answers(
     Ok(right)
 }
 
-/// Signers, their configuration, and a table with nothing in it.
-fn nothing_kept(alloc: Global, secret: u8) -> Result<(Vec<Signer>, Arc<Config>, Checkpoints), Fail>
-    ensures { IfOk result (λ r. r.2.config ≡ r.1.value) }
+/// Signers, their configuration, and a table with nothing in it. A box is dropped in one step of a proof.
+fn nothing_kept(
+    alloc: Global,
+    secret: u8,
+) -> Result<(Vec<Signer>, Arc<Config>, Box<Checkpoints>), Fail>
+    ensures { IfOk result (λ r. r.2.value.config ≡ r.1.value) }
 {
     let signers = signers(alloc, secret)?;
     let config = config(alloc, &signers)?;
-    let kept = Checkpoints::new(alloc, &config)?;
+    let kept = Box::new(alloc, Checkpoints::new(alloc, &config)?)?;
     Ok((signers, config, kept))
 }
 

@@ -166,8 +166,9 @@ fn signed_change(
     text: &str,
 ) -> Result<Signed<ViewChange>, Fail> {
     let (id, said) = text.split_once(" ").ok_or("no ViewChange")?;
+    let id = id.parse()?;
     let body = change(alloc, signers, said)?;
-    signed(alloc, signers, id.parse()?, body)
+    signed(alloc, signers, id, body)
 }
 
 /// The signed proposals of `VIEW/NUMBER/DIGEST ..`.

@@ -1,5 +1,5 @@
 ghost use Rattle.std.specs.Prelude.{◌≡◌, IfOk};
-ghost use Rattle.quorum_log.specs.Ballots.{AreListed, AreUnder};
+ghost use Rattle.ballots.specs.Ballots.{AreListed, AreUnder};
 
 use crate::messages::vote;
 use crate::view_messages::replicas;

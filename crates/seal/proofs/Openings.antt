@@ -4,8 +4,8 @@ use Rattle.std.specs.List.{AllByRecursion}
 use Rattle.host_types.specs.Configuration.{Configuration}
 use Rattle.host_types.specs.declared.key.PublicKey.{PublicKey}
 use Rattle.pbft_codec.specs.declared.body.Body.{Body}
-use Rattle.pbft_codec.specs.declared.fault.CodecFault.{CodecFault}
-use Rattle.pbft_codec.specs.declared.fault.CodecFault.TheVariants as codec
+use Rattle.message_fields.specs.declared.fault.CodecFault.{CodecFault}
+use Rattle.message_fields.specs.declared.fault.CodecFault.TheVariants as codec
 use Rattle.pbft_codec.specs.declared.signed.Signed.{Signed}
 use Rattle.pbft_codec.specs.Reading.{reading, IsUnlessMemory as IsReadUnlessMemory}
 use Rattle.pbft_codec.specs.WellFormed.{Encodes}

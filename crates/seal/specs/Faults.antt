@@ -1,8 +1,8 @@
 -- Statement: the number and the name of each fault, and which faults the bytes have.
 use Rattle.std.specs.Prelude.{ℕ, List, codes}
-use Rattle.pbft_codec.specs.declared.fault.CodecFault.{CodecFault}
-use Rattle.pbft_codec.specs.declared.fault.CodecFault.TheVariants as codec
-use Rattle.pbft_codec.specs.Faults as codec_faults
+use Rattle.message_fields.specs.declared.fault.CodecFault.{CodecFault}
+use Rattle.message_fields.specs.declared.fault.CodecFault.TheVariants as codec
+use Rattle.message_fields.specs.Faults as codec_faults
 use Rattle.seal.specs.declared.fault.SealFault.{SealFault}
 use Rattle.seal.specs.declared.fault.SealFault.TheVariants.{Codec, UnknownSigner, BadSignature, WrongRole, Memory}
 

@@ -1,6 +1,4 @@
-pub mod LastReplies
 pub mod Fed
-pub mod Doing
 pub mod Taking
 pub mod Counting
 pub mod Whole

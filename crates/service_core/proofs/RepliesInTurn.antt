@@ -15,7 +15,7 @@ use Rattle.service_model.specs.Bounded.{IsBoundedReply, IsBounded}
 use Rattle.service_core.specs.Readings.{in_turn, is_of, replies_to_tenant, AreLastReplies}
 use Rattle.service_model.proofs.Clients.{Each, Ascends, OwnReplies, above_first, client_ids_ascend}
 use Rattle.service_model.proofs.Injective.{found_has, last_bounded, own_of, few_replies_found}
-use Rattle.service_core.proofs.LastReplies.{to, get-replies_of}
+use Rattle.tenant_parts.proofs.LastReplies.{to, get-replies_of}
 use Rattle.service_core.proofs.Turns.{turn_here, turn_later}
 
 abbrev id_of : ClientId → ℕ

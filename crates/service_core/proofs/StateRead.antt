@@ -20,7 +20,7 @@ use Rattle.service_model.specs.Bounded.{IsBoundedReply, IsBoundedTenant}
 use Rattle.service_model.specs.Decoding.{IsToldIn, EncodesIn, Decodes}
 use Rattle.service_core.specs.Readings.{Begins, encoded_head, AreLastReplies, ArePartsOf, HaveReplies, is_of, replies_to_tenant}
 use Rattle.service_model.proofs.Clients.{Each, has, client_ids_ascend, or_left, or_right, or_cases}
-use Rattle.service_core.proofs.LastReplies.{to, get-replies_of}
+use Rattle.tenant_parts.proofs.LastReplies.{to, get-replies_of}
 use Rattle.service_model.proofs.TenantIndexes.{index_for, listed_has_index}
 use Rattle.service_model.proofs.Found.{tenant_at_index}
 use Rattle.service_model.proofs.PrefixFree.{same_length, free_eight, free_list}

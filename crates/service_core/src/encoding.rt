@@ -3,15 +3,15 @@
 ghost use Rattle.std.specs.Prelude.{◌≡◌, ◌≤◌, ◌<◌, ◌^◌, ◌++◌, ℕ, length, map, OnOk, flat_map, All};
 ghost use Rattle.service_model.specs.Words.{u32_bytes, u64_bytes};
 ghost use Rattle.service_model.specs.declared.version.Version.TheVariants.{Second};
-ghost use Rattle.service_core.specs.Procedures.{procedure_of};
+ghost use Rattle.tenant_parts.specs.Procedures.{procedure_of};
 ghost use Rattle.service_core.specs.Sinks.{Feeds};
 ghost use Rattle.service_model.specs.Encoding.{length_prefixed, encoded_reply, encoded_procedure, encoded_procedures, encoded_entries, encoded_tenant};
 
 use crate::sink::Sink;
-use crate::tenant_part::TenantPart;
 use bpf_verifier::Procedure;
 use host_types::Reply;
 use tenant_maps::{MapPort, TenantMap};
+use tenant_parts::TenantPart;
 
 /// How many entries go into a sink at once: a hash takes one piece faster than as many small ones.
 const ENTRIES_IN_PIECE: usize = 16;
@@ -104,7 +104,7 @@ fn entry_bytes(key: &[u8; 16], value: &[u8; 32]) -> [u8; 48]
 pub(crate) fn put_tenant<S: Sink>(sink: &mut S, part: &TenantPart) -> Result<(), S::Fault>
     ensures { OnOk result (Feeds S.holds sink.old sink.new (encoded_tenant Second part.now)) }
 {
-    put_u32(sink, part.tenant.0)?;
-    put_procedures(sink, &part.procedures)?;
-    put_entries(sink, &part.entries)
+    put_u32(sink, part.tenant().0)?;
+    put_procedures(sink, part.procedures())?;
+    put_entries(sink, part.entries())
 }

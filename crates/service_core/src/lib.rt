@@ -4,12 +4,10 @@
 #![tactic(auto)]
 
 mod encoding;
-mod operation;
 mod reader;
 mod sink;
 mod state;
 mod state_fault;
-mod tenant_part;
 mod tenant_reader;
 
 pub use service_model::{
@@ -19,4 +17,4 @@ pub use service_model::{
 };
 pub use state::State;
 pub use state_fault::StateFault;
-pub use tenant_part::TenantPart;
+pub use tenant_parts::TenantPart;

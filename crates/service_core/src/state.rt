@@ -21,7 +21,6 @@ use crate::encoding::{put_reply, put_tenant, put_u32, put_u64};
 use crate::reader::{read_head, read_replies};
 use crate::sink::Sink;
 use crate::state_fault::StateFault;
-use crate::tenant_part::TenantPart;
 use crate::tenant_reader::read_tenants;
 use host_types::{ClientId, Config, Digest, Reply, Request, SeqNo, TenantId};
 use service_model::{Outcome, Version};
@@ -29,6 +28,7 @@ use sha2::Sha256;
 use std::alloc::{AllocError, Global};
 use std::marker::Model;
 use std::sync::Arc;
+use tenant_parts::TenantPart;
 
 /// The state of the service under a configuration: how many requests it has taken, and each tenant's
 /// procedures, map and last replies.
@@ -254,7 +254,7 @@ impl State {
 fn tenant_index(tenants: &[TenantPart], tenant: TenantId) -> Option<usize>
     ensures { result ≡ tenant_index tenants.now tenant.0 }
 {
-    tenants.iter().position(|part| part.tenant.0 == tenant.0)
+    tenants.iter().position(|part| part.tenant().0 == tenant.0)
 }
 
 /// Puts the tenants' parts into a sink, after their count.

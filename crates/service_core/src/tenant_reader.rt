@@ -11,13 +11,11 @@ ghost use Rattle.service_model.specs.TenantStates.{replies_of};
 ghost use Rattle.service_model.specs.Encoding.{encoded_procedure, encoded_procedures, encoded_entries, encoded_tenant};
 ghost use Rattle.service_model.specs.Versions.{encoded_profile, IsTold};
 ghost use Rattle.service_model.specs.Bounded.{IsSizedMap};
-ghost use Rattle.service_core.specs.Procedures.{procedure_of};
+ghost use Rattle.tenant_parts.specs.Procedures.{procedure_of};
 ghost use Rattle.service_core.specs.Readings.{Reads, IsProcedureIn, AreProcedures, AreContents, encoded_contents, ArePartsOf, HaveReplies, AreSizedEntries, IsAbove, is_of, replies_to_tenant};
 
-use crate::operation::{MAX_PROCEDURES, verify_under};
 use crate::reader::{read_count, read_length_prefixed, read_u32};
 use crate::state_fault::StateFault;
-use crate::tenant_part::{TenantPart, copy_of};
 use bpf_decode::{MAX_SLOTS, SLOT_SIZE};
 use bpf_model::Profile;
 use bpf_verifier::{Procedure, VerifyFault};
@@ -25,6 +23,7 @@ use host_types::{ClientId, Config, Reply, TenantId};
 use service_model::Version;
 use std::alloc::{AllocError, Global};
 use tenant_maps::{MAX_ENTRIES, MapPort, TenantMap};
+use tenant_parts::{MAX_PROCEDURES, TenantPart, copy_of, verify_under};
 
 /// The most bytes of a procedure.
 const MAX_CODE: u32 = (SLOT_SIZE * MAX_SLOTS) as u32;

@@ -6,7 +6,7 @@ use Rattle.host_types.specs.declared.View.{View}
 use Rattle.pbft_codec.specs.declared.body.Body.{Body}
 use Rattle.pbft_codec.specs.declared.body.Body.TheVariants as bodies
 use Rattle.pbft_codec.specs.declared.body.fetch.Fetch.TheVariants as fetches
-use Rattle.pbft_codec.specs.declared.fault.CodecFault.{CodecFault}
+use Rattle.message_fields.specs.declared.fault.CodecFault.{CodecFault}
 use Rattle.pbft_codec.specs.declared.signed.Signed.{Signed}
 use Rattle.pbft_codec.specs.Encoding.{signed_text}
 use Rattle.script_text.specs.declared.kind.Kind.{Kind}

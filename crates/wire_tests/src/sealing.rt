@@ -267,7 +267,7 @@ fn the_parts_of_a_new_view(rt: HostRuntime) -> Result<(), Fail> {
     let held = group.held()?;
     let body = new_view(rt.alloc(), &held)?;
     let bytes = group.message(1, 1, &body)?;
-    let opened = open(rt.alloc(), &group.config, &bytes)?;
+    let opened = Box::new(rt.alloc(), open(rt.alloc(), &group.config, &bytes)?)?;
     assert!(rt; parts_of(rt.alloc(), &opened)?.as_str() == PARTS);
     assert!(rt; holds(&held, &nested(rt.alloc(), &opened)?));
     Ok(())
@@ -318,8 +318,8 @@ fn is_opened(alloc: Global, sealed: &Checked) -> Result<bool, Fail> {
 }
 
 /// The signer of client 100.
-fn client(alloc: Global) -> Result<Signer, AllocError> {
-    signer(alloc, [100; 16], [6; 32])
+fn client(alloc: Global) -> Result<Box<Signer>, AllocError> {
+    Ok(Box::new(alloc, signer(alloc, [100; 16], [6; 32])?)?)
 }
 
 /// Whether the first request is as it should be, and after 32 none is sealed.

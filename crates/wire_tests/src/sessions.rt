@@ -2,7 +2,7 @@
 
 ghost use Rattle.std.specs.Prelude.{◌≡◌, ◌<◌, IfOk};
 
-use crate::replies::{config, fields_of, reply, signer, signers};
+use crate::replies::{Fields, config, fields_of, reply, signer, signers};
 use client_session::{Session, SessionFault};
 use host_types::{Bytes, ClientId, Config};
 use lms_tree::Signer;
@@ -13,12 +13,13 @@ use std::sync::Arc;
 use std::test::Fail;
 
 /// The session of client 16 before its first request, where the signer has the key that is listed for it.
-fn session(alloc: Global, config: &Arc<Config>, signer: Signer) -> Result<Session, Fail>
-    ensures { IfOk result (λ s. s.config ≡ config.now.value) }
+fn session(alloc: Global, config: &Arc<Config>, signer: Signer) -> Result<Box<Session>, Fail>
+    ensures { IfOk result (λ s. s.value.config ≡ config.now.value) }
 {
     match config.client(ClientId(16)) {
         Some(entry) if entry.key == signer.public_key() => {
-            Ok(Session::new(alloc, config, ClientId(16), signer)?)
+            let session = Session::new(alloc, config, ClientId(16), signer)?;
+            Ok(Box::new(alloc, session)?)
         }
         _ => Err(Fail::new("not the client's key")),
     }
@@ -64,11 +65,19 @@ fn accepts(session: &Session, time: u64) -> Option<bool> {
     })
 }
 
-fn offer(session: &mut Session, message: &Checked) -> Result<(), SessionFault>
-    requires { message.now.config ≡ session.old.config }
-    ensures { session.new.config ≡ session.old.config }
+/// Offers the reply of these fields.
+fn offer(
+    alloc: Global,
+    config: &Arc<Config>,
+    replicas: &mut [Signer],
+    session: &mut Session,
+    fields: &Fields,
+) -> Result<(), Fail>
+    requires { session.old.config ≡ config.now.value }
+    ensures { session.new.config ≡ config.now.value }
 {
-    session.offer(message)
+    let message = reply(alloc, config, replicas, fields)?;
+    Ok(session.offer(&message)?)
 }
 
 /// Offers the replies one after another, and returns whether what is accepted after each is what its line
@@ -87,8 +96,7 @@ fn answers(
     for line in table.lines() {
         let (text, wanted) = line.split_once(" => ").ok_or("no answer")?;
         let fields = fields_of(text)?;
-        let message = reply(alloc, config, replicas, &fields)?;
-        offer(session, &message)?;
+        offer(alloc, config, replicas, session, &fields)?;
         let accepted = accepts(session, fields.time);
         right = right && accepted == (wanted == "accepted").then_some(true);
     }
@@ -115,8 +123,8 @@ const LATER: &str = "\
 ";
 
 /// The replicas' signers, the configuration and the session.
-fn parties(alloc: Global) -> Result<(Vec<Signer>, Arc<Config>, Session), Fail>
-    ensures { IfOk result (λ r. r.2.config ≡ r.1.value) }
+fn parties(alloc: Global) -> Result<(Vec<Signer>, Arc<Config>, Box<Session>), Fail>
+    ensures { IfOk result (λ r. r.2.value.config ≡ r.1.value) }
 {
     let replicas = signers(alloc)?;
     let signer = signer(alloc, 16)?;
@@ -150,8 +158,7 @@ fn accepts_two_of_four(
 #[test]
 fn what_2_replicas_reply_is_accepted(rt: HostRuntime) -> Result<(), Fail> {
     let (mut replicas, config, mut session) = parties(rt.alloc())?;
-    let holds = accepts_two_of_four(rt.alloc(), &config, &mut replicas, &mut session)?;
-    assert!(rt; holds);
+    assert!(rt; accepts_two_of_four(rt.alloc(), &config, &mut replicas, &mut session)?);
     Ok(())
 }
 
@@ -189,7 +196,6 @@ fn stays_open(
 #[test]
 fn a_refused_request_leaves_the_open_one(rt: HostRuntime) -> Result<(), Fail> {
     let (mut replicas, config, mut session) = parties(rt.alloc())?;
-    let holds = stays_open(rt.alloc(), &config, &mut replicas, &mut session)?;
-    assert!(rt; holds);
+    assert!(rt; stays_open(rt.alloc(), &config, &mut replicas, &mut session)?);
     Ok(())
 }

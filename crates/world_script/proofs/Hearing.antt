@@ -7,7 +7,7 @@ use Rattle.host_types.specs.declared.ClientId.{ClientId}
 use Rattle.host_types.specs.declared.ReplicaId.{ReplicaId}
 use Rattle.pbft_codec.specs.declared.body.Body.{Body}
 use Rattle.pbft_codec.specs.declared.body.Body.TheVariants as bodies
-use Rattle.pbft_codec.specs.declared.fault.CodecFault.{CodecFault}
+use Rattle.message_fields.specs.declared.fault.CodecFault.{CodecFault}
 use Rattle.pbft_codec.specs.declared.signed.Signed.{Signed}
 use Rattle.pbft_codec.specs.Reading.{reading}
 use Rattle.pbft_codec.specs.Encoding.{encoding}

@@ -1,14 +1,13 @@
 //! A replica commits to a prepared proposal.
 
 use crate::body::Body;
-use crate::fault::ReadError;
-use crate::fields::{read_digest, read_sequence_number, read_view};
 use crate::kind::Kind;
 use crate::message_body::MessageBody;
 use crate::sender::Sender;
 use crate::try_clone::TryClone;
 use crate::writing::put_proposal;
 use host_types::{Digest, SeqNo, View};
+use message_fields::{ReadError, read_digest, read_sequence_number, read_view};
 use std::alloc::{AllocError, Global};
 
 /// A replica has seen enough Prepares for a proposal.

@@ -3,8 +3,6 @@
 use crate::body::Body;
 use crate::body::pre_prepare::PrePrepare;
 use crate::body::view_change::ViewChange;
-use crate::fault::ReadError;
-use crate::fields::read_view;
 use crate::kind::Kind;
 use crate::lists::{MAX_SEQUENCE_NUMBERS, MAX_SIGNERS, put_list, read_ascending, read_list};
 use crate::message_body::MessageBody;
@@ -14,6 +12,7 @@ use crate::signed::Signed;
 use crate::try_clone::TryClone;
 use crate::writing::put_u32;
 use host_types::View;
+use message_fields::{ReadError, read_view};
 use std::alloc::{AllocError, Global};
 
 /// At most 10, ids strictly ascending.

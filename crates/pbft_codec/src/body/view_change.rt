@@ -4,8 +4,6 @@ use crate::body::Body;
 use crate::body::certificate::Certificate;
 use crate::body::checkpoint::Checkpoint;
 use crate::codec::Codec;
-use crate::fault::ReadError;
-use crate::fields::{read_sequence_number, read_view};
 use crate::kind::Kind;
 use crate::lists::{MAX_SEQUENCE_NUMBERS, MAX_SIGNERS, put_list, read_ascending, read_list};
 use crate::message_body::{MessageBody, put_body, read_body};
@@ -15,6 +13,7 @@ use crate::signed::Signed;
 use crate::try_clone::TryClone;
 use crate::writing::{put_u32, put_u64};
 use host_types::{SeqNo, View};
+use message_fields::{ReadError, read_sequence_number, read_view};
 use std::alloc::{AllocError, Global};
 
 /// At most 10, ids strictly ascending.

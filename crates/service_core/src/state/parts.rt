@@ -5,9 +5,9 @@ ghost use Rattle.std.specs.Arc.{arc_value};
 ghost use Rattle.host_types.specs.Configuration.{tenants_of};
 
 use crate::state::State;
-use crate::tenant_part::TenantPart;
 use host_types::{Config, SeqNo};
 use std::sync::Arc;
+use tenant_parts::TenantPart;
 
 impl State {
     /// The state's configuration, its number, and its tenants' parts: one for each tenant of the configuration, by

@@ -1,4 +1,4 @@
-use Rattle.quorum_log.specs.Ballots.{AreUnder, AreListed}
+use Rattle.ballots.specs.Ballots.{AreUnder, AreListed}
 use Rattle.replica_tests.proofs.votes.commits.Given as goal
 
 abbrev pub invariant-loop-word : goal.invariant-loop-word

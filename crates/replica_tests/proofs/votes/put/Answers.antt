@@ -1,6 +1,6 @@
 use Rattle.std.proofs.Common.{◌<◌, ap, ◌∙◌, arith}
 use Rattle.host_types.specs.Configuration.{replicas_for}
-use Rattle.quorum_log.proofs.Ballots.{under_first, listed_first}
+use Rattle.ballots.proofs.Ballots.{under_first, listed_first}
 use Rattle.replica_tests.proofs.votes.put.Goals as goal
 
 pub returns-in_ok-insert-clause-under : goal.returns-in_ok-insert-clause-under

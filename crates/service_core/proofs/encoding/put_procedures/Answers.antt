@@ -5,7 +5,7 @@ use Rattle.bpf_verifier.specs.Verified.{Verified}
 use Rattle.service_model.specs.Words.{u32_bytes}
 use Rattle.service_model.specs.declared.version.Version.TheVariants.{Second}
 use Rattle.service_model.specs.Encoding.{encoded_procedure}
-use Rattle.service_core.specs.Procedures.{procedure_of}
+use Rattle.tenant_parts.specs.Procedures.{procedure_of}
 use Rattle.service_core.proofs.Fed.{fed_same, fed_more, fed_all, flat_map-map}
 use Rattle.service_core.proofs.encoding.put_procedures.Goals as goal
 

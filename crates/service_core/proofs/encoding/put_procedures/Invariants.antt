@@ -4,7 +4,7 @@ use Rattle.service_model.specs.Words.{u32_bytes}
 use Rattle.service_core.specs.Sinks.{Feeds}
 use Rattle.service_model.specs.declared.version.Version.TheVariants.{Second}
 use Rattle.service_model.specs.Encoding.{encoded_procedure}
-use Rattle.service_core.specs.Procedures.{procedure_of}
+use Rattle.tenant_parts.specs.Procedures.{procedure_of}
 use Rattle.service_core.proofs.encoding.put_procedures.Given as goal
 
 abbrev pub invariant-loop-procedure : goal.invariant-loop-procedure

@@ -3,7 +3,7 @@ use Rattle.std.proofs.lemmas.Result.{err_from_is_err_and}
 use Rattle.service_model.specs.Versions.{encoded_profile, IsTold}
 use Rattle.service_model.specs.Encoding.{length_prefixed, encoded_procedure}
 use Rattle.service_core.specs.Readings.{IsProcedureIn}
-use Rattle.service_core.specs.Procedures.{procedure_of}
+use Rattle.tenant_parts.specs.Procedures.{procedure_of}
 use Rattle.service_core.proofs.Encoded.{failed, passes}
 use Rattle.service_core.proofs.ProceduresRead.{begins_profile, begins_code, refused_code, procedure_read}
 use Rattle.service_core.proofs.tenant_reader.read_procedure.Goals as goal

@@ -3,7 +3,7 @@ use Rattle.std.specs.Prelude.{flat_map}
 use Rattle.std.proofs.lemmas.List.{map-append}
 use Rattle.std.proofs.lemmas.Result.{err_from_is_err_and}
 use Rattle.service_model.specs.Encoding.{encoded_procedure}
-use Rattle.service_core.specs.Procedures.{procedure_of}
+use Rattle.tenant_parts.specs.Procedures.{procedure_of}
 use Rattle.service_core.specs.Readings.{IsProcedureIn}
 use Rattle.service_core.proofs.ProceduresRead.{free_in}
 use Rattle.service_core.proofs.Encoded.{failed, passes, SoMany, begun, continued, ended, next_begins}

@@ -1,6 +1,6 @@
 use Rattle.std.proofs.Common.{map}
 use Rattle.service_model.specs.Encoding.{encoded_procedure}
-use Rattle.service_core.specs.Procedures.{procedure_of}
+use Rattle.tenant_parts.specs.Procedures.{procedure_of}
 use Rattle.service_core.specs.Readings.{IsProcedureIn}
 use Rattle.service_core.proofs.Encoded.{HasRead}
 use Rattle.service_core.proofs.tenant_reader.read_procedures_of.Given as goal

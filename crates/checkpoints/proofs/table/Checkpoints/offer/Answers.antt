@@ -2,7 +2,7 @@ use Rattle.std.proofs.Common.{rules, sym, ap, subst, ◌∙◌, ◌≡◌, ◌<�
 use Rattle.std.specs.Prelude.{bytes_eq}
 use Rattle.std.proofs.lemmas.Bool.{not-false, not-true}
 use Rattle.sha2.specs.Sha256.{sha256}
-use Rattle.quorum_log.specs.Ballots.{is_digest}
+use Rattle.ballots.specs.Ballots.{is_digest}
 use Rattle.checkpoints.proofs.Proving.{offer_refused, offer_taken}
 use Rattle.checkpoints.proofs.table.Checkpoints.offer.Goals as goal
 

@@ -1,6 +1,6 @@
 use Rattle.std.proofs.Common.{rules, sym, ap, subst, ◌∙◌, arith}
 use Rattle.std.specs.Option.{option_map}
-use Rattle.quorum_log.specs.Ballots.{AreUnder}
+use Rattle.ballots.specs.Ballots.{AreUnder}
 use Rattle.checkpoints.specs.Reading.{IsBallotAt, ballot_in, quorum_digest, said_by}
 use Rattle.checkpoints.specs.Kept.{by_sha256}
 use Rattle.checkpoints.proofs.Proving.{proof_below, proof_none, proof_some}

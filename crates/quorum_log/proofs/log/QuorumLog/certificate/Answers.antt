@@ -1,6 +1,6 @@
 use Rattle.std.proofs.Common.{ap, sym, subst, ◌∙◌}
 use Rattle.seal.specs.declared.vote.VoteKind.TheVariants as kinds
-use Rattle.quorum_log.specs.Ballots.{AreListed, AreUnder}
+use Rattle.ballots.specs.Ballots.{AreListed, AreUnder}
 use Rattle.quorum_log.specs.Slots.{certificate_here}
 use Rattle.quorum_log.proofs.Certificates.{certificate_is}
 use Rattle.quorum_log.proofs.Asking.{votes_listed, votes_under}

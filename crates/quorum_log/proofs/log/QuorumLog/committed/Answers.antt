@@ -1,6 +1,6 @@
 use Rattle.std.proofs.Common.{ap, sym, subst, ◌∙◌}
 use Rattle.seal.specs.declared.vote.VoteKind.TheVariants as kinds
-use Rattle.quorum_log.specs.Ballots.{AreListed}
+use Rattle.ballots.specs.Ballots.{AreListed}
 use Rattle.quorum_log.specs.Slots.{is_committed_here}
 use Rattle.quorum_log.proofs.Asking.{committed_is, votes_listed}
 use Rattle.quorum_log.proofs.log.QuorumLog.committed.Goals as goal

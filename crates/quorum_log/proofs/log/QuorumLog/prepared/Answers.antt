@@ -1,6 +1,6 @@
 use Rattle.std.proofs.Common.{ap, sym, subst, ◌∙◌}
 use Rattle.seal.specs.declared.vote.VoteKind.TheVariants as kinds
-use Rattle.quorum_log.specs.Ballots.{AreListed}
+use Rattle.ballots.specs.Ballots.{AreListed}
 use Rattle.quorum_log.specs.Slots.{is_certified_here}
 use Rattle.quorum_log.proofs.Asking.{certified_is, votes_listed}
 use Rattle.quorum_log.proofs.log.QuorumLog.prepared.Goals as goal

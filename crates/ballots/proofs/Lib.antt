@@ -1,0 +1,4 @@
+mod Masks
+pub mod Ballots
+pub mod Least
+pub mod Counts

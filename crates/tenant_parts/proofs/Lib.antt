@@ -1,0 +1,3 @@
+pub mod LastReplies
+pub mod Doing
+pub mod TenantSteps
