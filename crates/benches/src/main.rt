@@ -5,14 +5,15 @@
 #![tactic(auto)]
 
 use anyhow::{Result, anyhow};
-use bench_parts::{Measures, lanes, lms, machine, messages, records, replica, service};
+use bench_code::{lanes, machine, service};
+use bench_common::Measures;
+use bench_replica::{records, replica};
+use bench_wire::{lms, messages};
 use std::env;
 use std::fs::Files;
 use std::sync::Wait;
 use std::thread::Threads;
 
-mod peak;
-mod threads;
 mod world;
 
 /// The words of the parts.
@@ -54,7 +55,7 @@ fn run<R: Measures + Files + Threads + Wait + Copy + Send + Sync + Drop + 'stati
         "replica" => replica::run(rt, work),
         "service" => service::run(rt, work),
         "world" => world::run(rt, work),
-        "threads" => threads::run(rt, work),
+        "threads" => bench_threads::run(rt, work),
         "lanes" => lanes::run(rt, work),
         _ => Err(anyhow!(
             "the first word is none of lms, messages, machine, records, replica, service, world, threads and lanes"

@@ -4,7 +4,7 @@
 //! script has taken at most.
 
 use anyhow::{Result, anyhow};
-use bench_parts::Measures;
+use bench_common::Measures;
 use std::fs::Files;
 
 mod floor;

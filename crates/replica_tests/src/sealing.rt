@@ -1,7 +1,7 @@
 ghost use Rattle.std.specs.Prelude.{◌≡◌};
 
 use crate::messages::vote;
-use crate::view_messages::replicas;
+use crate::view_messages::{numbers, replicas};
 use host_types::Config;
 use seal::{Checked, CheckedList, VoteKind};
 use std::alloc::Global;
@@ -17,15 +17,6 @@ const VOTES: &str = "\
 3 2 7 => Commit 0 1 7 of 3\n\
 1 3 7 => -\n\
 ";
-
-// The numbers of a line.
-fn numbers(text: &str) -> Result<[u8; 3], Fail> {
-    let mut numbers = [0; 3];
-    for (number, word) in numbers.iter_mut().zip(text.split(' ')) {
-        *number = word.parse()?;
-    }
-    Ok(numbers)
-}
 
 fn name_of(kind: VoteKind) -> &'static str {
     match kind {
@@ -62,7 +53,7 @@ fn votes_and_lists_of_messages(rt: HostRuntime) -> Result<(), Fail> {
     let (mut signers, config) = replicas(rt.alloc(), 5)?;
     for line in VOTES.lines() {
         let (said, wanted) = line.split_once(" => ").ok_or("no vote")?;
-        let [id, kind, digest] = numbers(said)?;
+        let [id, kind, digest] = numbers(said, " ")?;
         let message = vote(rt.alloc(), &config, &mut signers, id, kind, digest)?;
         assert!(rt;
             vote_text(rt.alloc(), &message)?.as_str() == wanted,

@@ -3,6 +3,7 @@
 ghost use Rattle.std.specs.Prelude.{◌≡◌, IfOk};
 
 use crate::messages::{checkpoint, config, signers};
+use crate::view_messages::numbers;
 use checkpoints::{CheckpointFault, Checkpoints};
 use host_types::{Bytes, Config, Digest, SeqNo};
 use lms_tree::Signer;
@@ -51,15 +52,6 @@ const NOTES: &str = "\
 0 0 7 => Old 7\n\
 ";
 
-/// The numbers of a Checkpoint.
-fn checkpoint_of(said: &str) -> Result<[u8; 3], Fail> {
-    let mut numbers = [0; 3];
-    for (number, word) in numbers.iter_mut().zip(said.split(' ')) {
-        *number = word.parse()?;
-    }
-    Ok(numbers)
-}
-
 /// The name of a fault, `-` for none.
 fn name_of(fault: Option<CheckpointFault>) -> &'static str {
     match fault {
@@ -86,7 +78,7 @@ fn answers(
     for line in table.lines() {
         let (said, wanted) = line.split_once(" => ").ok_or("no answer")?;
         let (fault, answer) = wanted.split_once(" ").ok_or("no digest")?;
-        let [id, number, digest] = checkpoint_of(said)?;
+        let [id, number, digest] = numbers(said, " ")?;
         let (number, digest) = (SeqNo(u64::from(number)), Digest([digest; 32]));
         let message = checkpoint(alloc, config, signers, id, number, digest)?;
         let found = name_of(note(kept, &message));

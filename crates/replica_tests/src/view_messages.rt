@@ -47,7 +47,7 @@ pub fn proposal(view: u32, number: u64, digest: u8) -> PrePrepare {
 }
 
 /// The numbers of a text between these signs, three at most.
-fn numbers(text: &str, between: &str) -> Result<[u32; 3], Fail> {
+pub fn numbers(text: &str, between: &str) -> Result<[u8; 3], Fail> {
     let mut numbers = [0; 3];
     for (number, word) in numbers.iter_mut().zip(text.split(between)) {
         *number = word.parse()?;
@@ -58,7 +58,7 @@ fn numbers(text: &str, between: &str) -> Result<[u32; 3], Fail> {
 /// The proposal of `VIEW/NUMBER/DIGEST`.
 pub fn proposal_of(text: &str) -> Result<PrePrepare, Fail> {
     let [view, number, digest] = numbers(text, "/")?;
-    Ok(proposal(view, u64::from(number), u8::try_from(digest)?))
+    Ok(proposal(u32::from(view), u64::from(number), digest))
 }
 
 /// The certificate of `VIEW/NUMBER/DIGEST by SIGNER:DIGEST ..`.
@@ -86,9 +86,9 @@ fn prepares(
         let prepare = Prepare {
             view: proposal.view,
             number: proposal.number,
-            digest: digest_of(u8::try_from(digest)?),
+            digest: digest_of(digest),
         };
-        prepares.push(signed(alloc, signers, u8::try_from(id)?, prepare)?)?;
+        prepares.push(signed(alloc, signers, id, prepare)?)?;
     }
     Ok(prepares)
 }
@@ -109,8 +109,8 @@ fn proof(
     let mut checkpoints = Vec::new(alloc);
     for word in text.split(' ') {
         let [id, number, digest] = numbers(word, ":")?;
-        let said = checkpoint(u64::from(number), u8::try_from(digest)?);
-        checkpoints.push(signed(alloc, signers, u8::try_from(id)?, said)?)?;
+        let said = checkpoint(u64::from(number), digest);
+        checkpoints.push(signed(alloc, signers, id, said)?)?;
     }
     Ok(checkpoints)
 }

@@ -1,9 +1,9 @@
 //! What scripts can't do without: keys, signatures and openings alone.
 
 use anyhow::{Result, anyhow};
-use bench_parts::members::config;
-use bench_parts::signing::message_bytes;
-use bench_parts::{Measures, ProcessorTime};
+use bench_common::members::config;
+use bench_common::signing::message_bytes;
+use bench_common::{Measures, ProcessorTime};
 use host_types::{Config, Digest, PublicKey, SeqNo, View};
 use lms_tree::{Height, Signer, verify};
 use pbft_codec::{Body, Commit, Role};

@@ -1,10 +1,10 @@
 //! The memory that a script takes.
 
-use crate::peak::{peak, print_within};
 use crate::world::floor::commit;
 use crate::world::scripts::{DELIVERY, VAIN_DELIVERY, followed, output_of, queued};
 use anyhow::Result;
-use bench_parts::Measures;
+use bench_common::Measures;
+use bench_common::peak::{peak, print_within};
 use std::fs::Files;
 
 /// What a script with the most deliveries of a step may take, in KiB.

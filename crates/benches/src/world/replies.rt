@@ -4,7 +4,7 @@ ghost use Rattle.std.specs.Prelude.{◌≡◌, IfOk};
 
 use crate::world::floor::replica_signer;
 use anyhow::{Result, anyhow};
-use bench_parts::{Measures, ProcessorTime, signing};
+use bench_common::{Measures, ProcessorTime, signing};
 use client_session::Session;
 use host_types::{Bytes, ClientEntry, ClientId, Config, SeqNo, TenantId, View};
 use lms_tree::Signer;

@@ -1,7 +1,7 @@
 //! Scripts as texts, and what running them takes.
 
 use anyhow::{Result, anyhow};
-use bench_parts::{Measures, ProcessorTime};
+use bench_common::{Measures, ProcessorTime};
 use std::alloc::{AllocError, Global};
 use world_script::{Played, run_script};
 

@@ -3,8 +3,8 @@
 use crate::world::floor::{nanoseconds_of_keys, nanoseconds_of_signing, nanoseconds_of_verifying};
 use crate::world::scripts::{CALLS, OPENED, SIGNED, requests};
 use anyhow::{Result, anyhow};
-use bench_parts::ratio::{Comparison, Limit, require_within_limits};
-use bench_parts::{Measures, ProcessorTime};
+use bench_common::ratio::{Comparison, Limit, require_within_limits};
+use bench_common::{Measures, ProcessorTime};
 use world_script::Unwatched;
 use world_trace::{Searched, Seeds, explore_script};
 

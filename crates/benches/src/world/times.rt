@@ -10,8 +10,8 @@ use crate::world::scripts::{
     requests, steps,
 };
 use anyhow::{Result, anyhow};
-use bench_parts::Measures;
-use bench_parts::ratio::{Comparison, Limit, require_within_limits};
+use bench_common::Measures;
+use bench_common::ratio::{Comparison, Limit, require_within_limits};
 use std::alloc::Global;
 
 const ROUNDS: u32 = 9;

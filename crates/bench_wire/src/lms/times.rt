@@ -1,0 +1,173 @@
+//! Times against as many one-block hashes, in one run: the least of a few rounds of each.
+
+use crate::lms::counts::{blocks_of, key_blocks, sign_blocks, verify_blocks};
+use crate::lms::levels;
+use anyhow::{Result, anyhow};
+use bench_common::Measures;
+use bench_common::ratio::{Limit, Ratio, require_within_limits};
+use host_types::PublicKey;
+use lms_tree::{Height, Signer, verify};
+use sha2::{Digest, Sha256};
+use std::time::{Clock, Instant};
+
+pub(crate) const ID: [u8; 16] = [1; 16];
+
+pub(crate) const SECRET: [u8; 32] = [2; 32];
+
+pub(crate) const MESSAGE: [u8; 40] = [3; 40];
+
+/// The bytes of a long message.
+const LONG: usize = 1_000_000;
+
+/// What a work may take of its hashes.
+const LIMIT: Limit = Limit::Thousandths(1300);
+
+/// Hashes blocks of 55 bytes, each of which holds the digest before.
+fn hashes(count: u64) -> u8 {
+    let mut input = [7u8; 55];
+    for _ in 0..count {
+        let digest = Sha256::digest(&input);
+        input[23..].copy_from_slice(&digest);
+    }
+    input[23]
+}
+
+pub(crate) fn nanoseconds_of_hashes(rt: &impl Clock, count: u64) -> Result<u128> {
+    let start = Instant::now(rt)?;
+    let last = hashes(count);
+    let taken = start.elapsed(rt)?.as_nanos();
+    // The digest is used, so that no compiler leaves the hashes out.
+    Ok(taken.saturating_add(u128::from(last / 255)))
+}
+
+/// Prints a ratio, and returns whether it is within the limit.
+pub(crate) fn print_ratio(
+    rt: &impl Print,
+    work: &str,
+    blocks: u64,
+    taken: u128,
+    hashed: u128,
+) -> Result<bool> {
+    let ratio = Ratio::new(taken, hashed, LIMIT);
+    println!(rt; "{work}: {blocks} blocks, {taken} ns, as bare hashes {hashed} ns, {ratio}")?;
+    Ok(ratio.is_within_limit())
+}
+
+/// The two floors: one hash of one block, and a block of a long message.
+fn print_floors(rt: &impl Measures) -> Result<()> {
+    let message = Vec::from_elem(rt.alloc(), 7u8, LONG)?;
+    let mut one = u128::MAX;
+    let mut long = u128::MAX;
+    for _ in 0..20 {
+        one = one.min(nanoseconds_of_hashes(rt, 10_000)?);
+        let start = Instant::now(rt)?;
+        let digest = Sha256::digest(&message);
+        let taken = start.elapsed(rt)?.as_nanos();
+        long = long.min(taken.saturating_add(u128::from(digest[0] / 255)));
+    }
+    println!(rt;
+        "one hash of one block: {} ns, a block of a long message: {} ns",
+        one / 10_000,
+        long / u128::from(blocks_of(LONG as u64).max(1))
+    )?;
+    Ok(())
+}
+
+/// The time of making a key of height 10.
+fn nanoseconds_of_key(rt: &impl Measures) -> Result<u128> {
+    let start = Instant::now(rt)?;
+    let _signer = Signer::from_seed(rt.alloc(), Height::H10, ID, SECRET)?;
+    Ok(start.elapsed(rt)?.as_nanos())
+}
+
+fn print_key(rt: &impl Measures) -> Result<bool> {
+    let blocks = key_blocks();
+    let mut made = u128::MAX;
+    let mut hashed = u128::MAX;
+    for _ in 0..5 {
+        made = made.min(nanoseconds_of_key(rt)?);
+        hashed = hashed.min(nanoseconds_of_hashes(rt, blocks)?);
+    }
+    print_ratio(rt, "key of height 10", blocks, made, hashed)
+}
+
+/// A signature, and the time of making it.
+pub(crate) fn timed_signature(rt: &impl Clock, signer: &mut Signer) -> Result<(Vec<u8>, u128)> {
+    let start = Instant::now(rt)?;
+    let sig = signer.sign(&MESSAGE)?;
+    let taken = start.elapsed(rt)?.as_nanos();
+    Ok((sig, taken))
+}
+
+/// The least time of a block's share of a signature, and of a bare hash, over rounds of 100 signatures:
+/// each leaf signs but once, and each signature takes its own number of blocks.
+fn print_signatures(rt: &impl Measures, signer: &mut Signer) -> Result<bool> {
+    let mut all = 0u64;
+    let mut signed = u128::MAX;
+    let mut hashed = u128::MAX;
+    for _ in 0..10 {
+        let mut blocks = 0u64;
+        let mut taken = 0u128;
+        for _ in 0..100 {
+            let (sig, own) = timed_signature(rt, signer)?;
+            taken = taken.saturating_add(own);
+            blocks = blocks.saturating_add(sign_blocks(&ID, &MESSAGE, &sig));
+        }
+        let share = u128::from(blocks.max(1));
+        signed = signed.min(taken.saturating_mul(1000) / share);
+        let bare = nanoseconds_of_hashes(rt, blocks)?;
+        hashed = hashed.min(bare.saturating_mul(1000) / share);
+        all = all.saturating_add(blocks);
+    }
+    print_ratio(rt, "1,000 signatures, by 1,000 blocks", all, signed, hashed)
+}
+
+/// Prints what one signature's verification takes, over and over, against its blocks.
+pub(crate) fn print_verifying(
+    rt: &impl Measures,
+    work: &str,
+    key: &PublicKey,
+    sig: &[u8],
+    blocks: u64,
+) -> Result<bool> {
+    let mut verified = u128::MAX;
+    let mut hashed = u128::MAX;
+    for _ in 0..20 {
+        let start = Instant::now(rt)?;
+        for _ in 0..100 {
+            if verify(key, &MESSAGE, sig).is_err() {
+                return Err(anyhow!("the signature is not valid"));
+            }
+        }
+        verified = verified.min(start.elapsed(rt)?.as_nanos());
+        hashed = hashed.min(nanoseconds_of_hashes(rt, blocks.saturating_mul(100))?);
+    }
+    print_ratio(rt, work, blocks, verified / 100, hashed / 100)
+}
+
+fn print_verification(rt: &impl Measures, signer: &mut Signer) -> Result<bool> {
+    let key = signer.public_key();
+    let sig = signer.sign(&MESSAGE)?;
+    let blocks = verify_blocks(&ID, &MESSAGE, &sig, 10);
+    print_verifying(rt, "verification", &key, &sig, blocks)
+}
+
+/// Prints what two verifications and signatures of a key take, and returns whether all are within the limit.
+fn print_of_key(rt: &impl Measures, signer: &mut Signer) -> Result<bool> {
+    let verified = print_verification(rt, signer)?;
+    let verified_again = print_verification(rt, signer)?;
+    let signed = print_signatures(rt, signer)?;
+    Ok(verified && verified_again && signed)
+}
+
+/// Prints the floors and all ratios; an error where one passes the limit.
+pub(crate) fn print_times(rt: &impl Measures) -> Result<()> {
+    print_floors(rt)?;
+    let key = print_key(rt)?;
+    let of_key = print_of_key(
+        rt,
+        &mut Signer::from_seed(rt.alloc(), Height::H10, ID, SECRET)?,
+    )?;
+    let levels = levels::print_times(rt)?;
+    require_within_limits(key && of_key && levels)
+}

@@ -1,4 +1,0 @@
-use Rattle.benches.proofs.threads.calls.call_at_once.Given as goal
-
-abbrev pub decreases-loop-thread : goal.decreases-loop-thread
-decreases-loop-thread l = goal.left-loop-thread l
