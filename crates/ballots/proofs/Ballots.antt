@@ -11,7 +11,7 @@ use Rattle.std.proofs.Math.ListN.{get_or-eq_default}
 use Rattle.host_types.specs.Configuration.{Configuration, replicas_for}
 use Rattle.std.proofs.lemmas.Slice.Eq.{bytes_eq-Decides}
 use Rattle.host_types.specs.declared.Digest.{Digest}
-use Rattle.seal.specs.Opening.{CheckedMessage}
+use Rattle.pbft_model.specs.Opening.{CheckedMessage}
 use Rattle.ballots.specs.Ballots.{Ballot, IsTallied, AreUnder, AreListed, recorded, digest_in, vote_at, voted_for, is_for, is_digest, mask_at, mask_of}
 use Rattle.ballots.proofs.Masks.{mask_more, same_mask, bit_unset}
 

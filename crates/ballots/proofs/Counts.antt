@@ -8,7 +8,7 @@ use Rattle.std.specs.Int.{from_bool}
 use Rattle.host_types.specs.Configuration.{Configuration, IsConfiguration, replicas_for}
 use Rattle.pbft_model.specs.Setup.{count}
 use Rattle.pbft_model.specs.Certificates.{certified, has_quorum}
-use Rattle.seal.specs.Opening.{CheckedMessage}
+use Rattle.pbft_model.specs.Opening.{CheckedMessage}
 use Rattle.ballots.specs.Ballots.{Ballot, AreListed, vote_at, voted_for, is_for}
 
 -- none above n pass
@@ -46,9 +46,9 @@ all_but test one (suc n) lt = but_step test one n lt (λ below. all_but test one
 
 -- ---- what the counts say of a digest
 
-pub quorum_is : (c : Configuration) (votes : Ballot) (digest : List ℕ) (hash : List ℕ → List ℕ) (f n : ℕ) → IsConfiguration c → AreListed c votes → f ≡ c.f → n ≡ count (voted_for digest votes) 10
-    → nat_lt (2 * f) n ≡ has_quorum (record { config = c; hash = hash }) (voted_for digest votes)
-quorum_is c votes digest hash f n k h is e =
+pub quorum_is : (c : Configuration) (votes : Ballot) (digest : List ℕ) (f n : ℕ) → IsConfiguration c → AreListed c votes → f ≡ c.f → n ≡ count (voted_for digest votes) 10
+    → nat_lt (2 * f) n ≡ has_quorum c (voted_for digest votes)
+quorum_is c votes digest f n k h is e =
     let more : suc (2 * f) ≡ 2 * c.f + 1 = omega (arith, is) in
     ap (λ (m : ℕ). nat_le m n) more ∙ ap (nat_le (2 * c.f + 1)) (e ∙ count_listed c votes digest k h)
 
@@ -68,10 +68,10 @@ as_digit : (b : Bool) → from_bool b ≡ cond b 1 0
 as_digit true = refl
 as_digit false = refl
 
-pub backups_are : (c : Configuration) (votes : Ballot) (digest : List ℕ) (hash : List ℕ → List ℕ) (view f n p one : ℕ) (r : Option (Bor CheckedMessage)) → IsConfiguration c → AreListed c votes → f ≡ c.f
+pub backups_are : (c : Configuration) (votes : Ballot) (digest : List ℕ) (view f n p one : ℕ) (r : Option (Bor CheckedMessage)) → IsConfiguration c → AreListed c votes → f ≡ c.f
     → n ≡ count (voted_for digest votes) 10 → p ≡ view % replicas_for c.f → option_copied r ≡ cond (voted_for digest votes p) (vote_at votes p) None → one ≡ from_bool (is_some r)
-    → nat_le (2 * f + one) n ≡ certified (record { config = c; hash = hash }) (λ i. true) (voted_for digest votes) view
-backups_are c votes digest hash view f n p one r k h is e at found o =
+    → nat_le (2 * f + one) n ≡ certified c (λ i. true) (voted_for digest votes) view
+backups_are c votes digest view f n p one r k h is e at found o =
     let below : view % replicas_for c.f < replicas_for c.f = mod-lt view (omega arith) in
     let parts = all_but (voted_for digest votes) (view % replicas_for c.f) (replicas_for c.f) below in
     let was : one ≡ cond (voted_for digest votes (view % replicas_for c.f)) 1 0 = o ∙ as_digit (is_some r) ∙ ap (λ (b : Bool). cond b 1 0) (is_first r digest (vote_at votes p) found ∙ ap (voted_for digest votes) at) in

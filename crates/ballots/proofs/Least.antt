@@ -6,9 +6,9 @@ use Rattle.std.specs.Option.{option_map}
 use Rattle.std.proofs.lemmas.Bool.{lt-ltb, le-ltb}
 use Rattle.pbft_model.specs.Setup.{count, numbers_from, is_least, gathered}
 use Rattle.pbft_model.proofs.Gathering.{numbers_last, filter_append}
-use Rattle.pbft_codec.specs.declared.body.Body.{Body}
-use Rattle.pbft_codec.specs.declared.signed.Signed.{Signed}
-use Rattle.seal.specs.Opening.{CheckedMessage}
+use Rattle.pbft_model.specs.Body.{Body}
+use Rattle.pbft_model.specs.Signed.{Signed}
+use Rattle.pbft_model.specs.Opening.{CheckedMessage}
 use Rattle.ballots.specs.Ballots.{Ballot, vote_at, voted_for, is_for, least_below}
 
 pub append_nil : {X : Type 0} (xs : List X) → xs ++ [] ≡ xs

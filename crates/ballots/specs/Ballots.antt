@@ -1,16 +1,16 @@
 -- Layer: what is recorded of the votes of replicas on one question, such as which digest has a number.
-use Rattle.std.specs.Prelude.{◌≡◌, ℕ, zero, suc, ◌+◌, ◌*◌, ◌^◌, ◌≤◌, Bool, false, cond, List, Option, Some, None, length, slice_index_or, slice_set, bytes_eq, unwrap_or}
+use Rattle.std.specs.Prelude.{◌≡◌, ℕ, zero, suc, ◌+◌, ◌*◌, ◌^◌, ◌≤◌, Bool, false, not, cond, List, Option, Some, None, is_some, length, slice_index_or, slice_set, bytes_eq, unwrap_or}
 use Rattle.std.specs.Option.{option_map}
 use Rattle.std.specs.Ordering.{nat_cmp}
 use Rattle.std.specs.Cmp.Lexicographic.{slice_cmp}
 use Rattle.std.specs.BTreeMap as tree
 use Rattle.host_types.specs.Configuration.{Configuration, replicas_for}
 use Rattle.host_types.specs.declared.Digest.{Digest}
-use Rattle.pbft_codec.specs.declared.body.Body.{Body}
-use Rattle.pbft_codec.specs.declared.body.Body.TheVariants as bodies
-use Rattle.pbft_codec.specs.declared.signed.Signed.{Signed}
+use Rattle.pbft_model.specs.Body.{Body}
+use Rattle.pbft_model.specs.Body.TheVariants as bodies
+use Rattle.pbft_model.specs.Signed.{Signed}
 use Rattle.pbft_model.specs.Setup.{is_least, gathered}
-use Rattle.seal.specs.Opening.{CheckedMessage}
+use Rattle.pbft_model.specs.Opening.{CheckedMessage}
 
 -- The digest that a message names: that of a PrePrepare's, a Prepare's or a Commit's request, or of a
 -- Checkpoint's state.
@@ -19,12 +19,7 @@ digest_in (bodies.PrePrepare p) = Some p.digest
 digest_in (bodies.Prepare p) = Some p.digest
 digest_in (bodies.Commit p) = Some p.digest
 digest_in (bodies.Checkpoint p) = Some p.digest
-digest_in (bodies.Request b) = None
-digest_in (bodies.Reply b) = None
-digest_in (bodies.ViewChange b) = None
-digest_in (bodies.NewView b) = None
-digest_in (bodies.Fetch b) = None
-digest_in (bodies.Snapshot b) = None
+digest_in _ = None
 
 -- At the index of each replica the message that it voted by, if it has voted.
 abbrev pub Ballot : Type 0
@@ -64,6 +59,20 @@ least_below n many digest votes =
 
 abbrev pub least_votes : ℕ → List ℕ → Ballot → List (Signed Body)
 least_votes many digest votes = least_below 10 many digest votes
+
+-- ---- the first counts
+
+-- there is a vote, for another digest
+abbrev pub is_for_other : List ℕ → Option CheckedMessage → Bool
+is_for_other digest None = false
+is_for_other digest (Some m) = not (is_for digest (Some m))
+
+abbrev pub first_of : CheckedMessage → Option CheckedMessage → Option CheckedMessage
+first_of m None = Some m
+first_of m (Some first) = Some first
+
+abbrev pub with_first : CheckedMessage → Ballot → Ballot
+with_first m votes = cond (is_some (vote_at votes m.message.id)) votes (recorded votes m)
 
 -- ---- Internal: masks
 

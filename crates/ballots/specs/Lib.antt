@@ -1,1 +1,2 @@
 pub mod Ballots
+pub mod ByKey

@@ -12,8 +12,7 @@ ghost use Rattle.ballots.specs.Ballots.{AreListed, AreUnder, digest_in, least_vo
 
 use host_types::limits::MAX_REPLICAS;
 use host_types::{Config, Digest, ReplicaId, View};
-use pbft_codec::Body;
-use seal::{Checked, CheckedList};
+use pbft_model::{Body, Checked, CheckedList};
 use std::alloc::{AllocError, Global};
 use std::collections::BTreeMap;
 use std::marker::Model;
@@ -93,7 +92,7 @@ impl Votes {
     /// alone. It takes no memory.
     pub fn has_quorum(&self, config: &Config, digest: &Digest) -> bool
         requires { AreListed config.now self.now }
-        ensures { (hash : List ℕ → List ℕ) → result ≡ has_quorum (record { config = config.now; hash = hash }) (voted_for digest.now.0 self.now) }
+        ensures { result ≡ has_quorum config.now (voted_for digest.now.0 self.now) }
     {
         self.count(digest) > 2 * u32::from(config.f())
     }
@@ -102,7 +101,7 @@ impl Votes {
     /// of listed replicas alone. It takes no memory.
     pub fn has_backups(&self, config: &Config, view: View, digest: &Digest) -> bool
         requires { AreListed config.now self.now }
-        ensures { (hash : List ℕ → List ℕ) → result ≡ certified (record { config = config.now; hash = hash }) (λ i. true) (voted_for digest.now.0 self.now) view.0 }
+        ensures { result ≡ certified config.now (λ i. true) (voted_for digest.now.0 self.now) view.0 }
     {
         let of_primary = self.vote_for(config.primary(view), digest).is_some();
         self.count(digest) >= 2 * u32::from(config.f()) + u32::from(of_primary)

@@ -85,15 +85,11 @@ load_found size.Dw true h = absurd h
 
 store_number_found : (s : Size) → form_of_word (word_of (form.StoreImm s)) ≡ Some (form.StoreImm s)
 store_number_found size.B = refl
-store_number_found size.H = refl
-store_number_found size.W = refl
-store_number_found size.Dw = refl
+store_number_found _ = refl
 
 store_found : (s : Size) → form_of_word (word_of (form.Store s)) ≡ Some (form.Store s)
 store_found size.B = refl
-store_found size.H = refl
-store_found size.W = refl
-store_found size.Dw = refl
+store_found _ = refl
 
 test_found : (t : Test) (narrow : Bool) → form_of_word (word_of (form.Test t narrow)) ≡ Some (form.Test t narrow)
 test_found test.Jeq false = refl

@@ -104,15 +104,11 @@ load_wordy size.Dw true = refl
 
 number_wordy : (s : Size) → list_all wordy (word_of (form.StoreImm s)) ≡ true
 number_wordy size.B = refl
-number_wordy size.H = refl
-number_wordy size.W = refl
-number_wordy size.Dw = refl
+number_wordy _ = refl
 
 store_wordy : (s : Size) → list_all wordy (word_of (form.Store s)) ≡ true
 store_wordy size.B = refl
-store_wordy size.H = refl
-store_wordy size.W = refl
-store_wordy size.Dw = refl
+store_wordy _ = refl
 
 test_wordy : (t : Test) (b : Bool) → list_all wordy (word_of (form.Test t b)) ≡ true
 test_wordy test.Jeq false = refl
@@ -143,16 +139,11 @@ words_wordy (form.Alu a w) = alu_wordy a w
 words_wordy (form.Neg w) = alu_wordy op.Neg w
 words_wordy (form.Extend a w) = alu_wordy a w
 words_wordy (form.Swap k w) = swap_wordy k w
-words_wordy form.LoadImm = refl
 words_wordy (form.Load s b) = load_wordy s b
 words_wordy (form.StoreImm s) = number_wordy s
 words_wordy (form.Store s) = store_wordy s
-words_wordy form.Jump = refl
-words_wordy form.JumpLong = refl
 words_wordy (form.Test t b) = test_wordy t b
-words_wordy form.CallHelper = refl
-words_wordy form.CallLocal = refl
-words_wordy form.Exit = refl
+words_wordy _ = refl
 
 wordy_plain : (b : ℕ) → wordy b ≡ true → plain b ≡ true
 wordy_plain b h = and_l (plain b) (not (ends_word b)) h

@@ -81,14 +81,7 @@ aimed (insn.JumpLong o) z = if is_within (2 ^ 31) z then Some (insn.JumpLong z) 
 aimed (insn.CallLocal o) z = if is_within (2 ^ 31) z then Some (insn.CallLocal z) else None
 aimed (insn.Test narrow test dst src o) z =
     if is_within (2 ^ 15) z then Some (insn.Test narrow test dst src z) else None
-aimed (insn.Alu width op dst src) z = None
-aimed (insn.Swap kind width dst) z = None
-aimed (insn.LoadImm dst value) z = None
-aimed (insn.Load size signed dst base o) z = None
-aimed (insn.StoreImm size base o imm) z = None
-aimed (insn.Store size base o src) z = None
-aimed (insn.CallHelper helper) z = None
-aimed insn.Exit z = None
+aimed _ z = None
 
 abbrev pub listed : Option Insn → Result (List Insn) AsmKind
 listed None = Err Label

@@ -33,10 +33,7 @@ None >>? k = None
 -- Of two faults of a line's operands the one that is reported.
 abbrev pub first_kind : AsmKind → AsmKind → AsmKind
 first_kind Operand f = Operand
-first_kind kind.Word f = f
-first_kind Number f = f
-first_kind kind.Label f = f
-first_kind kind.Memory f = f
+first_kind _ f = f
 
 -- Both of two operands.
 abbrev pub pair : {A B : Type 0} → Result A AsmKind → Result B AsmKind → Result (A × B) AsmKind

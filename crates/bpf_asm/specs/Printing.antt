@@ -68,23 +68,7 @@ memory_operand_text base offset = 91 ∷ (register_text base ++ with_sign offset
 -- The operands of arithmetic: one of NEG, else two.
 abbrev pub alu_operands : AluOp → Reg → Source → List (List ℕ)
 alu_operands op.Neg dst src = register_text dst ∷ []
-alu_operands op.Movsx8 dst src = register_text dst ∷ source_text src ∷ []
-alu_operands op.Movsx16 dst src = register_text dst ∷ source_text src ∷ []
-alu_operands op.Movsx32 dst src = register_text dst ∷ source_text src ∷ []
-alu_operands op.Add dst src = register_text dst ∷ source_text src ∷ []
-alu_operands op.Sub dst src = register_text dst ∷ source_text src ∷ []
-alu_operands op.Mul dst src = register_text dst ∷ source_text src ∷ []
-alu_operands op.Div dst src = register_text dst ∷ source_text src ∷ []
-alu_operands op.Sdiv dst src = register_text dst ∷ source_text src ∷ []
-alu_operands op.Or dst src = register_text dst ∷ source_text src ∷ []
-alu_operands op.And dst src = register_text dst ∷ source_text src ∷ []
-alu_operands op.Lsh dst src = register_text dst ∷ source_text src ∷ []
-alu_operands op.Rsh dst src = register_text dst ∷ source_text src ∷ []
-alu_operands op.Mod dst src = register_text dst ∷ source_text src ∷ []
-alu_operands op.Smod dst src = register_text dst ∷ source_text src ∷ []
-alu_operands op.Xor dst src = register_text dst ∷ source_text src ∷ []
-alu_operands op.Mov dst src = register_text dst ∷ source_text src ∷ []
-alu_operands op.Arsh dst src = register_text dst ∷ source_text src ∷ []
+alu_operands _ dst src = register_text dst ∷ source_text src ∷ []
 
 -- The texts of an instruction's operands.
 abbrev pub operands_of : Insn → List (List ℕ)

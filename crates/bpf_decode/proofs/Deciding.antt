@@ -208,19 +208,10 @@ abbrev IsVariant : Operation → AluOp → Type 0
 IsVariant o v = (operation_of v ≡ o) × (uses_offset o ≡ false → offset_of v ≡ pos 0)
 
 all_variants : (o : Operation) → AllByRecursion (IsVariant o) (variants o)
-all_variants Add = ((refl, λ _. refl), tt)
-all_variants Sub = ((refl, λ _. refl), tt)
-all_variants Mul = ((refl, λ _. refl), tt)
 all_variants Div = ((refl, λ _. refl), ((refl, λ e. absurd cc), tt))
-all_variants Or = ((refl, λ _. refl), tt)
-all_variants And = ((refl, λ _. refl), tt)
-all_variants Lsh = ((refl, λ _. refl), tt)
-all_variants Rsh = ((refl, λ _. refl), tt)
-all_variants Neg = ((refl, λ _. refl), tt)
 all_variants Mod = ((refl, λ _. refl), ((refl, λ e. absurd cc), tt))
-all_variants Xor = ((refl, λ _. refl), tt)
 all_variants Mov = ((refl, λ _. refl), ((refl, λ e. absurd cc), ((refl, λ e. absurd cc), ((refl, λ e. absurd cc), tt))))
-all_variants Arsh = ((refl, λ _. refl), tt)
+all_variants _ = ((refl, λ _. refl), tt)
 
 -- what holds of a variant that was found
 record IsFound (w : AluWidth) (o : Operation) (k : SourceKind) (z : ℤ) (v : AluOp) : Type 0 where

@@ -41,38 +41,16 @@ abbrev Again : Opcode → Type 0
 Again o = opcode_of (opcode_byte o) ≡ Some o
 
 alu_again : (o : Operation) → Again (Alu W32 o K) × Again (Alu W64 o K) × (has_operand o ≡ true → Again (Alu W32 o X) × Again (Alu W64 o X))
-alu_again Add = (refl, refl, λ _. (refl, refl))
-alu_again Sub = (refl, refl, λ _. (refl, refl))
-alu_again Mul = (refl, refl, λ _. (refl, refl))
-alu_again Div = (refl, refl, λ _. (refl, refl))
-alu_again Or = (refl, refl, λ _. (refl, refl))
-alu_again And = (refl, refl, λ _. (refl, refl))
-alu_again Lsh = (refl, refl, λ _. (refl, refl))
-alu_again Rsh = (refl, refl, λ _. (refl, refl))
 alu_again Neg = (refl, refl, λ h. absurd cc)
-alu_again Mod = (refl, refl, λ _. (refl, refl))
-alu_again Xor = (refl, refl, λ _. (refl, refl))
-alu_again Mov = (refl, refl, λ _. (refl, refl))
-alu_again Arsh = (refl, refl, λ _. (refl, refl))
+alu_again _ = (refl, refl, λ _. (refl, refl))
 
 test_again : (t : Test) → (Again (TestOf false t K) × Again (TestOf false t X)) × Again (TestOf true t K) × Again (TestOf true t X)
 test_again Jeq = ((refl, refl), refl, refl)
-test_again Jgt = ((refl, refl), refl, refl)
-test_again Jge = ((refl, refl), refl, refl)
-test_again Jset = ((refl, refl), refl, refl)
-test_again Jne = ((refl, refl), refl, refl)
-test_again Jsgt = ((refl, refl), refl, refl)
-test_again Jsge = ((refl, refl), refl, refl)
-test_again Jlt = ((refl, refl), refl, refl)
-test_again Jle = ((refl, refl), refl, refl)
-test_again Jslt = ((refl, refl), refl, refl)
-test_again Jsle = ((refl, refl), refl, refl)
+test_again _ = ((refl, refl), refl, refl)
 
 size_again : (s : Size) → Again (Load s false) × Again (StoreImm s) × Again (Store s)
 size_again B = (refl, refl, refl)
-size_again H = (refl, refl, refl)
-size_again W = (refl, refl, refl)
-size_again Dw = (refl, refl, refl)
+size_again _ = (refl, refl, refl)
 
 pub opcode_again : (o : Opcode) → IsOpcode o → opcode_of (opcode_byte o) ≡ Some o
 opcode_again (Alu W32 o K) h = (alu_again o).0
@@ -190,24 +168,8 @@ first_is (insn.CallLocal offset) = refl
 first_is insn.Exit = refl
 
 form_operand : (w : AluWidth) (o : AluOp) → has_form w o X ≡ true → has_operand (operation_of o) ≡ true
-form_operand w op.Add h = refl
-form_operand w op.Sub h = refl
-form_operand w op.Mul h = refl
-form_operand w op.Div h = refl
-form_operand w op.Sdiv h = refl
-form_operand w op.Or h = refl
-form_operand w op.And h = refl
-form_operand w op.Lsh h = refl
-form_operand w op.Rsh h = refl
 form_operand w op.Neg h = absurd cc
-form_operand w op.Mod h = refl
-form_operand w op.Smod h = refl
-form_operand w op.Xor h = refl
-form_operand w op.Mov h = refl
-form_operand w op.Movsx8 h = refl
-form_operand w op.Movsx16 h = refl
-form_operand w op.Movsx32 h = refl
-form_operand w op.Arsh h = refl
+form_operand w _ h = refl
 
 pub opcode_right : (x : Insn) → IsInsn x → IsOpcode (fields x).opcode
 opcode_right (insn.Alu w o dst (source.Imm value)) h = tt
@@ -305,16 +267,7 @@ same_insn x y hx hy first others =
 -- how many slots stand behind the first
 abbrev others_of : Opcode → ℕ
 others_of LoadImm = 1
-others_of (Alu w o s) = 0
-others_of (Swap kind) = 0
-others_of (Load size signed) = 0
-others_of (StoreImm size) = 0
-others_of (Store size) = 0
-others_of Jump = 0
-others_of JumpLong = 0
-others_of (TestOf narrow test s) = 0
-others_of Call = 0
-others_of Exit = 0
+others_of _ = 0
 
 others_is : (x : Insn) → length (other_slots x) ≡ others_of (fields x).opcode
 others_is (insn.Alu w o dst (source.Imm value)) = refl
@@ -346,23 +299,7 @@ operand_none o z h = test (has_operand o) refl where
 
 offset_none : (o : AluOp) → (not (uses_offset (operation_of o)) && not (int_eq (offset_of o) (pos 0))) ≡ false
 offset_none op.Add = refl
-offset_none op.Sub = refl
-offset_none op.Mul = refl
-offset_none op.Div = refl
-offset_none op.Sdiv = refl
-offset_none op.Or = refl
-offset_none op.And = refl
-offset_none op.Lsh = refl
-offset_none op.Rsh = refl
-offset_none op.Neg = refl
-offset_none op.Mod = refl
-offset_none op.Smod = refl
-offset_none op.Xor = refl
-offset_none op.Mov = refl
-offset_none op.Movsx8 = refl
-offset_none op.Movsx16 = refl
-offset_none op.Movsx32 = refl
-offset_none op.Arsh = refl
+offset_none _ = refl
 
 form_right : (x : Insn) → IsInsn x → (b : Option Slot) → take (length (other_slots x)) (slot_list b) ≡ other_slots x → form_fault (fields x).opcode (first_slot x) b ≡ None
 form_right (insn.Alu w o dst (source.Imm value)) h b e = rw (variant_again_of w o K h.0, offset_none o, operand_none (operation_of o) value h.2) refl
@@ -400,31 +337,11 @@ no_fault s b x h =
 
 operation_small : (o : Operation) → operation_bits o < 16
 operation_small Add = omega arith
-operation_small Sub = omega arith
-operation_small Mul = omega arith
-operation_small Div = omega arith
-operation_small Or = omega arith
-operation_small And = omega arith
-operation_small Lsh = omega arith
-operation_small Rsh = omega arith
-operation_small Neg = omega arith
-operation_small Mod = omega arith
-operation_small Xor = omega arith
-operation_small Mov = omega arith
-operation_small Arsh = omega arith
+operation_small _ = omega arith
 
 test_small : (t : Test) → test_bits t < 16
 test_small Jeq = omega arith
-test_small Jgt = omega arith
-test_small Jge = omega arith
-test_small Jset = omega arith
-test_small Jne = omega arith
-test_small Jsgt = omega arith
-test_small Jsge = omega arith
-test_small Jlt = omega arith
-test_small Jle = omega arith
-test_small Jslt = omega arith
-test_small Jsle = omega arith
+test_small _ = omega arith
 
 source_small : (s : SourceKind) → source_bit s < 2
 source_small K = omega arith
@@ -436,9 +353,7 @@ class_small W64 = omega arith
 
 size_small : (s : Size) → size_bits s < 4
 size_small B = omega arith
-size_small H = omega arith
-size_small W = omega arith
-size_small Dw = omega arith
+size_small _ = omega arith
 
 mode_small : (signed : Bool) → mode_bits signed < 8
 mode_small false = omega arith
@@ -471,23 +386,7 @@ zero_32 = search rules
 
 offset_fits : (o : AluOp) → FitsSigned w16 (offset_of o)
 offset_fits op.Add = search rules
-offset_fits op.Sub = search rules
-offset_fits op.Mul = search rules
-offset_fits op.Div = search rules
-offset_fits op.Sdiv = search rules
-offset_fits op.Or = search rules
-offset_fits op.And = search rules
-offset_fits op.Lsh = search rules
-offset_fits op.Rsh = search rules
-offset_fits op.Neg = search rules
-offset_fits op.Mod = search rules
-offset_fits op.Smod = search rules
-offset_fits op.Xor = search rules
-offset_fits op.Mov = search rules
-offset_fits op.Movsx8 = search rules
-offset_fits op.Movsx16 = search rules
-offset_fits op.Movsx32 = search rules
-offset_fits op.Arsh = search rules
+offset_fits _ = search rules
 
 swap_fits : (w : Width) → FitsSigned w32 (pos (swap_bits w))
 swap_fits width.W16 = search rules

@@ -81,17 +81,7 @@ module _ (s : Slot) (b : Option Slot) (narrow : s.opcode ≡ 24 → ⊥) where
 
   pub narrow_reads : (x : Insn) → Reads s None x → Reads s b x
   narrow_reads (insn.LoadImm dst value) r = absurd (narrow (sym (ap (λ (t : Slot). t.opcode) r.first)))
-  narrow_reads (insn.Alu width op dst src) r = record { in_range = r.in_range; first = r.first; others = refl }
-  narrow_reads (insn.Swap kind width dst) r = record { in_range = r.in_range; first = r.first; others = refl }
-  narrow_reads (insn.Load size signed dst base offset) r = record { in_range = r.in_range; first = r.first; others = refl }
-  narrow_reads (insn.StoreImm size base offset imm) r = record { in_range = r.in_range; first = r.first; others = refl }
-  narrow_reads (insn.Store size base offset src) r = record { in_range = r.in_range; first = r.first; others = refl }
-  narrow_reads (insn.Jump offset) r = record { in_range = r.in_range; first = r.first; others = refl }
-  narrow_reads (insn.JumpLong offset) r = record { in_range = r.in_range; first = r.first; others = refl }
-  narrow_reads (insn.Test narrow test dst src offset) r = record { in_range = r.in_range; first = r.first; others = refl }
-  narrow_reads (insn.CallHelper helper) r = record { in_range = r.in_range; first = r.first; others = refl }
-  narrow_reads (insn.CallLocal offset) r = record { in_range = r.in_range; first = r.first; others = refl }
-  narrow_reads insn.Exit r = record { in_range = r.in_range; first = r.first; others = refl }
+  narrow_reads _ r = record { in_range = r.in_range; first = r.first; others = refl }
 
 module _ (bytes : List ℕ) (small : AreBytes bytes) (k : ℕ) (inside : 8 * k + 8 ≤ length bytes) (whole : length bytes % 8 ≡ 0) where
   -- what is behind a slot

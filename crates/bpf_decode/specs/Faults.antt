@@ -39,44 +39,17 @@ is_not_zero z = not (int_eq z (pos 0))
 -- Whether a wide instruction lacks its second slot: it begins in the last one. (RFC 9669, 3.2)
 abbrev pub is_truncated : Opcode → Option Slot → Bool
 is_truncated LoadImm behind = not (is_some behind)
-is_truncated (Alu width operation source) behind = false
-is_truncated (Swap kind) behind = false
-is_truncated (Load size signed) behind = false
-is_truncated (StoreImm size) behind = false
-is_truncated (Store size) behind = false
-is_truncated Jump behind = false
-is_truncated JumpLong behind = false
-is_truncated (Test narrow test source) behind = false
-is_truncated Call behind = false
-is_truncated Exit behind = false
+is_truncated _ behind = false
 
 -- Whether the immediate of a byte swap is none of its widths. (RFC 9669, 4.2)
 abbrev pub has_bad_width : Opcode → Slot → Bool
 has_bad_width (Swap kind) slot = not (is_some (swap_width slot.imm))
-has_bad_width (Alu width operation source) slot = false
-has_bad_width LoadImm slot = false
-has_bad_width (Load size signed) slot = false
-has_bad_width (StoreImm size) slot = false
-has_bad_width (Store size) slot = false
-has_bad_width Jump slot = false
-has_bad_width JumpLong slot = false
-has_bad_width (Test narrow test source) slot = false
-has_bad_width Call slot = false
-has_bad_width Exit slot = false
+has_bad_width _ slot = false
 
 -- Whether the operation has no variant of the offset, in this class and with this source. (RFC 9669, 4.1)
 abbrev pub has_bad_offset : Opcode → Slot → Bool
 has_bad_offset (Alu width operation source) slot = not (is_some (variant_of width operation source slot.offset))
-has_bad_offset (Swap kind) slot = false
-has_bad_offset LoadImm slot = false
-has_bad_offset (Load size signed) slot = false
-has_bad_offset (StoreImm size) slot = false
-has_bad_offset (Store size) slot = false
-has_bad_offset Jump slot = false
-has_bad_offset JumpLong slot = false
-has_bad_offset (Test narrow test source) slot = false
-has_bad_offset Call slot = false
-has_bad_offset Exit slot = false
+has_bad_offset _ slot = false
 
 -- Whether the second slot of a wide instruction holds more than its immediate. (RFC 9669, 3.2)
 abbrev pub is_stray_half : Option Slot → Bool

@@ -211,24 +211,12 @@ operation_of op.Arsh = Arsh
 -- The offset of an arithmetic instruction: 1 of signed division and modulo, and the bits whose sign a move
 -- extends. (RFC 9669, 4.1)
 abbrev pub offset_of : AluOp → ℤ
-offset_of op.Add = pos 0
-offset_of op.Sub = pos 0
-offset_of op.Mul = pos 0
-offset_of op.Div = pos 0
 offset_of op.Sdiv = pos 1
-offset_of op.Or = pos 0
-offset_of op.And = pos 0
-offset_of op.Lsh = pos 0
-offset_of op.Rsh = pos 0
-offset_of op.Neg = pos 0
-offset_of op.Mod = pos 0
 offset_of op.Smod = pos 1
-offset_of op.Xor = pos 0
-offset_of op.Mov = pos 0
 offset_of op.Movsx8 = pos 8
 offset_of op.Movsx16 = pos 16
 offset_of op.Movsx32 = pos 32
-offset_of op.Arsh = pos 0
+offset_of _ = pos 0
 
 -- The variants of an operation that offsets tell apart; of the other operations the offset has no use. (RFC 9669, 4.1)
 abbrev pub variants : Operation → List AluOp

@@ -1,2 +1,3 @@
 pub mod Represents
 pub mod Stops
+pub use Rattle.bpf_verifier.specs.Verified

@@ -130,16 +130,6 @@ edge_within code a slot e sound one =
 
 -- the slot that a local call leads to, which lies in the code
 pub called_begins : (code : List Insn) (slot : ℕ) (x : Insn) (t : ℕ) → Stands code slot x → called slot x ≡ Some t → BeginsAt code t
-called_begins code slot (Alu width op dst src) t ok e = absurd cc
-called_begins code slot (Swap kind width dst) t ok e = absurd cc
-called_begins code slot (LoadImm dst value) t ok e = absurd cc
-called_begins code slot (Load size signed dst base offset) t ok e = absurd cc
-called_begins code slot (StoreImm size base offset imm) t ok e = absurd cc
-called_begins code slot (Store size base offset src) t ok e = absurd cc
-called_begins code slot (Jump offset) t ok e = absurd cc
-called_begins code slot (JumpLong offset) t ok e = absurd cc
-called_begins code slot (Test narrow test dst src offset) t ok e = absurd cc
-called_begins code slot (CallHelper number) t ok e = absurd cc
 called_begins code slot (CallLocal offset) t ok e =
     begins_there (insn_at code t) (sym (ap (λ (o : Option ℕ). is_none (option_and_then (insn_at code) o)) e) ∙ ok.lands)
-called_begins code slot Exit t ok e = absurd cc
+called_begins code slot _ t ok e = absurd cc

@@ -4,7 +4,7 @@ use Rattle.std.specs.Prelude.{nat_lt}
 use Rattle.std.specs.FinMap as finite
 use Rattle.bpf_decode.specs.declared.insn.Insn.{Insn}
 use Rattle.bpf_decode.specs.declared.insn.Insn.TheVariants.{Alu, Swap, LoadImm, Load, StoreImm, Store, Jump, JumpLong, Test, CallHelper, CallLocal, Exit}
-use Rattle.tenant_maps.specs.Entries.{Entries}
+use Rattle.map_helpers.specs.Entries.{Entries}
 use Rattle.map_helpers.specs.declared.helper.Helper.{Helper}
 use Rattle.map_helpers.specs.Helpers.{helper_of, reads}
 use Rattle.map_helpers.specs.Effects.{effect_of}

@@ -16,3 +16,7 @@ pub mod Safety
 pub mod Totality
 pub mod Runs
 pub mod Effects
+pub use Rattle.bpf_decode.proofs.Deciding
+pub use Rattle.bpf_decode.proofs.Encodings
+pub use Rattle.map_helpers.proofs.BytesRead
+pub use Rattle.map_helpers.proofs.Kept

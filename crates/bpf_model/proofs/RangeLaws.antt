@@ -46,44 +46,14 @@ bits_below x y =
     let less : 2 ^ (64 - leading_zeros w64 (max x y)) ≤ 2 ^ 64 = two-le (64 - leading_zeros w64 (max x y)) 64 (omega arith) in omega arith
 
 top_64 : (op : AluOp) → (wide_range W64 op (full W64) (full W64)).hi < 2 ^ 64
-top_64 Add = omega arith
-top_64 Sub = omega arith
-top_64 Mul = omega arith
-top_64 Div = omega arith
-top_64 Sdiv = omega arith
 top_64 Or = bits_below (2 ^ 64 - 1) (2 ^ 64 - 1)
-top_64 And = omega arith
-top_64 Lsh = omega arith
-top_64 Rsh = omega arith
-top_64 Neg = omega arith
-top_64 Mod = omega arith
-top_64 Smod = omega arith
 top_64 Xor = bits_below (2 ^ 64 - 1) (2 ^ 64 - 1)
-top_64 Mov = omega arith
-top_64 Movsx8 = omega arith
-top_64 Movsx16 = omega arith
-top_64 Movsx32 = omega arith
-top_64 Arsh = omega arith
+top_64 _ = omega arith
 
 top_32 : (op : AluOp) → (wide_range W32 op (full W32) (full W32)).hi < 2 ^ 64
-top_32 Add = omega arith
-top_32 Sub = omega arith
-top_32 Mul = omega arith
-top_32 Div = omega arith
-top_32 Sdiv = omega arith
 top_32 Or = bits_below (2 ^ 32 - 1) (2 ^ 32 - 1)
-top_32 And = omega arith
-top_32 Lsh = omega arith
-top_32 Rsh = omega arith
-top_32 Neg = omega arith
-top_32 Mod = omega arith
-top_32 Smod = omega arith
 top_32 Xor = bits_below (2 ^ 32 - 1) (2 ^ 32 - 1)
-top_32 Mov = omega arith
-top_32 Movsx8 = omega arith
-top_32 Movsx16 = omega arith
-top_32 Movsx32 = omega arith
-top_32 Arsh = omega arith
+top_32 _ = omega arith
 
 -- a result is a number of the width
 result_below : (width : AluWidth) (op : AluOp) (x y : ℕ) → x < modulus width → y < modulus width → result_of width op x y < 2 ^ 64

@@ -478,9 +478,7 @@ low_small i (suc k) n (suc j) = low_small (suc i) k n j
 
 pub stored_long : (size : Size) (value : ℕ) → length (stored_bytes size value) ≡ bytes_of size
 stored_long B value = refl
-stored_long H value = refl
-stored_long W value = refl
-stored_long Dw value = refl
+stored_long _ value = refl
 
 store_imm_effect : (m : Machine) (size : Size) (base : Reg) (offset imm : ℤ) (a : ℕ) → map.get m.frame.registers base.number ≡ Some a → is_in_bounds (length m.callers) (address_of a offset) (length (stored_bytes size (cast_unsigned w64 imm))) ≡ true → effect m (StoreImm size base offset imm) ≡ Some (Continues (kept m (slots_of (StoreImm size base offset imm)) (address_of a offset) (stored_bytes size (cast_unsigned w64 imm))))
 store_imm_effect m size base offset imm a a-is inside = rw (a-is, inside) refl
@@ -501,11 +499,9 @@ stored_after state m d base offset size value x p =
 
 -- a store of 8 bytes leaves its number in the word
 leaves_of : (size : Size) (value : ℕ) (x : Range) → value < 2 ^ 64 → In value x → Leaves (stored_bytes size value) (stored_range size x)
-leaves_of B value x small i = inr refl
-leaves_of H value x small i = inr refl
-leaves_of W value x small i = inr refl
 leaves_of Dw value x small i =
     inl (refl, subst (λ (n : ℕ). In n x) (sym (from_le_bytes-to_le_bytes_8 value small)) i)
+leaves_of _ value x small i = inr refl
 
 below_64 : (value : ℕ) (x : Range) → In value x → IsRange x → value < 2 ^ 64
 below_64 value x i fits = let high = i.high in let below = fits.below in omega (arith, high, below)

@@ -121,10 +121,8 @@ chosen_well_formed true x y fx fy = fx
 chosen_well_formed false x y fx fy = fy
 
 stored_range_well_formed : (size : Size) (x : Range) → IsRange x → IsRange (stored_range size x)
-stored_range_well_formed B x fx = IsRange-full
-stored_range_well_formed H x fx = IsRange-full
-stored_range_well_formed W x fx = IsRange-full
 stored_range_well_formed Dw x fx = fx
+stored_range_well_formed _ x fx = IsRange-full
 
 range_or_full_well_formed : (o : Option Range) → IsRangeIfSome o → IsRange (range_or_full o)
 range_or_full_well_formed None fo = IsRange-full

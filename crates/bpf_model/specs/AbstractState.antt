@@ -88,16 +88,13 @@ alu_operands op dst src = (if reads_destination op then dst ∷ [] else []) ++ s
 abbrev pub operands : Insn → List ℕ
 operands (Alu width op dst src) = alu_operands op dst.number src
 operands (Swap kind width dst) = dst.number ∷ []
-operands (LoadImm dst value) = []
 operands (Load size signed dst base offset) = base.number ∷ []
 operands (StoreImm size base offset imm) = base.number ∷ []
 operands (Store size base offset src) = base.number ∷ src.number ∷ []
-operands (Jump offset) = []
-operands (JumpLong offset) = []
 operands (Test narrow test dst src offset) = dst.number ∷ source_operands src
 operands (CallHelper number) = helper_operands (helper_of number)
-operands (CallLocal offset) = []
 operands Exit = 0 ∷ []
+operands _ = []
 
 -- Whether all these registers hold a number for certain.
 abbrev pub has_all : (ℕ → Option Range) → List ℕ → Bool
@@ -180,39 +177,23 @@ are_initialized initialized ranges accesses = list_all (access_initialized initi
 -- Whether all bytes that an instruction may touch are in bounds: of a helper those that it reads, then those that it
 -- writes.
 abbrev pub has_accesses : ℕ → AbstractState → Insn → Bool
-has_accesses d state (Alu width op dst src) = true
-has_accesses d state (Swap kind width dst) = true
-has_accesses d state (LoadImm dst value) = true
 has_accesses d state (Load size signed dst base offset) =
     in_bounds d (address_range state base.number offset) (bytes_of size)
 has_accesses d state (StoreImm size base offset imm) =
     in_bounds d (address_range state base.number offset) (bytes_of size)
 has_accesses d state (Store size base offset src) =
     in_bounds d (address_range state base.number offset) (bytes_of size)
-has_accesses d state (Jump offset) = true
-has_accesses d state (JumpLong offset) = true
-has_accesses d state (Test narrow test dst src offset) = true
 has_accesses d state (CallHelper number) =
     all_in_bounds d state.ranges (helper_reads (helper_of number) ++ helper_writes (helper_of number))
-has_accesses d state (CallLocal offset) = true
-has_accesses d state Exit = true
+has_accesses d state _ = true
 
 -- Whether all bytes that an instruction may read are initialized.
 abbrev pub has_bytes : AbstractState → Insn → Bool
-has_bytes state (Alu width op dst src) = true
-has_bytes state (Swap kind width dst) = true
-has_bytes state (LoadImm dst value) = true
 has_bytes state (Load size signed dst base offset) =
     is_initialized state.initialized (address_range state base.number offset) (bytes_of size)
-has_bytes state (StoreImm size base offset imm) = true
-has_bytes state (Store size base offset src) = true
-has_bytes state (Jump offset) = true
-has_bytes state (JumpLong offset) = true
-has_bytes state (Test narrow test dst src offset) = true
 has_bytes state (CallHelper number) =
     are_initialized state.initialized state.ranges (helper_reads (helper_of number))
-has_bytes state (CallLocal offset) = true
-has_bytes state Exit = true
+has_bytes state _ = true
 
 -- ---- what an instruction makes of a state
 
@@ -322,13 +303,9 @@ after_insn state (StoreImm size base offset imm) =
     after_store state (address_range state base.number offset) (bytes_of size) (stored_range size (single (cast_unsigned w64 imm)))
 after_insn state (Store size base offset src) =
     after_store state (address_range state base.number offset) (bytes_of size) (stored_range size (range_or_full (state.ranges src.number)))
-after_insn state (Jump offset) = state
-after_insn state (JumpLong offset) = state
-after_insn state (Test narrow test dst src offset) = state
 after_insn state (CallHelper number) =
     after_helper state (helper_max_answer (helper_of number)) (helper_writes (helper_of number))
-after_insn state (CallLocal offset) = state
-after_insn state Exit = state
+after_insn state _ = state
 
 -- ---- edges
 

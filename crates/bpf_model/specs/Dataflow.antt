@@ -12,33 +12,13 @@ use Rattle.bpf_model.specs.AbstractState.{AbstractState, Edge, start_state, entr
 
 -- The slot of the function that an instruction calls, if it calls one of the code.
 abbrev pub called : ℕ → Insn → Option ℕ
-called slot (Alu width op dst src) = None
-called slot (Swap kind width dst) = None
-called slot (LoadImm dst value) = None
-called slot (Load size signed dst base offset) = None
-called slot (StoreImm size base offset imm) = None
-called slot (Store size base offset src) = None
-called slot (Jump offset) = None
-called slot (JumpLong offset) = None
-called slot (Test narrow test dst src offset) = None
-called slot (CallHelper number) = None
 called slot (CallLocal offset) = target_of slot offset
-called slot Exit = None
+called slot _ = None
 
 -- Whether a function returns here.
 abbrev pub is_exit : Insn → Bool
-is_exit (Alu width op dst src) = false
-is_exit (Swap kind width dst) = false
-is_exit (LoadImm dst value) = false
-is_exit (Load size signed dst base offset) = false
-is_exit (StoreImm size base offset imm) = false
-is_exit (Store size base offset src) = false
-is_exit (Jump offset) = false
-is_exit (JumpLong offset) = false
-is_exit (Test narrow test dst src offset) = false
-is_exit (CallHelper number) = false
-is_exit (CallLocal offset) = false
 is_exit Exit = true
+is_exit _ = false
 
 -- The states at the exits of a function, given its slot and the state that it is entered in.
 abbrev pub Exits : Type 0

@@ -15,6 +15,9 @@ pub use Rattle.reg_ranges.specs.Refine
 pub use Rattle.bpf_decode.specs.Encoding
 pub use Rattle.map_helpers.specs.Helpers
 pub use Rattle.map_helpers.specs.Effects
-pub use Rattle.tenant_maps.specs.Entries
+pub use Rattle.map_helpers.specs.Entries
 pub mod Profiles
 pub mod Words
+pub use Rattle.bpf_decode.specs.declared.insn.Insn
+pub use Rattle.bpf_decode.specs.declared.slot.Slot
+pub use Rattle.map_helpers.specs.declared.helper.Helper

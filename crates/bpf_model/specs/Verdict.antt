@@ -4,7 +4,7 @@ use Rattle.std.specs.Option.{is_none}
 use Rattle.bpf_decode.specs.declared.insn.Insn.{Insn}
 use Rattle.bpf_decode.specs.declared.insn.Insn.TheVariants.{Alu, Swap, LoadImm, Load, StoreImm, Store, Jump, JumpLong, Test, CallHelper, CallLocal, Exit}
 use Rattle.bpf_decode.specs.declared.refusal.DecodeFault.{DecodeFault}
-use Rattle.bpf_decode.specs.Faults.{IsCode, IsRefused}
+pub use Rattle.bpf_decode.specs.Faults.{IsCode, IsRefused}
 use Rattle.bpf_model.specs.declared.fault.VerifyFault.{VerifyFault}
 use Rattle.bpf_model.specs.declared.fault.VerifyFault.TheVariants.{Decode, JumpBackward, JumpOutside, FallsOffEnd, UnknownHelper, WritesFramePointer, UninitRegister, BadAccess, UninitBytes, CallDepth, TooComplex}
 use Rattle.bpf_model.specs.Code.{slots_of, insns_by_slot, insn_at, target_of}
@@ -22,33 +22,18 @@ is_backward (negsuc n) = true
 
 -- Whether an instruction is a jump, or a test, that leads back.
 abbrev pub jumps_back : Insn → Bool
-jumps_back (Alu width op dst src) = false
-jumps_back (Swap kind width dst) = false
-jumps_back (LoadImm dst value) = false
-jumps_back (Load size signed dst base offset) = false
-jumps_back (StoreImm size base offset imm) = false
-jumps_back (Store size base offset src) = false
 jumps_back (Jump offset) = is_backward offset
 jumps_back (JumpLong offset) = is_backward offset
 jumps_back (Test narrow test dst src offset) = is_backward offset
-jumps_back (CallHelper number) = false
-jumps_back (CallLocal offset) = false
-jumps_back Exit = false
+jumps_back _ = false
 
 -- The offset of a jump, a test or a local call, of which the last may lead back.
 abbrev pub offset_of : Insn → Option ℤ
-offset_of (Alu width op dst src) = None
-offset_of (Swap kind width dst) = None
-offset_of (LoadImm dst value) = None
-offset_of (Load size signed dst base offset) = None
-offset_of (StoreImm size base offset imm) = None
-offset_of (Store size base offset src) = None
 offset_of (Jump offset) = Some offset
 offset_of (JumpLong offset) = Some offset
 offset_of (Test narrow test dst src offset) = Some offset
-offset_of (CallHelper number) = None
 offset_of (CallLocal offset) = Some offset
-offset_of Exit = None
+offset_of _ = None
 
 -- Whether no instruction begins where an offset leads to: it leads out of the code, or into a second half.
 abbrev pub leads_outside : List Insn → ℕ → Option ℤ → Bool
@@ -57,33 +42,15 @@ leads_outside code slot (Some offset) = is_none (option_and_then (insn_at code) 
 
 -- Whether the slot behind an instruction may run next.
 abbrev pub falls_through : Insn → Bool
-falls_through (Alu width op dst src) = true
-falls_through (Swap kind width dst) = true
-falls_through (LoadImm dst value) = true
-falls_through (Load size signed dst base offset) = true
-falls_through (StoreImm size base offset imm) = true
-falls_through (Store size base offset src) = true
 falls_through (Jump offset) = false
 falls_through (JumpLong offset) = false
-falls_through (Test narrow test dst src offset) = true
-falls_through (CallHelper number) = true
-falls_through (CallLocal offset) = true
 falls_through Exit = false
+falls_through _ = true
 
 -- Whether an instruction calls a helper that this host doesn't have.
 abbrev pub calls_unknown : Insn → Bool
-calls_unknown (Alu width op dst src) = false
-calls_unknown (Swap kind width dst) = false
-calls_unknown (LoadImm dst value) = false
-calls_unknown (Load size signed dst base offset) = false
-calls_unknown (StoreImm size base offset imm) = false
-calls_unknown (Store size base offset src) = false
-calls_unknown (Jump offset) = false
-calls_unknown (JumpLong offset) = false
-calls_unknown (Test narrow test dst src offset) = false
 calls_unknown (CallHelper number) = is_none (helper_of number)
-calls_unknown (CallLocal offset) = false
-calls_unknown Exit = false
+calls_unknown _ = false
 
 -- Whether an instruction would write r10, the frame pointer: it is its destination. (RFC 9669, 2.1)
 abbrev pub writes_r10 : Insn → Bool
@@ -91,14 +58,7 @@ writes_r10 (Alu width op dst src) = dst.number == 10
 writes_r10 (Swap kind width dst) = dst.number == 10
 writes_r10 (LoadImm dst value) = dst.number == 10
 writes_r10 (Load size signed dst base offset) = dst.number == 10
-writes_r10 (StoreImm size base offset imm) = false
-writes_r10 (Store size base offset src) = false
-writes_r10 (Jump offset) = false
-writes_r10 (JumpLong offset) = false
-writes_r10 (Test narrow test dst src offset) = false
-writes_r10 (CallHelper number) = false
-writes_r10 (CallLocal offset) = false
-writes_r10 Exit = false
+writes_r10 _ = false
 
 -- What is wrong with an instruction at a slot, whether it is reached or not.
 abbrev pub insn_structure_fault : List Insn → ℕ → Insn → Option VerifyFault
@@ -119,18 +79,8 @@ structure_fault code slot = slot_structure_fault code slot (insn_at code slot)
 
 -- Whether an instruction calls a function of the code.
 abbrev pub calls_local : Insn → Bool
-calls_local (Alu width op dst src) = false
-calls_local (Swap kind width dst) = false
-calls_local (LoadImm dst value) = false
-calls_local (Load size signed dst base offset) = false
-calls_local (StoreImm size base offset imm) = false
-calls_local (Store size base offset src) = false
-calls_local (Jump offset) = false
-calls_local (JumpLong offset) = false
-calls_local (Test narrow test dst src offset) = false
-calls_local (CallHelper number) = false
 calls_local (CallLocal offset) = true
-calls_local Exit = false
+calls_local _ = false
 
 -- What is wrong with an instruction that is visited in frame d, given the abstract state there: an operand that may
 -- hold nothing, an access that may be out of bounds, a byte that is read and may not be initialized, a local call for

@@ -38,10 +38,8 @@ may_write (Some address) size w = nat_lt address.lo (word_start w + 8) && nat_lt
 
 -- What is known of a number that a store writes: nothing, unless it writes all 8 bytes.
 abbrev pub stored_range : Size → Range → Range
-stored_range B value = full W64
-stored_range H value = full W64
-stored_range W value = full W64
 stored_range Dw value = value
+stored_range _ value = full W64
 
 -- The words after a store: the one that it begins at for certain holds what was stored; nothing is known of another one
 -- that it may touch.

@@ -42,16 +42,8 @@ safe_of profile bytes code bound is accepted insns other =
 -- ---- the decoder's refusals
 
 decoded : (fault : DecodeFault) → (fault ≡ decode.Memory) ⊎ (verify_fault_of fault ≡ Decode fault)
-decoded decode.Empty = inr refl
-decoded decode.NotSlots = inr refl
-decoded decode.TooLong = inr refl
-decoded decode.BadOpcode = inr refl
-decoded decode.BadRegister = inr refl
-decoded decode.FieldNotZero = inr refl
-decoded decode.TruncatedWide = inr refl
-decoded decode.BadWidth = inr refl
-decoded decode.BadOffset = inr refl
 decoded decode.Memory = inl refl
+decoded _ = inr refl
 
 -- a refusal of the decoder's, as the verifier reports it
 pub reported : (profile : Profile) (bytes : List ℕ) (reason : DecodeFault) (slot : ℕ) (fault : VerifyFault) (at : ℕ) → fault ≡ verify_fault_of reason → at ≡ slot → (reason ≡ decode.Memory) ⊎ IsRefused bytes reason slot → (fault ≡ Memory) ⊎ RefusesUnder profile bytes fault at

@@ -45,32 +45,12 @@ no_exit (Some s) x e = ap (λ (b : Bool). cond b (s ∷ []) []) e
 
 -- an instruction that calls no function and is no exit
 other_called : (slot : ℕ) (x : Insn) → ((offset : ℤ) → x ≡ insn.CallLocal offset → ⊥) → called slot x ≡ None
-other_called slot (insn.Alu width op dst src) nc = refl
-other_called slot (insn.Swap kind width dst) nc = refl
-other_called slot (insn.LoadImm dst value) nc = refl
-other_called slot (insn.Load size signed dst base offset) nc = refl
-other_called slot (insn.StoreImm size base offset imm) nc = refl
-other_called slot (insn.Store size base offset src) nc = refl
-other_called slot (insn.Jump offset) nc = refl
-other_called slot (insn.JumpLong offset) nc = refl
-other_called slot (insn.Test narrow test dst src offset) nc = refl
-other_called slot (insn.CallHelper number) nc = refl
 other_called slot (insn.CallLocal offset) nc = absurd (nc offset refl)
-other_called slot insn.Exit nc = refl
+other_called slot _ nc = refl
 
 other_no_exit : (x : Insn) → (x ≡ insn.Exit → ⊥) → is_exit x ≡ false
-other_no_exit (insn.Alu width op dst src) ne = refl
-other_no_exit (insn.Swap kind width dst) ne = refl
-other_no_exit (insn.LoadImm dst value) ne = refl
-other_no_exit (insn.Load size signed dst base offset) ne = refl
-other_no_exit (insn.StoreImm size base offset imm) ne = refl
-other_no_exit (insn.Store size base offset src) ne = refl
-other_no_exit (insn.Jump offset) ne = refl
-other_no_exit (insn.JumpLong offset) ne = refl
-other_no_exit (insn.Test narrow test dst src offset) ne = refl
-other_no_exit (insn.CallHelper number) ne = refl
-other_no_exit (insn.CallLocal offset) ne = refl
 other_no_exit insn.Exit ne = absurd (ne refl)
+other_no_exit _ ne = refl
 
 -- what a local call's having no fault says
 pub call_has_frame : (d : ℕ) (m : model.AbstractState) (offset : ℤ) → insn_dataflow_fault d m (insn.CallLocal offset) ≡ None → d + 1 < frames

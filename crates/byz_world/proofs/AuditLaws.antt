@@ -5,8 +5,8 @@ use Rattle.std.specs.List.{list_all}
 use Rattle.std.proofs.lemmas.Grind.{flat_map-append}
 use Rattle.std.proofs.lemmas.List.{append_assoc, append-nil, map-append, take-append-drop, take_more}
 use Rattle.std.proofs.Math.Seq.{drop-cons}
-use Rattle.replica_core.specs.Facts.{RowFacts}
-use Rattle.replica_core.specs.declared.row.Done.{Done}
+use Rattle.replica_journal.specs.Facts.{RowFacts}
+use Rattle.replica_journal.specs.Done.{Done}
 use Rattle.byz_world.specs.declared.audit_fault.AuditFault.{AuditFault}
 use Rattle.byz_world.specs.declared.audit_fault.AuditFault.TheVariants.{Differ, Gap, Unrecorded, Memory}
 use Rattle.byz_world.specs.declared.history.Execution.{Execution}

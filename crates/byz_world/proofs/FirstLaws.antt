@@ -1,14 +1,13 @@
 -- The first members, one after another.
 use Rattle.std.proofs.Common.{◌≡◌, ℕ, zero, suc, ◌+◌, ◌-◌, ◌<◌, ◌≤◌, Bool, true, false, not, cond, List, [], ◌∷◌, ◌++◌, refl, sym, ap, subst, ◌∙◌, arith}
-use Rattle.std.specs.Prelude.{filter}
+use Rattle.std.specs.Prelude.{filter, IsSomeAnd}
 use Rattle.std.specs.List.{range_with_len}
-use Rattle.std.specs.Prelude.{IsSomeAnd}
 use Rattle.host_types.specs.Configuration.{Configuration, IsConfiguration, replicas_for}
 use Rattle.lms_tree.specs.Keys.{IsKeyOf}
 use Rattle.pbft_codec.specs.declared.signed.Role.TheVariants as roles
 use Rattle.pbft_model.specs.Words.{SigningState}
 use Rattle.seal.specs.Signers.{key_of}
-use Rattle.replica_core.specs.Steps.{first_with}
+use Rattle.replica_journal.specs.Steps.{first_with}
 use Rattle.std.proofs.lemmas.List.{append_assoc}
 use Rattle.byz_world.specs.Handing.{AreFrom}
 use Rattle.byz_world.specs.Worlds.{AreListed, MemberFacts, correct_ids, first_members}

@@ -6,8 +6,8 @@ use Rattle.std.proofs.lemmas.Option.{slice_get-get_or}
 use Rattle.std.proofs.lemmas.List.Quantifiers.{position-Some}
 use Rattle.service_model.proofs.Found.{find_by_position}
 use Rattle.host_types.specs.Configuration.{Configuration}
-use Rattle.replica_core.specs.Facts.{RowFacts}
-use Rattle.replica_core.specs.declared.row.Input.{Input}
+use Rattle.replica_journal.specs.Facts.{RowFacts}
+use Rattle.replica_journal.specs.Input.{Input}
 use Rattle.byz_world.specs.declared.fault.WorldFault.TheVariants as faults
 use Rattle.byz_world.specs.Handing.{AreFrom, MemberSteps, UnlessMemory, index_in}
 use Rattle.byz_world.specs.Worlds.{Answer, Comes, Hands, MemberFacts, Passes, WorldFacts}

@@ -6,8 +6,8 @@ use Rattle.std.specs.Ordering.{is_eq, nat_cmp}
 use Rattle.std.specs.BTreeMap as tree
 use Rattle.std.proofs.lemmas.Bool.{cases_lt, ne_eqb}
 use Rattle.std.proofs.lemmas.Option.{slice_get_past}
-use Rattle.replica_core.specs.declared.row.Done.{Done}
-use Rattle.replica_core.specs.declared.row.Done.TheVariants.{Executed, Installed}
+use Rattle.replica_journal.specs.Done.{Done}
+use Rattle.replica_journal.specs.Done.TheVariants.{Executed, Installed}
 use Rattle.byz_world.specs.declared.history.Execution.{Execution}
 use Rattle.byz_world.specs.declared.noted.Noted.{Noted}
 use Rattle.byz_world.specs.Audits.{AreUpTo, IsHistory, entry_at, executed_at, execution_in, number_in}

@@ -11,22 +11,21 @@ use Rattle.lms_tree.specs.Keys.{IsKeyOf}
 use Rattle.pbft_codec.specs.declared.signed.Role.TheVariants as roles
 use Rattle.pbft_model.specs.Core.{Core, start_of}
 use Rattle.pbft_model.specs.Histories.{IsIn}
-use Rattle.pbft_model.specs.Journals.{Agrees, ComesTo, Journals}
+use Rattle.pbft_agreement.specs.Journals.{Agrees, ComesTo, Journals}
 use Rattle.pbft_model.specs.Rows.{IsLawfulFrom, IsListed, IsNext, Row}
-use Rattle.pbft_model.specs.Setup.{Setup}
+use Rattle.pbft_model.specs.Setup.{Setup, setup_of}
 use Rattle.pbft_model.specs.Words.{SigningState}
-use Rattle.pbft_model.proofs.OverJournals.{agrees_over}
+use Rattle.pbft_agreement.proofs.OverJournals.{agrees_over}
 use Rattle.seal.specs.Opening.{CheckedMessage, opening}
 use Rattle.seal.specs.declared.fault.SealFault.{SealFault}
 use Rattle.seal.specs.Signers.{key_of}
-use Rattle.view_change.specs.Setups.{setup_of}
-use Rattle.replica_core.specs.Facts.{RowFacts, row_of}
-use Rattle.replica_core.specs.Steps.{Goes, ReplicaFacts, StopsFrom, status_of}
-use Rattle.replica_core.specs.declared.halt.Halt.{Halt}
-use Rattle.replica_core.specs.declared.replica.Status.{Status}
-use Rattle.replica_core.specs.declared.row.Input.{Input}
-use Rattle.replica_core.specs.declared.row.Input.TheVariants as inputs
-use Rattle.replica_core.specs.declared.row.Output.{Output}
+use Rattle.replica_journal.specs.Facts.{RowFacts, row_of}
+use Rattle.replica_journal.specs.Steps.{Goes, ReplicaFacts, StopsFrom, status_of}
+use Rattle.replica_journal.specs.Halt.{Halt}
+use Rattle.replica_journal.specs.Status.{Status}
+use Rattle.replica_journal.specs.Input.{Input}
+use Rattle.replica_journal.specs.Input.TheVariants as inputs
+use Rattle.replica_journal.specs.Output.{Output}
 use Rattle.byz_world.specs.declared.event.Event.{Event}
 use Rattle.byz_world.specs.declared.event.Event.TheVariants as events
 use Rattle.byz_world.specs.declared.fault.WorldFault.TheVariants as faults

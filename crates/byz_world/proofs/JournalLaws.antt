@@ -4,13 +4,12 @@ use Rattle.std.proofs.lemmas.Bool.{cases_lt}
 use Rattle.host_types.specs.Configuration.{Configuration, IsConfiguration, replicas_for}
 use Rattle.pbft_model.specs.Core.{Core, start_of}
 use Rattle.pbft_model.specs.Histories.{IsIn}
-use Rattle.pbft_model.specs.Journals.{IsHonestFamily, Journals}
+use Rattle.pbft_agreement.specs.Journals.{IsHonestFamily, Journals}
 use Rattle.pbft_model.specs.Rows.{IsJournal, IsLawfulFrom, IsListed}
-use Rattle.pbft_model.specs.Setup.{Setup}
+use Rattle.pbft_model.specs.Setup.{Setup, setup_of}
 use Rattle.pbft_model.specs.Words.{SigningState}
-use Rattle.pbft_model.proofs.OverJournals.{agrees_over}
-use Rattle.view_change.specs.Setups.{setup_of}
-use Rattle.replica_core.specs.Facts.{RowFacts, row_of}
+use Rattle.pbft_agreement.proofs.OverJournals.{agrees_over}
+use Rattle.replica_journal.specs.Facts.{RowFacts, row_of}
 use Rattle.byz_world.specs.Records.{AgreeUnlessForged, AreJournals, AreRecords, journals_of, record_at}
 use Rattle.byz_world.specs.Worlds.{IsHonestReport}
 use Rattle.byz_world.proofs.ProcedureLaws.{lawful_safe}

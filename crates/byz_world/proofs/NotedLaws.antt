@@ -7,8 +7,8 @@ use Rattle.std.specs.BTreeMap as tree
 use Rattle.std.proofs.lemmas.Bool.{cases_lt}
 use Rattle.host_types.specs.declared.Digest.{Digest}
 use Rattle.host_types.specs.declared.SeqNo.{SeqNo}
-use Rattle.replica_core.specs.declared.row.Done.{Done}
-use Rattle.replica_core.specs.declared.row.Done.TheVariants.{Executed, Installed}
+use Rattle.replica_journal.specs.Done.{Done}
+use Rattle.replica_journal.specs.Done.TheVariants.{Executed, Installed}
 use Rattle.byz_world.specs.declared.audit_fault.AuditFault.{AuditFault}
 use Rattle.byz_world.specs.declared.audit_fault.AuditFault.TheVariants.{Differ, Gap, Unrecorded, Memory}
 use Rattle.byz_world.specs.declared.history.Execution.{Execution}

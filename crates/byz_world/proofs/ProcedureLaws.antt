@@ -6,14 +6,15 @@ use Rattle.service_model.specs.TenantStates.{Service}
 use Rattle.service_model.proofs.Soundness.{accepted_safe}
 use Rattle.pbft_model.specs.Acts.{after}
 use Rattle.pbft_model.specs.Core.{Core, start_of}
-use Rattle.pbft_model.specs.Histories.{IsCorrect, core_after}
-use Rattle.pbft_model.specs.Journals.{ComesTo, Journals}
+use Rattle.pbft_model.specs.Histories.{core_after}
+use Rattle.pbft_model.specs.Families.{IsCorrect}
+use Rattle.pbft_agreement.specs.Journals.{ComesTo, Journals}
 use Rattle.pbft_model.specs.Rows.{Follows, IsLawfulFrom, Row}
 use Rattle.pbft_model.specs.Setup.{Setup}
 use Rattle.pbft_model.specs.Words.{SigningState}
 use Rattle.pbft_model.proofs.Fitting.{in_step_at}
 use Rattle.pbft_model.proofs.Rowed.{Leads, begun, journal_is_history}
-use Rattle.pbft_model.proofs.Reporting.{core_follows, history_follows, pushed}
+use Rattle.pbft_agreement.proofs.Reporting.{core_follows, history_follows, pushed}
 use Rattle.byz_world.specs.Procedures.{IsOnTheWay, StaysSafe}
 
 sound_safe : (state : Service) → IsSound state → NoneGoesWrong state

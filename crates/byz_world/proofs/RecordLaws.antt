@@ -9,21 +9,22 @@ use Rattle.std.proofs.lemmas.Option.{same_Some}
 use Rattle.host_types.specs.declared.Digest.{Digest}
 use Rattle.host_types.specs.declared.SeqNo.{SeqNo}
 use Rattle.service_model.proofs.Determined.{same_follows}
-use Rattle.pbft_model.specs.Agreement.{entry_digest, requests_in}
-use Rattle.pbft_model.specs.Histories.{IsCorrect, IsIn}
-use Rattle.pbft_model.specs.Journals as journals
-use Rattle.pbft_model.specs.Journals.{AgreesOver, HasDone, IsAccountedFor, IsHonestFamily, IsInstalledFrom, Journals, greatest_among, greatest_in, reached_in, rises_to}
+use Rattle.pbft_agreement.specs.Agreement.{entry_digest, requests_in}
+use Rattle.pbft_model.specs.Histories.{IsIn}
+use Rattle.pbft_model.specs.Families.{IsCorrect}
+use Rattle.pbft_agreement.specs.Journals as journals
+use Rattle.pbft_agreement.specs.Journals.{AgreesOver, HasDone, IsAccountedFor, IsHonestFamily, IsInstalledFrom, Journals, greatest_among, greatest_in, reached_in, rises_to}
 use Rattle.pbft_model.specs.Rows as model
 use Rattle.pbft_model.specs.Rows.{Row, result_of}
 use Rattle.pbft_model.specs.Sequential.{Outcome, Service, encoded, genesis_of}
 use Rattle.pbft_model.specs.Setup.{Setup, replicas}
 use Rattle.pbft_model.specs.Words.{RequestBody, Signed}
-use Rattle.pbft_model.proofs.OverJournals.{agrees_over, each_executed}
-use Rattle.pbft_model.proofs.Rising.{rows_rise}
+use Rattle.pbft_agreement.proofs.OverJournals.{agrees_over, each_executed}
+use Rattle.pbft_agreement.proofs.Rising.{rows_rise}
 use Rattle.pbft_model.proofs.Views.{greatest_above}
-use Rattle.replica_core.specs.Facts.{RowFacts, done_of, row_of}
-use Rattle.replica_core.specs.declared.row.Done.{Done}
-use Rattle.replica_core.specs.declared.row.Done.TheVariants.{Executed, Installed}
+use Rattle.replica_journal.specs.Facts.{RowFacts, done_of, row_of}
+use Rattle.replica_journal.specs.Done.{Done}
+use Rattle.replica_journal.specs.Done.TheVariants.{Executed, Installed}
 use Rattle.byz_world.specs.Audits.{IsAudit, IsMissing, IsReached, SaysOther, SomeDiffer, all_done, all_rise, done_in, executed_at, execution, execution_in, installation_in, installed_at, number_in, reached, rises}
 use Rattle.byz_world.specs.Records.{AreRecords, FindsNoFault}
 use Rattle.byz_world.specs.declared.audit_fault.AuditFault.{AuditFault}
@@ -286,12 +287,12 @@ module _ (c : Setup) (j : Journals) (h : IsHonestFamily c j) (records : List (Li
         omega (arith, mine)
   ]
 
-  within : (x : Done) → DidSo (done_of x) → number_in x ≤ greatest_among j (replicas c)
+  within : (x : Done) → DidSo (done_of x) → number_in x ≤ greatest_among j (replicas c.config)
   unfolding DidSo
   within x (i, correct, done) =
       let mine = up_to (done_of x) (j.rows i) done in
-      let most = below_greatest (replicas c) i correct.0 correct.1 in
-      chained (number_in x) (journals.number_in (done_of x)) (greatest_in (j.rows i)) (greatest_among j (replicas c)) (same_number x) mine most where
+      let most = below_greatest (replicas c.config) i correct.0 correct.1 in
+      chained (number_in x) (journals.number_in (done_of x)) (greatest_in (j.rows i)) (greatest_among j (replicas c.config)) (same_number x) mine most where
         chained : (a b d e : ℕ) → b ≡ a → b ≤ d → d ≤ e → a ≤ e
         chained a b d e same first second = omega (arith, same, first, second)
 
@@ -300,7 +301,7 @@ module _ (c : Setup) (j : Journals) (h : IsHonestFamily c j) (records : List (Li
   none_missing m =
       let x = reached_among m.number (all_done records) m.reached in
       let most = within x.0 (did x.0 x.1) in
-      let less : m.number - 1 < greatest_among j (replicas c) = before m.number (number_in x.0) (greatest_among j (replicas c)) m.positive x.2 most in
+      let less : m.number - 1 < greatest_among j (replicas c.config) = before m.number (number_in x.0) (greatest_among j (replicas c.config)) m.positive x.2 most in
       let w = each_executed c j h (m.number - 1) less in
       let next : (m.number - 1) + 1 ≡ m.number = back m.number m.positive in
       let done = subst (λ (n : ℕ). HasDone (model.Executed n w.1 w.2) (j.rows w.0)) next w.4 in

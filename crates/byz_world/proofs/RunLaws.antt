@@ -5,18 +5,18 @@ use Rattle.std.proofs.lemmas.Bool.{false≢true}
 use Rattle.std.proofs.lemmas.List.{append-nil, take-append-drop, take_more}
 use Rattle.std.proofs.Math.Seq.{drop-cons}
 use Rattle.host_types.specs.Configuration.{Configuration, IsConfiguration}
-use Rattle.pbft_model.specs.Agreement.{HoldsState}
+use Rattle.pbft_agreement.specs.Agreement.{HoldsState}
 use Rattle.pbft_model.specs.Core.{Core}
-use Rattle.pbft_model.specs.Histories.{IsCorrect}
-use Rattle.pbft_model.specs.Journals.{Agrees, AgreesOver, Journals}
+use Rattle.pbft_model.specs.Families.{IsCorrect}
+use Rattle.pbft_agreement.specs.Journals.{Agrees, AgreesOver, Journals}
 use Rattle.pbft_model.specs.Words.{RequestBody, Signed, SigningState}
-use Rattle.replica_core.specs.Facts.{RowFacts}
-use Rattle.replica_core.specs.declared.row.Input.{Input}
-use Rattle.replica_core.specs.declared.row.Input.TheVariants as inputs
-use Rattle.replica_core.specs.declared.row.Output.{Output}
+use Rattle.replica_journal.specs.Facts.{RowFacts}
+use Rattle.replica_journal.specs.Input.{Input}
+use Rattle.replica_journal.specs.Input.TheVariants as inputs
+use Rattle.replica_journal.specs.Output.{Output}
 use Rattle.seal.specs.Opening.{CheckedMessage, opening}
 use Rattle.seal.specs.declared.fault.SealFault.{SealFault}
-use Rattle.view_change.specs.Setups.{setup_of}
+use Rattle.pbft_model.specs.Setup.{setup_of}
 use Rattle.byz_world.specs.declared.event.Event.{Event}
 use Rattle.byz_world.specs.declared.event.Event.TheVariants as events
 use Rattle.byz_world.specs.declared.fault.WorldFault.{WorldFault}

@@ -3,9 +3,9 @@ use Rattle.std.specs.Prelude.{◌≡◌, ◌⊎◌, ℕ, ◌+◌, ◌-◌, ◌==
 use Rattle.std.specs.List.{AllByRecursion, list_all}
 use Rattle.std.specs.Option.{option_or}
 use Rattle.host_types.specs.declared.Digest.{Digest}
-use Rattle.replica_core.specs.Facts.{RowFacts}
-use Rattle.replica_core.specs.declared.row.Done.{Done}
-use Rattle.replica_core.specs.declared.row.Done.TheVariants.{Executed, Installed}
+use Rattle.replica_journal.specs.Facts.{RowFacts}
+use Rattle.replica_journal.specs.Done.{Done}
+use Rattle.replica_journal.specs.Done.TheVariants.{Executed, Installed}
 use Rattle.byz_world.specs.declared.audit_fault.AuditFault.{AuditFault}
 use Rattle.byz_world.specs.declared.audit_fault.AuditFault.TheVariants.{Differ, Gap, Unrecorded, Memory}
 use Rattle.byz_world.specs.declared.history.Execution.{Execution}

@@ -1,10 +1,10 @@
 -- Internal: an input at one correct replica, and what holds of every world.
 use Rattle.std.specs.Prelude.{◌≡◌, ℕ, ◌==◌, ◌+◌, ◌≤◌, List, [], ◌∷◌, ◌++◌, position, Option, Some, None, Result, Ok, Err}
 use Rattle.host_types.specs.Configuration.{Configuration, IsConfiguration}
-use Rattle.replica_core.specs.Facts.{RowFacts}
-use Rattle.replica_core.specs.Steps.{Goes, Stops}
-use Rattle.replica_core.specs.declared.halt.Halt.{Halt}
-use Rattle.replica_core.specs.declared.row.Input.{Input}
+use Rattle.replica_journal.specs.Facts.{RowFacts}
+use Rattle.replica_journal.specs.Steps.{Goes, Stops}
+use Rattle.replica_journal.specs.Halt.{Halt}
+use Rattle.replica_journal.specs.Input.{Input}
 use Rattle.replica_journal.specs.declared.unkept.Unkept.{Unkept}
 use Rattle.replica_journal.specs.declared.unkept.Unkept.TheVariants as unkept
 use Rattle.byz_world.specs.declared.fault.WorldFault.TheVariants as faults

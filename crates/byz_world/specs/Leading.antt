@@ -2,10 +2,10 @@
 use Rattle.std.specs.Prelude.{◌≡◌, ℕ, Bool, List, [], ◌∷◌, map, Some}
 use Rattle.host_types.specs.Configuration.{Configuration}
 use Rattle.pbft_model.specs.Core.{Core}
-use Rattle.pbft_model.specs.Journals.{Agrees, ComesTo, Journals}
+use Rattle.pbft_agreement.specs.Journals.{Agrees, ComesTo, Journals}
 use Rattle.pbft_model.specs.Words.{SigningState}
-use Rattle.view_change.specs.Setups.{setup_of}
-use Rattle.replica_core.specs.Steps.{status_of}
+use Rattle.pbft_model.specs.Setup.{setup_of}
+use Rattle.replica_journal.specs.Steps.{status_of}
 use Rattle.byz_world.specs.Procedures.{StaysSafe}
 use Rattle.byz_world.specs.Worlds.{Answer, Gives, IsHonestReport, IsReported, IsSignedBy, MemberFacts, WorldFacts, correct_ids, first_world, member_of, outcome_of}
 use Rattle.byz_world.specs.declared.event.Event.{Event}

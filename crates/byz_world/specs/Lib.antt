@@ -7,3 +7,16 @@ pub mod Procedures
 pub mod Records
 pub mod WorldFaults
 pub mod Worlds
+pub use Rattle.pbft_model.specs.Core
+pub use Rattle.pbft_model.specs.Rows
+pub use Rattle.replica_journal.specs.Dest
+pub use Rattle.replica_journal.specs.Facts
+pub use Rattle.replica_journal.specs.Halt
+pub use Rattle.replica_journal.specs.Halts
+pub use Rattle.replica_journal.specs.Input
+pub use Rattle.replica_journal.specs.Keeping
+pub use Rattle.replica_journal.specs.Output
+pub use Rattle.replica_journal.specs.Status
+pub use Rattle.replica_journal.specs.Steps
+pub use Rattle.service_model.specs.Equality
+pub use Rattle.pbft_model.specs.Setup

@@ -3,7 +3,7 @@ use Rattle.std.specs.Prelude.{◌≡◌, ℕ, ◌<◌, ◌≤◌, ◌==◌, List
 use Rattle.std.specs.Option.{option_or}
 use Rattle.std.specs.Ordering.{nat_cmp}
 use Rattle.std.specs.BTreeMap as tree
-use Rattle.replica_core.specs.declared.row.Done.{Done}
+use Rattle.replica_journal.specs.Done.{Done}
 use Rattle.byz_world.specs.declared.audit_fault.AuditFault.{AuditFault}
 use Rattle.byz_world.specs.declared.audit_fault.AuditFault.TheVariants.{Differ, Gap, Unrecorded, Memory}
 use Rattle.byz_world.specs.declared.history.Execution.{Execution}

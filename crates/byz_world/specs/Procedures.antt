@@ -3,8 +3,8 @@ use Rattle.std.specs.Prelude.{◌≡◌, ◌⊎◌, ℕ, List, ◌++◌}
 use Rattle.service_model.specs.Sound.{NoneGoesWrong}
 use Rattle.pbft_model.specs.Acts.{Act, after}
 use Rattle.pbft_model.specs.Core.{Core}
-use Rattle.pbft_model.specs.Histories.{IsCorrect}
-use Rattle.pbft_model.specs.Journals.{ComesTo, Journals}
+use Rattle.pbft_model.specs.Families.{IsCorrect}
+use Rattle.pbft_agreement.specs.Journals.{ComesTo, Journals}
 use Rattle.pbft_model.specs.Rows.{Begins, Follows, Input, Row}
 use Rattle.pbft_model.specs.Setup.{Setup}
 

@@ -2,13 +2,13 @@
 use Rattle.std.specs.Prelude.{◌≡◌, ℕ, ◌+◌, ◌<◌, Bool, false, List, [], ◌∷◌, map, slice_get, unwrap_or, Result, Ok, Err}
 use Rattle.host_types.specs.Configuration.{Configuration, replicas_for}
 use Rattle.pbft_model.specs.Core.{Core, start_of}
-use Rattle.pbft_model.specs.Histories.{IsCorrect, IsIn}
-use Rattle.pbft_model.specs.Journals.{Agrees, Journals}
+use Rattle.pbft_model.specs.Histories.{IsIn}
+use Rattle.pbft_model.specs.Families.{IsCorrect}
+use Rattle.pbft_agreement.specs.Journals.{Agrees, Journals}
 use Rattle.pbft_model.specs.Rows.{IsJournal, IsLawfulFrom, IsListed}
-use Rattle.pbft_model.specs.Setup.{Setup}
+use Rattle.pbft_model.specs.Setup.{Setup, setup_of}
 use Rattle.pbft_model.specs.Words.{SigningState}
-use Rattle.view_change.specs.Setups.{setup_of}
-use Rattle.replica_core.specs.Facts.{RowFacts, row_of}
+use Rattle.replica_journal.specs.Facts.{RowFacts, row_of}
 use Rattle.byz_world.specs.Audits.{IsAudit}
 use Rattle.byz_world.specs.Procedures.{StaysSafe}
 use Rattle.byz_world.specs.Worlds.{IsHonestReport}

@@ -4,20 +4,21 @@ use Rattle.std.specs.List.{range_with_len}
 use Rattle.host_types.specs.Configuration.{Configuration, replicas_for}
 use Rattle.lms_tree.specs.Keys.{IsKeyOf}
 use Rattle.pbft_codec.specs.declared.signed.Role.TheVariants as roles
-use Rattle.pbft_model.specs.Histories.{IsCorrect, IsIn}
-use Rattle.pbft_model.specs.Journals.{HasGiven, HasReceived, IsHashedIn, Journals}
+use Rattle.pbft_model.specs.Histories.{IsIn}
+use Rattle.pbft_model.specs.Families.{IsCorrect}
+use Rattle.pbft_agreement.specs.Journals.{HasGiven, HasReceived, IsHashedIn, Journals}
 use Rattle.pbft_model.specs.Setup.{Setup, count, replicas}
 use Rattle.pbft_model.specs.Words.{Body, Signed, SigningState, messages_in, part_of}
 use Rattle.pbft_codec.specs.Encoding.{encoding}
 use Rattle.seal.specs.Opening.{CheckedMessage, opening}
 use Rattle.seal.specs.Signers.{key_of}
 use Rattle.seal.specs.declared.fault.SealFault.{SealFault}
-use Rattle.replica_core.specs.Facts.{RowFacts, row_of}
-use Rattle.replica_core.specs.Steps.{Goes, ReplicaFacts, Stops, first_with}
-use Rattle.replica_core.specs.declared.halt.Halt.{Halt}
-use Rattle.replica_core.specs.declared.row.Input.{Input}
-use Rattle.replica_core.specs.declared.row.Input.TheVariants as inputs
-use Rattle.replica_core.specs.declared.row.Output.{Output}
+use Rattle.replica_journal.specs.Facts.{RowFacts, row_of}
+use Rattle.replica_journal.specs.Steps.{Goes, ReplicaFacts, Stops, first_with}
+use Rattle.replica_journal.specs.Halt.{Halt}
+use Rattle.replica_journal.specs.Input.{Input}
+use Rattle.replica_journal.specs.Input.TheVariants as inputs
+use Rattle.replica_journal.specs.Output.{Output}
 use Rattle.byz_world.specs.declared.event.Event.{Event}
 use Rattle.byz_world.specs.declared.event.Event.TheVariants as events
 use Rattle.byz_world.specs.declared.fault.WorldFault.{WorldFault}
@@ -174,7 +175,7 @@ pub record IsReported (faulty : ℕ → Bool) (outcomes : List OutcomeFacts) (j 
 
 -- Of an honest family's premises, those that the code can't give: at most f are faulty, nobody forged, and no digests collided.
 pub record IsHonestReport (c : Setup) (j : Journals) : Type 0 where
-  pub few : count j.faulty (replicas c) ≤ c.config.f
+  pub few : count j.faulty (replicas c.config) ≤ c.config.f
   pub real : (i : ℕ) → IsCorrect c j.faulty i → (m p : Signed Body) → HasReceived m (j.rows i) → IsIn p (messages_in m)
       → p.role ≡ roles.Replica → IsCorrect c j.faulty p.id → HasGiven (part_of p) (j.rows p.id)
   pub apart : (x y : List ℕ) → IsHashedIn c j x → IsHashedIn c j y → c.hash x ≡ c.hash y → x ≡ y

@@ -2,14 +2,13 @@
 
 ghost use Rattle.std.specs.Prelude.{◌≡◌, ◌≢◌, ◌++◌, ◌∷◌, [], ℕ, Bool, List, Option, Some, Result, Err, length};
 ghost use Rattle.host_types.specs.Configuration.{Configuration, IsConfiguration, replicas_for};
-ghost use Rattle.pbft_model.specs.Agreement.{HoldsState};
+ghost use Rattle.pbft_agreement.specs.Agreement.{HoldsState};
 ghost use Rattle.pbft_model.specs.Core.{Core};
-ghost use Rattle.pbft_model.specs.Histories.{IsCorrect};
-ghost use Rattle.pbft_model.specs.Journals.{AgreesOver, IsHonestFamily, Journals};
-ghost use Rattle.pbft_model.specs.Setup.{Setup};
+ghost use Rattle.pbft_model.specs.Families.{IsCorrect};
+ghost use Rattle.pbft_agreement.specs.Journals.{AgreesOver, IsHonestFamily, Journals};
+ghost use Rattle.pbft_model.specs.Setup.{Setup, setup_of};
 ghost use Rattle.pbft_model.specs.Words.{RequestBody, Signed, SigningState};
-ghost use Rattle.view_change.specs.Setups.{setup_of};
-ghost use Rattle.replica_core.specs.Facts.{RowFacts};
+ghost use Rattle.replica_journal.specs.Facts.{RowFacts};
 ghost use Rattle.byz_world.specs.Audits.{IsAudit};
 ghost use Rattle.byz_world.specs.Leading.{IsToldOf, LeadsTo, LeadsToSoundWorlds};
 ghost use Rattle.byz_world.specs.Records.{AgreeUnlessForged, AreJournals, AreRecords, FindsNoFault};

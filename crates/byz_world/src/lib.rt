@@ -26,5 +26,8 @@ pub use laws::{
     told_states_agree, worlds_are_sound,
 };
 pub use records::audit;
+pub use replica_journal::{
+    Dest, Done, Halt, Input, Journal, Output, Replica, Row, State, StateFault, Status,
+};
 pub use report::{Outcome, Report};
 pub use world::{World, run_world};

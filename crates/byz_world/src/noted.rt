@@ -1,14 +1,14 @@
 //! What is noted of what replicas did.
 
 ghost use Rattle.std.specs.Prelude.{◌++◌, ◌∷◌, [], map, List, IfErr, OnOk};
-ghost use Rattle.replica_core.specs.declared.row.Done.{Done};
+ghost use Rattle.replica_journal.specs.Done.{Done};
 ghost use Rattle.byz_world.specs.Audits.{SaysOther, SomeDiffer, execution};
 ghost use Rattle.byz_world.specs.Noting.{IsClash, IsFirst, IsNoted, IsRefusal};
 
 use crate::audit_fault::AuditFault;
 use crate::history::Execution;
 use host_types::{Bytes, Digest};
-use replica_core::Done;
+use replica_journal::Done;
 use std::alloc::Global;
 use std::collections::BTreeMap;
 

@@ -1,7 +1,7 @@
 //! Whether the records of replicas agree, and what they agree on.
 
 ghost use Rattle.std.specs.Prelude.{◌≡◌, ◌++◌, List, map, IfOk, OnOk};
-ghost use Rattle.replica_core.specs.declared.row.Done.{Done};
+ghost use Rattle.replica_journal.specs.Done.{Done};
 ghost use Rattle.byz_world.specs.Audits.{IsAudit, done_in, rises};
 ghost use Rattle.byz_world.specs.Noting.{IsMadeOf, IsNoted};
 
@@ -9,7 +9,7 @@ use crate::audit_fault::AuditFault;
 use crate::history::History;
 use crate::noted::{Noted, note_all};
 use host_types::ReplicaId;
-use replica_core::{Done, Row};
+use replica_journal::{Done, Row};
 use std::alloc::{AllocError, Global};
 
 /// The one history of these records, or the first fault: `Differ`, then `Gap`, then `Unrecorded`.

@@ -4,7 +4,7 @@ ghost use Rattle.std.specs.Prelude.{◌≡◌, map};
 ghost use Rattle.byz_world.specs.Worlds.{facts_of};
 
 use host_types::ReplicaId;
-use replica_core::{Halt, Row};
+use replica_journal::{Halt, Row};
 use std::marker::Model;
 
 /// What a correct replica did: its rows in order, and why it has stopped, if it has.

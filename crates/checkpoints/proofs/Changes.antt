@@ -13,8 +13,8 @@ use Rattle.host_types.specs.declared.Digest.{Digest}
 use Rattle.host_types.specs.declared.SeqNo.{SeqNo}
 use Rattle.pbft_model.specs.Tables.{Key, with_entry, number_key}
 use Rattle.ballots.specs.Ballots.{Ballot}
-use Rattle.quorum_log.specs.Windows.{table_by}
-use Rattle.checkpoints.specs.Kept.{IsGreatestStable, KeptCheckpoints, NoneStableAbove, by_sha256, start}
+use Rattle.ballots.specs.ByKey.{table_by}
+use Rattle.checkpoints.specs.Kept.{IsGreatestStable, KeptCheckpoints, NoneStableAbove, start}
 use Rattle.checkpoints.specs.Reading.{AreKept, IsBallotAt, IsGreatest, ballot_in, bytes_at_key, checkpoint_at_key, keys_by_number, kept_in, no_votes, number_keys, quorum_digest, quorum_proof, said_by, snapshots_in, stable_now}
 use Rattle.checkpoints.proofs.Keys.{at_number, covers_snapshots, key_test, number_test, put_table}
 use Rattle.checkpoints.proofs.Views.{none_at, stable_seen}
@@ -29,7 +29,7 @@ pub started : (c d : Configuration) (ballots : tree.BTreeMap ℕ Ballot) (snapsh
 started c d ballots snapshots is e f = ap (λ (x : Configuration). kept_in x 0 ballots snapshots) is ∙ (λ i. record {
   config = d;
   low = 0;
-  proof = ap (λ (o : Option Digest). quorum_proof (by_sha256 d) (said_by (ballot_in ballots 0)) 0 o) (none_at d ballots 0 (none_entered ballots 0 e)) i;
+  proof = ap (λ (o : Option Digest). quorum_proof d (said_by (ballot_in ballots 0)) 0 o) (none_at d ballots 0 (none_entered ballots 0 e)) i;
   checkpoints = ap (λ (es : List (ℕ × Ballot)). table_by (checkpoint_at_key 0 ballots) (keys_by_number (keys_of es))) e i;
   snapshots = ap (λ (es : List (ℕ × List ℕ)). table_by (bytes_at_key snapshots) (number_keys (keys_of es))) f i;
 })
@@ -42,7 +42,7 @@ pub none_kept : (c : Configuration) (ballots : tree.BTreeMap ℕ Ballot) → IsC
 none_kept c ballots k e = record {
   configuration = k;
   each = λ number. subst (IsBallotAt c number) (sym (ap (λ (o : Option Ballot). unwrap_or o no_votes) (none_entered ballots number e))) (empty_ballot c number);
-  top = λ n. either_none (nat_le 0 n) (quorum_digest (by_sha256 c) (said_by (ballot_in ballots n)) n) (none_at c ballots n (none_entered ballots n e));
+  top = λ n. either_none (nat_le 0 n) (quorum_digest c (said_by (ballot_in ballots n)) n) (none_at c ballots n (none_entered ballots n e));
 }
 
 -- ---- the greatest stable number

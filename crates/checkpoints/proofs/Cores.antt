@@ -7,11 +7,11 @@ use Rattle.pbft_model.specs.Certificates.{is_stable}
 use Rattle.pbft_model.specs.Core.{Core, proof_of}
 use Rattle.pbft_model.specs.Duties.{greatest_stable, is_stable_entry}
 use Rattle.pbft_model.specs.Histories.{IsIn}
-use Rattle.pbft_model.specs.Setup.{Setup}
+use Rattle.pbft_model.specs.Setup.{Setup, setup_of}
 use Rattle.pbft_model.specs.Tables.{Table, at, checkpoint_key, entries_in}
 use Rattle.pbft_model.specs.Words.{Signed, Checkpoint}
 use Rattle.pbft_model.proofs.Calm.{at_in}
-use Rattle.checkpoints.specs.Kept.{HasCheckpointsOf, IsGreatestStable, KeptCheckpoints, NoneStableAbove, by_sha256, proof_for, stable_at, stable_digest}
+use Rattle.checkpoints.specs.Kept.{HasCheckpointsOf, IsGreatestStable, KeptCheckpoints, NoneStableAbove, proof_for, stable_at, stable_digest}
 use Rattle.checkpoints.proofs.Proving.{above_mark}
 use Rattle.checkpoints.proofs.Stable.{is_stable_one, some_signer, stable_is}
 
@@ -65,20 +65,20 @@ found c s (x ∷ xs) = split (is_stable_entry c s x && nat_lt (greatest_stable c
 -- ---- a core with these Checkpoints
 
 -- a digest that is stable in the core is stable here
-stable_here : (k : KeptCheckpoints) (s : Core) (number : ℕ) (d : Digest) → HasCheckpointsOf k s → s.executed < number → is_stable (by_sha256 k.config) s.checkpoints number d.0 ≡ true → stable_at k number ≡ Some d
+stable_here : (k : KeptCheckpoints) (s : Core) (number : ℕ) (d : Digest) → HasCheckpointsOf k s → s.executed < number → is_stable k.config s.checkpoints number d.0 ≡ true → stable_at k number ≡ Some d
 stable_here k s number d h lt t =
-    above_mark k number (omega (arith, h.low, lt)) ∙ stable_is (by_sha256 k.config) k.checkpoints number d (ap (λ (table : Table (Signed Checkpoint)). is_stable (by_sha256 k.config) table number d.0) h.same ∙ t)
+    above_mark k number (omega (arith, h.low, lt)) ∙ stable_is k.config k.checkpoints number d (ap (λ (table : Table (Signed Checkpoint)). is_stable k.config table number d.0) h.same ∙ t)
 
 -- what is stable here, some Checkpoint of the core names
-entry_there : (k : KeptCheckpoints) (s : Core) (number : ℕ) (d : Digest) → HasCheckpointsOf k s → s.executed < number → stable_at k number ≡ Some d → number ≤ greatest_stable (by_sha256 k.config) s (entries_in s.checkpoints)
+entry_there : (k : KeptCheckpoints) (s : Core) (number : ℕ) (d : Digest) → HasCheckpointsOf k s → s.executed < number → stable_at k number ≡ Some d → number ≤ greatest_stable (setup_of k.config) s (entries_in s.checkpoints)
 entry_there k s number d h lt e =
-    let c = by_sha256 k.config in
-    let stable : is_stable c s.checkpoints number d.0 ≡ true
-    = ap (λ (table : Table (Signed Checkpoint)). is_stable c table number d.0) (sym h.same) ∙ is_stable_one c k.checkpoints number d (sym (above_mark k number (omega (arith, h.low, lt))) ∙ e) in
-    let w = some_signer c (λ i. at s.checkpoints (checkpoint_key number i)) number d.0 stable in
+    let c = setup_of k.config in
+    let stable : is_stable c.config s.checkpoints number d.0 ≡ true
+    = ap (λ (table : Table (Signed Checkpoint)). is_stable c.config table number d.0) (sym h.same) ∙ is_stable_one c.config k.checkpoints number d (sym (above_mark k number (omega (arith, h.low, lt))) ∙ e) in
+    let w = some_signer c.config (λ i. at s.checkpoints (checkpoint_key number i)) number d.0 stable in
     let m = w.2.message in
     let passes : is_stable_entry c s m ≡ true
-    = and_from _ _ (lt-ltb s.executed m.body.number.0 (omega (arith, w.2.of_number, lt))) ((λ i. is_stable c s.checkpoints (w.2.of_number i) (w.2.of_digest i)) ∙ stable) in
+    = and_from _ _ (lt-ltb s.executed m.body.number.0 (omega (arith, w.2.of_number, lt))) ((λ i. is_stable c.config s.checkpoints (w.2.of_number i) (w.2.of_digest i)) ∙ stable) in
     let le = at_least c s (entries_in s.checkpoints) m (at_in s.checkpoints (checkpoint_key number w.0) m w.2.is) passes in
     omega (arith, le, w.2.of_number)
 
@@ -90,18 +90,18 @@ no_some : {X : Type 0} {P : Type 0} (o : Option X) (x : X) → o ≡ None → o 
 no_some None x e f = absurd cc
 no_some (Some y) x e f = absurd cc
 
-pub greatest_is : (k : KeptCheckpoints) (s : Core) (number : ℕ) → HasCheckpointsOf k s → IsGreatestStable k s.executed number → greatest_stable (by_sha256 k.config) s (entries_in s.checkpoints) ≡ number
-greatest_is k s number h g = split (found (by_sha256 k.config) s (entries_in s.checkpoints)) where
+pub greatest_is : (k : KeptCheckpoints) (s : Core) (number : ℕ) → HasCheckpointsOf k s → IsGreatestStable k s.executed number → greatest_stable (setup_of k.config) s (entries_in s.checkpoints) ≡ number
+greatest_is k s number h g = split (found (setup_of k.config) s (entries_in s.checkpoints)) where
   some : (d : Digest) × (stable_at k number ≡ Some d)
   some = some_digest (stable_at k number) g.stable
 
-  up : number ≤ greatest_stable (by_sha256 k.config) s (entries_in s.checkpoints)
+  up : number ≤ greatest_stable (setup_of k.config) s (entries_in s.checkpoints)
   up = entry_there k s number some.0 h g.above some.1
 
-  split : Found (by_sha256 k.config) s (entries_in s.checkpoints) → greatest_stable (by_sha256 k.config) s (entries_in s.checkpoints) ≡ number
+  split : Found (setup_of k.config) s (entries_in s.checkpoints) → greatest_stable (setup_of k.config) s (entries_in s.checkpoints) ≡ number
   split (Nothing none) = absurd (omega (arith, up, none, g.above))
   split (One m t is) =
-      let parts = and_parts (nat_lt s.executed m.body.number.0) (is_stable (by_sha256 k.config) s.checkpoints m.body.number.0 m.body.digest.0) t in
+      let parts = and_parts (nat_lt s.executed m.body.number.0) (is_stable k.config s.checkpoints m.body.number.0 m.body.digest.0) t in
       let more = ltb-true s.executed m.body.number.0 parts.0 in
       let seen = stable_here k s m.body.number.0 m.body.digest h more parts.1 in
       elim (cases_lt number m.body.number.0) [
@@ -109,15 +109,15 @@ greatest_is k s number h g = split (found (by_sha256 k.config) s (entries_in s.c
         | inr le ↦ omega (arith, up, is, le)
       ]
 
-pub none_is : (k : KeptCheckpoints) (s : Core) → HasCheckpointsOf k s → NoneStableAbove k s.executed → greatest_stable (by_sha256 k.config) s (entries_in s.checkpoints) ≡ 0
-none_is k s h none = split (found (by_sha256 k.config) s (entries_in s.checkpoints)) where
-  split : Found (by_sha256 k.config) s (entries_in s.checkpoints) → greatest_stable (by_sha256 k.config) s (entries_in s.checkpoints) ≡ 0
+pub none_is : (k : KeptCheckpoints) (s : Core) → HasCheckpointsOf k s → NoneStableAbove k s.executed → greatest_stable (setup_of k.config) s (entries_in s.checkpoints) ≡ 0
+none_is k s h none = split (found (setup_of k.config) s (entries_in s.checkpoints)) where
+  split : Found (setup_of k.config) s (entries_in s.checkpoints) → greatest_stable (setup_of k.config) s (entries_in s.checkpoints) ≡ 0
   split (Nothing is) = is
   split (One m t is) =
-      let parts = and_parts (nat_lt s.executed m.body.number.0) (is_stable (by_sha256 k.config) s.checkpoints m.body.number.0 m.body.digest.0) t in
+      let parts = and_parts (nat_lt s.executed m.body.number.0) (is_stable k.config s.checkpoints m.body.number.0 m.body.digest.0) t in
       let more = ltb-true s.executed m.body.number.0 parts.0 in
       no_some (stable_at k m.body.number.0) m.body.digest (none m.body.number.0 more) (stable_here k s m.body.number.0 m.body.digest h more parts.1)
 
 -- as the mark rises to a stable number, its proof is the core's
-pub proof_is : (c : Setup) (s : Core) (number : ℕ) (d : Digest) → is_stable c s.checkpoints number d.0 ≡ true → proof_for c s.checkpoints number (stable_digest c s.checkpoints number) ≡ proof_of c s number d.0
-proof_is c s number d e = ap (proof_for c s.checkpoints number) (stable_is c s.checkpoints number d e)
+pub proof_is : (c : Setup) (s : Core) (number : ℕ) (d : Digest) → is_stable c.config s.checkpoints number d.0 ≡ true → proof_for c.config s.checkpoints number (stable_digest c.config s.checkpoints number) ≡ proof_of c s number d.0
+proof_is c s number d e = ap (proof_for c.config s.checkpoints number) (stable_is c.config s.checkpoints number d e)

@@ -11,8 +11,8 @@ use Rattle.pbft_model.specs.Core.{if_passes}
 use Rattle.pbft_model.specs.Tables.{Key, keep, first_in, is_above}
 use Rattle.pbft_model.specs.Words.{Signed, Checkpoint}
 use Rattle.ballots.specs.Ballots.{Ballot}
-use Rattle.quorum_log.proofs.Tables.{kept_table}
-use Rattle.checkpoints.specs.Kept.{KeptCheckpoints, by_sha256, discarded, proof_at}
+use Rattle.ballots.proofs.Tables.{kept_table}
+use Rattle.checkpoints.specs.Kept.{KeptCheckpoints, discarded, proof_at}
 use Rattle.checkpoints.specs.Reading.{AreKept, IsBallotAt, IsGreatest, ballot_in, bytes_at_key, checkpoint_at_key, keys_by_number, kept_in, no_votes, number_keys, proof_now, quorum_digest, quorum_proof, said_by, stable_now}
 use Rattle.checkpoints.proofs.Keys.{covers_checkpoints, covers_snapshots}
 use Rattle.checkpoints.proofs.Views.{proof_seen}
@@ -64,7 +64,7 @@ proof_kept c low number ballots news snapshots k each lt h =
     ap now (ballot_above number ballots news h number (omega arith))
     ∙ sym (proof_seen c low ballots snapshots number k each ∙ cond-true (nat_le low number) (proof_now c ballots number) [] (le-leb low number (omega (arith, lt)))) where
       now : Ballot → List (Signed Checkpoint)
-      now votes = quorum_proof (by_sha256 c) (said_by votes) number (quorum_digest (by_sha256 c) (said_by votes) number)
+      now votes = quorum_proof c (said_by votes) number (quorum_digest c (said_by votes) number)
 
 pub discarded_seen : (c : Configuration) (low number : ℕ) (ballots news : tree.BTreeMap ℕ Ballot) (snapshots later : tree.BTreeMap ℕ (List ℕ)) (greatest : Option SeqNo) (k : KeptCheckpoints) → AreKept c low ballots greatest → kept_in c low ballots snapshots ≡ k
     → low < number → Dropped number ballots news → Dropped number snapshots later → kept_in c number news later ≡ discarded number k
@@ -90,12 +90,12 @@ discarded_seen c low number ballots news snapshots later greatest k h view lt dr
 stable_kept : (c : Configuration) (low number : ℕ) (ballots news : tree.BTreeMap ℕ Ballot) → low < number → Dropped number ballots news → (n : ℕ) → (n < number) ⊎ (number ≤ n)
     → stable_now c number news n ≡ cond (nat_le number n) (stable_now c low ballots n) None
 stable_kept c low number ballots news lt h n (inl under) =
-    cond-false (nat_le number n) (quorum_digest (by_sha256 c) (said_by (ballot_in news n)) n) None (lt-leb number n under)
+    cond-false (nat_le number n) (quorum_digest c (said_by (ballot_in news n)) n) None (lt-leb number n under)
     ∙ sym (cond-false (nat_le number n) (stable_now c low ballots n) None (lt-leb number n under))
 stable_kept c low number ballots news lt h n (inr le) =
-    cond-true (nat_le number n) (quorum_digest (by_sha256 c) (said_by (ballot_in news n)) n) None (le-leb number n le)
-    ∙ ap (λ (votes : Ballot). quorum_digest (by_sha256 c) (said_by votes) n) (ballot_above number ballots news h n le)
-    ∙ sym (cond-true (nat_le low n) (quorum_digest (by_sha256 c) (said_by (ballot_in ballots n)) n) None (le-leb low n (omega (arith, lt, le))))
+    cond-true (nat_le number n) (quorum_digest c (said_by (ballot_in news n)) n) None (le-leb number n le)
+    ∙ ap (λ (votes : Ballot). quorum_digest c (said_by votes) n) (ballot_above number ballots news h n le)
+    ∙ sym (cond-true (nat_le low n) (quorum_digest c (said_by (ballot_in ballots n)) n) None (le-leb low n (omega (arith, lt, le))))
     ∙ sym (cond-true (nat_le number n) (stable_now c low ballots n) None (le-leb number n le))
 
 none_kept : (c : Configuration) (low number : ℕ) (ballots news : tree.BTreeMap ℕ Ballot) → low < number → Dropped number ballots news → (n : ℕ) → (number ≤ n → stable_now c low ballots n ≡ None) → stable_now c number news n ≡ None

@@ -13,9 +13,8 @@ use Rattle.std.proofs.lemmas.Map.Entries.{lookup-filter-keys}
 use Rattle.std.proofs.lemmas.Map.Text.{is_eq-slice_cmp}
 use Rattle.pbft_model.specs.Tables.{Key, at, with_entry}
 use Rattle.ballots.specs.Ballots.{Ballot}
-use Rattle.quorum_log.specs.Windows.{is_among, table_by, Covers}
-use Rattle.quorum_log.proofs.Covering.{among_append}
-use Rattle.quorum_log.proofs.Tables.{ties, is_equal, is_read_off, sorted_by, found}
+use Rattle.ballots.specs.ByKey.{is_among, table_by, Covers}
+use Rattle.ballots.proofs.Tables.{among_append, ties, is_equal, is_read_off, sorted_by, found}
 use Rattle.checkpoints.specs.Reading.{ballot_in, bytes_at_key, checkpoint_at_key, keys_by_number, keys_by_signer, no_votes, number_keys, said_by, snapshots_in, checkpoints_in}
 use Rattle.checkpoints.proofs.Voting.{nothing_in}
 

@@ -17,13 +17,12 @@ use Rattle.pbft_model.specs.Acts.{with_body}
 use Rattle.pbft_model.specs.Tables.{Key, at, add_if, checkpoint_key}
 use Rattle.pbft_model.specs.Words.{Signed, Checkpoint}
 use Rattle.seal.specs.Opening.{CheckedMessage}
-use Rattle.ballots.specs.Ballots.{Ballot, digest_in, is_digest, vote_at}
-use Rattle.quorum_log.specs.Slots.{is_for_other, with_first}
-use Rattle.quorum_log.proofs.Tables.{added_table, same_table}
+use Rattle.ballots.specs.Ballots.{Ballot, digest_in, is_digest, vote_at, is_for_other, with_first}
+use Rattle.ballots.proofs.Tables.{added_table, same_table}
 use Rattle.checkpoints.specs.declared.fault.CheckpointFault.{CheckpointFault}
 use Rattle.checkpoints.specs.declared.fault.CheckpointFault.TheVariants.{Old, DigestDiffers, Memory}
 use Rattle.checkpoints.specs.Faults.{IsRefusal, Reports}
-use Rattle.checkpoints.specs.Kept.{KeptCheckpoints, by_sha256, checkpoint_of, has_other_digest, note_fault, noted}
+use Rattle.checkpoints.specs.Kept.{KeptCheckpoints, checkpoint_of, has_other_digest, note_fault, noted}
 use Rattle.checkpoints.specs.Reading.{AreKept, HasBallot, HaveSameBallots, IsBallotAt, IsCheckpointAt, IsGreatest, as_checkpoint, ballot_in, checkpoint_at_key, checkpoints_in, greater_of, keys_by_number, kept_in, proof_now, quorum_digest, quorum_proof, said_by, stable_now}
 use Rattle.checkpoints.proofs.Keys.{covers_checkpoints, key_test, signer_test}
 use Rattle.checkpoints.proofs.Stable.{quorum_stays}
@@ -35,7 +34,7 @@ use Rattle.checkpoints.proofs.Voting.{as_said, ballot_after, said_after}
 proof_same : (c : Configuration) (low : ℕ) (ballots news : tree.BTreeMap ℕ Ballot) → ballot_in news low ≡ ballot_in ballots low → proof_now c news low ≡ proof_now c ballots low
 proof_same c low ballots news e = ap now e where
   now : Ballot → List (Signed Checkpoint)
-  now votes = quorum_proof (by_sha256 c) (said_by votes) low (quorum_digest (by_sha256 c) (said_by votes) low)
+  now votes = quorum_proof c (said_by votes) low (quorum_digest c (said_by votes) low)
 
 value_same : (low : ℕ) (ballots news : tree.BTreeMap ℕ Ballot) → HaveSameBallots ballots news → (q : Key) → checkpoint_at_key low news q ≡ checkpoint_at_key low ballots q
 value_same low ballots news h [] = refl
@@ -52,7 +51,7 @@ same_seen c low ballots news snapshots k h view =
     same ∙ view
 
 stable_same : (c : Configuration) (low : ℕ) (ballots news : tree.BTreeMap ℕ Ballot) (n : ℕ) → ballot_in news n ≡ ballot_in ballots n → stable_now c low news n ≡ stable_now c low ballots n
-stable_same c low ballots news n e = ap (λ (votes : Ballot). cond (nat_le low n) (quorum_digest (by_sha256 c) (said_by votes) n) None) e
+stable_same c low ballots news n e = ap (λ (votes : Ballot). cond (nat_le low n) (quorum_digest c (said_by votes) n) None) e
 
 top_same : (c : Configuration) (low : ℕ) (ballots news : tree.BTreeMap ℕ Ballot) (greatest : Option SeqNo) → HaveSameBallots ballots news → IsGreatest c low ballots greatest → IsGreatest c low news greatest
 top_same c low ballots news None h top = λ n. stable_same c low ballots news n (h n) ∙ top n
@@ -276,7 +275,7 @@ without_stable c low ballots news (Some g) number r top none = split (cases_eq g
 raised : (c : Configuration) (low number : ℕ) (ballots news : tree.BTreeMap ℕ Ballot) (m : CheckedMessage) → IsConfiguration c → AreBallots c ballots → IsCheckpointAt c number m → low < number → HasBallot number (with_first m (ballot_in ballots number)) ballots news → Raised c low number ballots news
 raised c low number ballots news m k each is lt h = record {
   others = λ n ne. stable_same c low ballots news n (there number n (with_first m (ballot_in ballots number)) ballots news h ne);
-  stays = λ was. stays (quorum_digest (by_sha256 c) (said_by votes) number) refl was;
+  stays = λ was. stays (quorum_digest c (said_by votes) number) refl was;
 } where
   votes : Ballot
   votes = ballot_in ballots number
@@ -287,29 +286,29 @@ raised c low number ballots news m k each is lt h = record {
   under : nat_le low number ≡ true
   under = le-leb low number (omega (arith, lt))
 
-  stays : (o : Option Digest) → quorum_digest (by_sha256 c) (said_by (ballot_in ballots number)) number ≡ o → IsSome (cond (nat_le low number) (quorum_digest (by_sha256 c) (said_by (ballot_in ballots number)) number) None) → IsSome (stable_now c low news number)
-  stays None e was = absurd (some_or_none (cond (nat_le low number) (quorum_digest (by_sha256 c) (said_by (ballot_in ballots number)) number) None) was (cond-true (nat_le low number) (quorum_digest (by_sha256 c) (said_by (ballot_in ballots number)) number) None under ∙ e))
+  stays : (o : Option Digest) → quorum_digest c (said_by (ballot_in ballots number)) number ≡ o → IsSome (cond (nat_le low number) (quorum_digest c (said_by (ballot_in ballots number)) number) None) → IsSome (stable_now c low news number)
+  stays None e was = absurd (some_or_none (cond (nat_le low number) (quorum_digest c (said_by (ballot_in ballots number)) number) None) was (cond-true (nat_le low number) (quorum_digest c (said_by (ballot_in ballots number)) number) None under ∙ e))
   stays (Some d) e was =
-      ap is_some (cond-true (nat_le low number) (quorum_digest (by_sha256 c) (said_by (ballot_in news number)) number) None under
-      ∙ ap (λ (v : Ballot). quorum_digest (by_sha256 c) (said_by v) number) (here number (with_first m (ballot_in ballots number)) ballots news h)
-      ∙ quorum_stays (by_sha256 c) (said_by (ballot_in ballots number)) (said_by (with_first m (ballot_in ballots number))) number d (λ i x e. said_stays (ballot_in ballots number) m i x long e) e)
+      ap is_some (cond-true (nat_le low number) (quorum_digest c (said_by (ballot_in news number)) number) None under
+      ∙ ap (λ (v : Ballot). quorum_digest c (said_by v) number) (here number (with_first m (ballot_in ballots number)) ballots news h)
+      ∙ quorum_stays c (said_by (ballot_in ballots number)) (said_by (with_first m (ballot_in ballots number))) number d (λ i x e. said_stays (ballot_in ballots number) m i x long e) e)
 
 top_after : (c : Configuration) (low : ℕ) (ballots news : tree.BTreeMap ℕ Ballot) (greatest : Option SeqNo) (number : SeqNo) (b : Bool) → Raised c low number.0 ballots news → IsGreatest c low ballots greatest → b ≡ is_some (stable_now c low news number.0) → IsGreatest c low news (cond b (Some (greater_of greatest number)) greatest)
 top_after c low ballots news greatest number true r top e = with_stable c low ballots news greatest number r top (sym e)
 top_after c low ballots news greatest number false r top e = without_stable c low ballots news greatest number r top (none_is (stable_now c low news number.0) (sym e))
 
 pub kept_noted : (c : Configuration) (low : ℕ) (ballots news : tree.BTreeMap ℕ Ballot) (greatest later : Option SeqNo) (m : CheckedMessage) (number : SeqNo) (b : Bool) → AreKept c low ballots greatest → IsCheckpointAt c number.0 m → low < number.0 → HasBallot number.0 (with_first m (ballot_in ballots number.0)) ballots news
-    → b ≡ is_some (quorum_digest (by_sha256 c) (said_by (ballot_in news number.0)) number.0) → later ≡ cond b (Some (greater_of greatest number)) greatest → AreKept c low news later
+    → b ≡ is_some (quorum_digest c (said_by (ballot_in news number.0)) number.0) → later ≡ cond b (Some (greater_of greatest number)) greatest → AreKept c low news later
 kept_noted c low ballots news greatest later m number b h is lt has e l = record {
   configuration = h.configuration;
   each = ballots_after c number.0 ballots news m h.each is has;
   top = subst (IsGreatest c low news) (sym l) (top_after c low ballots news greatest number b (raised c low number.0 ballots news m h.configuration h.each is lt has) h.top
-      (e ∙ ap is_some (sym (cond-true (nat_le low number.0) (quorum_digest (by_sha256 c) (said_by (ballot_in news number.0)) number.0) None (le-leb low number.0 (omega (arith, lt)))))));
+      (e ∙ ap is_some (sym (cond-true (nat_le low number.0) (quorum_digest c (said_by (ballot_in news number.0)) number.0) None (le-leb low number.0 (omega (arith, lt)))))));
 }
 
-pub stable_some : {V : Type 0} (c d : Configuration) (news : tree.BTreeMap ℕ Ballot) (number : ℕ) (o : Option (V × Digest)) (b : Bool) → b ≡ is_some o → d ≡ c → option_map (λ p. p.1) o ≡ quorum_digest (by_sha256 d) (said_by (ballot_in news number)) number
-    → b ≡ is_some (quorum_digest (by_sha256 c) (said_by (ballot_in news number)) number)
-stable_some {V} c d news number o b e is h = e ∙ mapped o ∙ ap is_some h ∙ ap (λ (x : Configuration). is_some (quorum_digest (by_sha256 x) (said_by (ballot_in news number)) number)) is where
+pub stable_some : {V : Type 0} (c d : Configuration) (news : tree.BTreeMap ℕ Ballot) (number : ℕ) (o : Option (V × Digest)) (b : Bool) → b ≡ is_some o → d ≡ c → option_map (λ p. p.1) o ≡ quorum_digest d (said_by (ballot_in news number)) number
+    → b ≡ is_some (quorum_digest c (said_by (ballot_in news number)) number)
+stable_some {V} c d news number o b e is h = e ∙ mapped o ∙ ap is_some h ∙ ap (λ (x : Configuration). is_some (quorum_digest x (said_by (ballot_in news number)) number)) is where
   mapped : (o : Option (V × Digest)) → is_some o ≡ is_some (option_map {T = V × Digest} {U = Digest} (λ p. p.1) o)
   mapped None = refl
   mapped (Some p) = refl

@@ -20,12 +20,12 @@ use Rattle.pbft_model.specs.Acts.{Rise}
 use Rattle.pbft_model.specs.Certificates.{is_stable}
 use Rattle.pbft_model.specs.Core.{Core}
 use Rattle.pbft_model.specs.Duties.{Do, Duty, may_rise, or_else, rise_among, rise_with}
-use Rattle.pbft_model.specs.Setup.{Setup}
+use Rattle.pbft_model.specs.Setup.{Setup, setup_of}
 use Rattle.pbft_model.specs.Tables.{Key, Table, at, first_in, number_key}
 use Rattle.pbft_model.specs.Words.{Signed, Checkpoint}
 use Rattle.ballots.specs.Ballots.{is_digest}
-use Rattle.quorum_log.proofs.Tables.{by, is_equal, same_key}
-use Rattle.checkpoints.specs.Kept.{HasTablesOf, IsRaised, KeptCheckpoints, by_sha256, stable_at, stable_digest}
+use Rattle.ballots.proofs.Tables.{by, is_equal, same_key}
+use Rattle.checkpoints.specs.Kept.{HasTablesOf, IsRaised, KeptCheckpoints, stable_at, stable_digest}
 use Rattle.checkpoints.specs.Reading.{IsGreatestRaised, NoneRaised, is_raised}
 use Rattle.checkpoints.proofs.Proving.{above_mark}
 use Rattle.checkpoints.proofs.Stable.{is_stable_one, stable_is}
@@ -183,28 +183,28 @@ none_raised k e es is none m b f = none_found k e es none m b (sym (is m) ∙ f)
 -- ---- the core's test
 
 -- above the mark a digest is the stable one exactly where it is stable
-same_digest_test : (c : Setup) (checkpoints : Table (Signed Checkpoint)) (number : ℕ) (d : Digest) → is_digest d.0 (stable_digest c checkpoints number) ≡ is_stable c checkpoints number d.0
-same_digest_test c checkpoints number d = elim (cases_Bool (is_stable c checkpoints number d.0)) [
-  | inl t ↦ ap (is_digest d.0) (stable_is c checkpoints number d t) ∙ (bytes_eq-Decides d.0 d.0).1 refl ∙ sym t
-  | inr f ↦ none_or (stable_digest c checkpoints number) refl f
+same_digest_test : (c : Setup) (checkpoints : Table (Signed Checkpoint)) (number : ℕ) (d : Digest) → is_digest d.0 (stable_digest c.config checkpoints number) ≡ is_stable c.config checkpoints number d.0
+same_digest_test c checkpoints number d = elim (cases_Bool (is_stable c.config checkpoints number d.0)) [
+  | inl t ↦ ap (is_digest d.0) (stable_is c.config checkpoints number d t) ∙ (bytes_eq-Decides d.0 d.0).1 refl ∙ sym t
+  | inr f ↦ none_or (stable_digest c.config checkpoints number) refl f
 ] where
-  none_or : (o : Option Digest) → stable_digest c checkpoints number ≡ o → is_stable c checkpoints number d.0 ≡ false → is_digest d.0 (stable_digest c checkpoints number) ≡ is_stable c checkpoints number d.0
+  none_or : (o : Option Digest) → stable_digest c.config checkpoints number ≡ o → is_stable c.config checkpoints number d.0 ≡ false → is_digest d.0 (stable_digest c.config checkpoints number) ≡ is_stable c.config checkpoints number d.0
   none_or None e f = ap (is_digest d.0) e ∙ sym f
   none_or (Some x) e f = elim (cases_Bool (is_digest d.0 (Some x))) [
-    | inl t ↦ absurd (false≢true (sym f ∙ ap (is_stable c checkpoints number) (sym ((bytes_eq-Decides x.0 d.0).0 t)) ∙ is_stable_one c checkpoints number x e))
+    | inl t ↦ absurd (false≢true (sym f ∙ ap (is_stable c.config checkpoints number) (sym ((bytes_eq-Decides x.0 d.0).0 t)) ∙ is_stable_one c.config checkpoints number x e))
     | inr g ↦ ap (is_digest d.0) e ∙ g ∙ sym f
   ]
 
-same_test : (k : KeptCheckpoints) (s : Core) (n : ℕ) (bytes : List ℕ) → HasTablesOf k s → may_rise (by_sha256 k.config) s n (sha256 bytes) ≡ is_raised k s.executed n bytes
+same_test : (k : KeptCheckpoints) (s : Core) (n : ℕ) (bytes : List ℕ) → HasTablesOf k s → may_rise (setup_of k.config) s n (sha256 bytes) ≡ is_raised k s.executed n bytes
 same_test k s n bytes h =
-    let c = by_sha256 k.config in
+    let c = setup_of k.config in
     let d : Digest = record { 0 = sha256 bytes } in
-    ap (λ low. nat_lt low n && (nat_le n s.executed && is_stable c s.checkpoints n (sha256 bytes))) h.low
-    ∙ ap (λ (table : Table (Signed Checkpoint)). nat_lt k.low n && (nat_le n s.executed && is_stable c table n (sha256 bytes))) h.checkpoints
+    ap (λ low. nat_lt low n && (nat_le n s.executed && is_stable c.config s.checkpoints n (sha256 bytes))) h.low
+    ∙ ap (λ (table : Table (Signed Checkpoint)). nat_lt k.low n && (nat_le n s.executed && is_stable c.config table n (sha256 bytes))) h.checkpoints
     ∙ elim (cases_lt k.low n) [
       | inl lt ↦ ap (λ b. nat_lt k.low n && (nat_le n s.executed && b)) (sym (same_digest_test c k.checkpoints n d) ∙ ap (is_digest (sha256 bytes)) (sym (above_mark k n lt)))
       | inr le ↦
-          ap (λ b. b && (nat_le n s.executed && is_stable c k.checkpoints n (sha256 bytes))) (le-ltb k.low n le)
+          ap (λ b. b && (nat_le n s.executed && is_stable c.config k.checkpoints n (sha256 bytes))) (le-ltb k.low n le)
           ∙ sym (ap (λ b. b && (nat_le n s.executed && is_digest (sha256 bytes) (stable_at k n))) (le-ltb k.low n le))
     ]
 
@@ -261,21 +261,21 @@ one_rise c s n bytes duty (e ∷ es) sorted is own later = elim (cases_Bool (eq_
       ap (λ o. or_else o (rise_at c s (first_in e.0))) (one_rise c s n bytes duty es (second (below_all by e.0 es) (is_sorted by es) sorted) found own later)
 ]
 
-rise_false : (k : KeptCheckpoints) (s : Core) (n : ℕ) (o : Option (List ℕ)) → HasTablesOf k s → ((bytes : List ℕ) → o ≡ Some bytes → is_raised k s.executed n bytes ≡ false) → rise_with (by_sha256 k.config) s n o ≡ None
+rise_false : (k : KeptCheckpoints) (s : Core) (n : ℕ) (o : Option (List ℕ)) → HasTablesOf k s → ((bytes : List ℕ) → o ≡ Some bytes → is_raised k s.executed n bytes ≡ false) → rise_with (setup_of k.config) s n o ≡ None
 rise_false k s n None h f = refl
 rise_false k s n (Some bytes) h f = ap (λ b. cond b (Some (Do (Rise n (sha256 bytes)))) None) (same_test k s n bytes h ∙ f bytes refl)
 
-not_risen : (k : KeptCheckpoints) (s : Core) (n : ℕ) → HasTablesOf k s → ((bytes : List ℕ) → at k.snapshots (number_key n) ≡ Some bytes → is_raised k s.executed n bytes ≡ false) → rise_at (by_sha256 k.config) s n ≡ None
+not_risen : (k : KeptCheckpoints) (s : Core) (n : ℕ) → HasTablesOf k s → ((bytes : List ℕ) → at k.snapshots (number_key n) ≡ Some bytes → is_raised k s.executed n bytes ≡ false) → rise_at (setup_of k.config) s n ≡ None
 not_risen k s n h f = rise_false k s n (at s.snapshots (number_key n)) h (λ bytes is. f bytes (ap (λ (t : Table (List ℕ)). at t (number_key n)) (sym h.snapshots) ∙ is))
 
 pub none_due : (k : KeptCheckpoints) (e : ℕ) → NoneRaised k e → IsRaised k e None
 none_due k e none s h is =
-    no_rise (by_sha256 k.config) s s.snapshots
+    no_rise (setup_of k.config) s s.snapshots
     (λ n. not_risen k s n h (λ bytes f. subst (λ e. is_raised k e n bytes ≡ false) (sym is) (none n bytes f)))
 
 pub one_due : (k : KeptCheckpoints) (e : ℕ) (n : SeqNo) (d : Digest) → IsGreatestRaised k e n → stable_at k n.0 ≡ Some d → IsRaised k e (Some (Do (Rise n.0 d.0)))
 one_due k e n d w stable s h is =
-    let c = by_sha256 k.config in
+    let c = setup_of k.config in
     let here : is_raised k s.executed n.0 w.bytes ≡ true = subst (λ e. is_raised k e n.0 w.bytes ≡ true) (sym is) w.here in
     let kept : at s.snapshots (number_key n.0) ≡ Some w.bytes = ap (λ (t : Table (List ℕ)). at t (number_key n.0)) h.snapshots ∙ w.kept in
     let digest : d.0 ≡ sha256 w.bytes = digest_of k s.executed n.0 w.bytes d here stable in

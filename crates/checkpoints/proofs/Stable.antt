@@ -7,11 +7,12 @@ use Rattle.std.proofs.lemmas.Bool.{false≢true, and_parts, leb-true, le-leb, eq
 use Rattle.std.proofs.lemmas.Option.{same_Some}
 use Rattle.std.proofs.lemmas.Slice.Eq.{bytes_eq-Decides}
 use Rattle.host_types.specs.declared.Digest.{Digest}
+use Rattle.host_types.specs.Configuration.{Configuration}
 use Rattle.pbft_model.specs.Words.{Signed, Checkpoint}
 use Rattle.pbft_model.specs.Histories.{IsIn}
 use Rattle.pbft_model.specs.Core.{if_passes}
 use Rattle.pbft_model.specs.Certificates.{has_quorum, is_checkpoint_of, is_stable, some_by}
-use Rattle.pbft_model.specs.Setup.{Setup, count, is_least, is_replica, numbers_from, quorum, replicas}
+use Rattle.pbft_model.specs.Setup.{count, is_least, is_replica, numbers_from, quorum, replicas}
 use Rattle.pbft_model.specs.Tables.{Table, at, checkpoint_key}
 use Rattle.pbft_model.proofs.Counting.{quorums_meet, quorum_has}
 use Rattle.pbft_model.proofs.Found.{from_gathered, passed}
@@ -47,15 +48,15 @@ few : (f n : ℕ) → count (λ i. false) n ≤ f
 few f n = let none = nobody n in omega arith
 
 -- Two quorums share a replica, which has said one thing.
-pub said_once : (c : Setup) (by : ℕ → Option (Signed Checkpoint)) (number : ℕ) (d e : List ℕ) → has_quorum c (said by number d) ≡ true → has_quorum c (said by number e) ≡ true → d ≡ e
+pub said_once : (c : Configuration) (by : ℕ → Option (Signed Checkpoint)) (number : ℕ) (d e : List ℕ) → has_quorum c (said by number d) ≡ true → has_quorum c (said by number e) ≡ true → d ≡ e
 said_once c by number d e hd he =
-    let w = quorums_meet c.config.f (replicas c) (said by number d) (said by number e) (λ i. false) refl (leb-true (quorum c) (count (said by number d) (replicas c)) hd) (leb-true (quorum c) (count (said by number e) (replicas c)) he) (few c.config.f (replicas c)) in
+    let w = quorums_meet c.f (replicas c) (said by number d) (said by number e) (λ i. false) refl (leb-true (quorum c) (count (said by number d) (replicas c)) hd) (leb-true (quorum c) (count (said by number e) (replicas c)) he) (few c.f (replicas c)) in
     let one = has_said by number d w.0 w.2 in
     let two = has_said by number e w.0 w.3 in
     sym one.of_digest ∙ ap (λ (m : Signed Checkpoint). m.body.digest.0) (same_Some one.message two.message (sym one.is ∙ two.is)) ∙ two.of_digest
 
 -- Two digests are never stable at one number.
-pub stable_once : (c : Setup) (checkpoints : Table (Signed Checkpoint)) (number : ℕ) (d e : List ℕ) → is_stable c checkpoints number d ≡ true → is_stable c checkpoints number e ≡ true → d ≡ e
+pub stable_once : (c : Configuration) (checkpoints : Table (Signed Checkpoint)) (number : ℕ) (d e : List ℕ) → is_stable c checkpoints number d ≡ true → is_stable c checkpoints number e ≡ true → d ≡ e
 stable_once c checkpoints number = said_once c (λ i. at checkpoints (checkpoint_key number i)) number
 
 -- ---- the digest of a quorum is found
@@ -89,12 +90,12 @@ same_digest d e is = ap (λ (bytes : List ℕ). of_bytes bytes) is where
   of_bytes bytes = record { 0 = bytes }
 
 -- who has said what a quorum has
-pub some_signer : (c : Setup) (by : ℕ → Option (Signed Checkpoint)) (number : ℕ) (d : List ℕ) → has_quorum c (said by number d) ≡ true → (i : ℕ) × (i < replicas c) × HasSaid by number d i
+pub some_signer : (c : Configuration) (by : ℕ → Option (Signed Checkpoint)) (number : ℕ) (d : List ℕ) → has_quorum c (said by number d) ≡ true → (i : ℕ) × (i < replicas c) × HasSaid by number d i
 some_signer c by number d h =
-    let w = quorum_has c.config.f (replicas c) (said by number d) (λ i. false) (leb-true (quorum c) (count (said by number d) (replicas c)) h) (few c.config.f (replicas c)) in
+    let w = quorum_has c.f (replicas c) (said by number d) (λ i. false) (leb-true (quorum c) (count (said by number d) (replicas c)) h) (few c.f (replicas c)) in
     (w.0, w.1, has_said by number d w.0 w.2)
 
-pub quorum_is : (c : Setup) (by : ℕ → Option (Signed Checkpoint)) (number : ℕ) (d : Digest) → has_quorum c (said by number d.0) ≡ true → quorum_digest c by number ≡ Some d
+pub quorum_is : (c : Configuration) (by : ℕ → Option (Signed Checkpoint)) (number : ℕ) (d : Digest) → has_quorum c (said by number d.0) ≡ true → quorum_digest c by number ≡ Some d
 quorum_is c by number d h =
     let w = some_signer c by number d.0 h in
     let has = w.2 in
@@ -104,14 +105,14 @@ quorum_is c by number d h =
     (in_filter (digest_said by) (numbers_from 0 (replicas c)) w.0 d (in_numbers (replicas c) 0 w.0 (omega arith) (omega (arith, w.1))) own) h in
     found.1 ∙ ap Some (same_digest found.0 d (said_once c by number found.0.0 d.0 (find_passes test (filter_map (digest_said by) (numbers_from 0 (replicas c))) found.0 found.1) h))
 
-pub quorum_has_it : (c : Setup) (by : ℕ → Option (Signed Checkpoint)) (number : ℕ) (d : Digest) → quorum_digest c by number ≡ Some d → has_quorum c (said by number d.0) ≡ true
+pub quorum_has_it : (c : Configuration) (by : ℕ → Option (Signed Checkpoint)) (number : ℕ) (d : Digest) → quorum_digest c by number ≡ Some d → has_quorum c (said by number d.0) ≡ true
 quorum_has_it c by number d e = find_passes (λ x. has_quorum c (said by number x.0)) (filter_map (digest_said by) (numbers_from 0 (replicas c))) d e
 
 -- a digest is stable exactly where it is the stable one
-pub stable_is : (c : Setup) (checkpoints : Table (Signed Checkpoint)) (number : ℕ) (d : Digest) → is_stable c checkpoints number d.0 ≡ true → stable_digest c checkpoints number ≡ Some d
+pub stable_is : (c : Configuration) (checkpoints : Table (Signed Checkpoint)) (number : ℕ) (d : Digest) → is_stable c checkpoints number d.0 ≡ true → stable_digest c checkpoints number ≡ Some d
 stable_is c checkpoints number = quorum_is c (λ i. at checkpoints (checkpoint_key number i)) number
 
-pub is_stable_one : (c : Setup) (checkpoints : Table (Signed Checkpoint)) (number : ℕ) (d : Digest) → stable_digest c checkpoints number ≡ Some d → is_stable c checkpoints number d.0 ≡ true
+pub is_stable_one : (c : Configuration) (checkpoints : Table (Signed Checkpoint)) (number : ℕ) (d : Digest) → stable_digest c checkpoints number ≡ Some d → is_stable c checkpoints number d.0 ≡ true
 is_stable_one c checkpoints number = quorum_has_it c (λ i. at checkpoints (checkpoint_key number i)) number
 
 -- ---- no quorum
@@ -132,10 +133,10 @@ none_found {X} test value (suc many) first h =
           let fails = no_pass test x (ap (if_passes test) (sym e) ∙ h first (omega arith) (omega arith)) in
           cond-false (test x) (Some x) (find test (filter_map value (numbers_from (first + 1) many))) fails ∙ rest
 
-pub no_quorum : (c : Setup) (by : ℕ → Option (Signed Checkpoint)) (number : ℕ) → ((i : ℕ) → i < replicas c → quorum_by c by number i ≡ None) → quorum_digest c by number ≡ None
+pub no_quorum : (c : Configuration) (by : ℕ → Option (Signed Checkpoint)) (number : ℕ) → ((i : ℕ) → i < replicas c → quorum_by c by number i ≡ None) → quorum_digest c by number ≡ None
 no_quorum c by number h = none_found (λ d. has_quorum c (said by number d.0)) (digest_said by) (replicas c) 0 (λ i from below. h i (omega (arith, below)))
 
-pub nothing_said : (c : Setup) (number : ℕ) → quorum_digest c (λ i. None) number ≡ None
+pub nothing_said : (c : Configuration) (number : ℕ) → quorum_digest c (λ i. None) number ≡ None
 nothing_said c number = no_quorum c (λ i. None) number (λ i below. refl)
 
 -- ---- one more Checkpoint
@@ -150,7 +151,7 @@ count_below p q (suc n) h = step (p n) (q n) (h n) (count_below p q n h) where
   step false false k rest = omega arith
 
 -- what was said stays said
-pub quorum_stays : (c : Setup) (by more : ℕ → Option (Signed Checkpoint)) (number : ℕ) (d : Digest) → ((i : ℕ) (m : Signed Checkpoint) → by i ≡ Some m → more i ≡ Some m) → quorum_digest c by number ≡ Some d → quorum_digest c more number ≡ Some d
+pub quorum_stays : (c : Configuration) (by more : ℕ → Option (Signed Checkpoint)) (number : ℕ) (d : Digest) → ((i : ℕ) (m : Signed Checkpoint) → by i ≡ Some m → more i ≡ Some m) → quorum_digest c by number ≡ Some d → quorum_digest c more number ≡ Some d
 quorum_stays c by more number d h e =
     let enough = leb-true (quorum c) (count (said by number d.0) (replicas c)) (quorum_has_it c by number d e) in
     let same : (i : ℕ) → said by number d.0 i ≡ true → said more number d.0 i ≡ true = λ i t.
@@ -165,7 +166,7 @@ digest_of_all : (ms : List (Signed Checkpoint)) (d : Digest) → ((m : Signed Ch
 digest_of_all [] d h k = absurd (omega arith)
 digest_of_all (m ∷ ms) d h k = ap Some (h m (inl refl))
 
-proof_digest : (c : Setup) (by : ℕ → Option (Signed Checkpoint)) (number : ℕ) (d : Digest) → has_quorum c (said by number d.0) ≡ true → digest_of_proof (quorum_proof c by number (Some d)) ≡ Some d
+proof_digest : (c : Configuration) (by : ℕ → Option (Signed Checkpoint)) (number : ℕ) (d : Digest) → has_quorum c (said by number d.0) ≡ true → digest_of_proof (quorum_proof c by number (Some d)) ≡ Some d
 proof_digest c by number d h =
     let test = said by number d.0 in
     let enough = leb-true (quorum c) (count test (replicas c)) h in
@@ -180,11 +181,11 @@ proof_digest c by number d h =
     (omega (arith, enough, least, long))
 
 -- of what a quorum has, the proof has the digest
-pub digest_proved : (c : Setup) (by : ℕ → Option (Signed Checkpoint)) (number : ℕ) → digest_of_proof (quorum_proof c by number (quorum_digest c by number)) ≡ quorum_digest c by number
+pub digest_proved : (c : Configuration) (by : ℕ → Option (Signed Checkpoint)) (number : ℕ) → digest_of_proof (quorum_proof c by number (quorum_digest c by number)) ≡ quorum_digest c by number
 digest_proved c by number = split (quorum_digest c by number) refl where
   split : (o : Option Digest) → quorum_digest c by number ≡ o → digest_of_proof (quorum_proof c by number o) ≡ o
   split None e = refl
   split (Some d) e = proof_digest c by number d (quorum_has_it c by number d e)
 
-pub quorum_passed : (c : Setup) (by : ℕ → Option (Signed Checkpoint)) (number i : ℕ) (d : Digest) → quorum_by c by number i ≡ Some d → quorum_digest c by number ≡ Some d
+pub quorum_passed : (c : Configuration) (by : ℕ → Option (Signed Checkpoint)) (number i : ℕ) (d : Digest) → quorum_by c by number i ≡ Some d → quorum_digest c by number ≡ Some d
 quorum_passed c by number i d e = quorum_is c by number d (passed (λ x. has_quorum c (said by number x.0)) (digest_said by i) d e).1

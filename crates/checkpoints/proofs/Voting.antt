@@ -22,11 +22,10 @@ use Rattle.pbft_model.proofs.Gathering.{numbers_last, filter_append}
 use Rattle.seal.specs.Opening.{CheckedMessage, IsChecked}
 use Rattle.seal.specs.Parts.{as_message}
 use Rattle.seal.specs.Signers.{key_of, may_sign}
-use Rattle.ballots.specs.Ballots.{Ballot, AreListed, AreUnder, digest_in, is_digest, is_for, least_votes, recorded, vote_at, voted_for}
-use Rattle.quorum_log.specs.Slots.{with_first}
+use Rattle.ballots.specs.Ballots.{Ballot, AreListed, AreUnder, digest_in, is_digest, is_for, least_votes, recorded, vote_at, voted_for, with_first}
 use Rattle.ballots.proofs.Ballots.{nobody, own_vote}
-use Rattle.quorum_log.proofs.Recording.{first_at}
-use Rattle.checkpoints.specs.Kept.{by_sha256, checkpoint_in, checkpoint_of}
+use Rattle.ballots.proofs.First.{first_at}
+use Rattle.checkpoints.specs.Kept.{checkpoint_in, checkpoint_of}
 use Rattle.checkpoints.specs.Reading.{IsBallotAt, IsCheckpointAt, as_checkpoint, digest_said, no_votes, quorum_by, quorum_proof, said, said_by}
 
 -- ---- each vote of a ballot is a Checkpoint
@@ -74,10 +73,10 @@ pub no_digest_at : (c : Configuration) (number : ℕ) (votes : Ballot) (i : ℕ)
 no_digest_at c number votes i e = ap (λ (o : Option CheckedMessage). option_map (λ p. p.body.digest) (as_checkpoint o)) e
 
 pub quorum_said : (c : Configuration) (number : ℕ) (votes : Ballot) (i : ℕ) (m : CheckedMessage) (d : Digest) (b : Bool) → IsBallotAt c number votes → vote_at votes i ≡ Some m → digest_in m.message.body ≡ Some d
-    → b ≡ has_quorum (by_sha256 c) (voted_for d.0 votes) → quorum_by (by_sha256 c) (said_by votes) number i ≡ cond b (Some d) None
+    → b ≡ has_quorum c (voted_for d.0 votes) → quorum_by c (said_by votes) number i ≡ cond b (Some d) None
 quorum_said c number votes i m d b h e named is =
-    ap (if_passes (λ x. has_quorum (by_sha256 c) (said (said_by votes) number x.0))) (digest_at_signer c number votes i m d h e named)
-    ∙ ap (λ (t : Bool). cond t (Some d) None) (ap (has_quorum (by_sha256 c)) (said_votes c number votes d.0 h) ∙ sym is)
+    ap (if_passes (λ x. has_quorum c (said (said_by votes) number x.0))) (digest_at_signer c number votes i m d h e named)
+    ∙ ap (λ (t : Bool). cond t (Some d) None) (ap (has_quorum c) (said_votes c number votes d.0 h) ∙ sym is)
 
 -- ---- a proof as messages
 
@@ -125,18 +124,18 @@ as_signed c number votes h i = split (vote_at votes i) refl where
       ap (option_map (as_message bodies.Checkpoint)) (as_said m w.said w.is) ∙ ap (λ (b : Body). Some (record m.message { body = b })) (sym w.is)
 
 -- the votes of the least signers, as messages, are the proof
-pub least_proof : (c : Configuration) (number : ℕ) (votes : Ballot) (d : Digest) (many : ℕ) → IsConfiguration c → IsBallotAt c number votes → many ≡ quorum (by_sha256 c)
-    → least_votes many d.0 votes ≡ map (as_message bodies.Checkpoint) (quorum_proof (by_sha256 c) (said_by votes) number (Some d))
+pub least_proof : (c : Configuration) (number : ℕ) (votes : Ballot) (d : Digest) (many : ℕ) → IsConfiguration c → IsBallotAt c number votes → many ≡ quorum c
+    → least_votes many d.0 votes ≡ map (as_message bodies.Checkpoint) (quorum_proof c (said_by votes) number (Some d))
 least_proof c number votes d many k h all =
     let value : ℕ → Option (Signed Body) = λ signer. option_map (λ m. m.message) (vote_at votes signer) in
     let sum : 10 ≡ (10 - replicas_for c.f) + replicas_for c.f = omega (arith, k.max_faulty) in
     let voters = sym (said_votes c number votes d.0 h) in
     let signed : ◌≡◌ {A = ℕ → Option (Signed Body)} value (λ signer. option_map (as_message bodies.Checkpoint) (said_by votes signer)) = λ j i. sym (as_signed c number votes h i) j in
     ap (λ n. gathered (is_least n (voted_for d.0 votes)) value 10) all
-    ∙ ap (gathered (is_least (quorum (by_sha256 c)) (voted_for d.0 votes)) value) sum
-    ∙ gathered_up_to (is_least (quorum (by_sha256 c)) (voted_for d.0 votes)) value (replicas_for c.f) (10 - replicas_for c.f) (λ i beyond. ap (option_map (λ m. m.message)) (listed c number votes h i beyond))
-    ∙ (λ j. gathered (is_least (quorum (by_sha256 c)) (voters j)) (signed j) (replicas_for c.f))
-    ∙ sym (map_filter (as_message bodies.Checkpoint) (is_least (quorum (by_sha256 c)) (said (said_by votes) number d.0)) (said_by votes) (numbers_from 0 (replicas_for c.f)))
+    ∙ ap (gathered (is_least (quorum c) (voted_for d.0 votes)) value) sum
+    ∙ gathered_up_to (is_least (quorum c) (voted_for d.0 votes)) value (replicas_for c.f) (10 - replicas_for c.f) (λ i beyond. ap (option_map (λ m. m.message)) (listed c number votes h i beyond))
+    ∙ (λ j. gathered (is_least (quorum c) (voters j)) (signed j) (replicas_for c.f))
+    ∙ sym (map_filter (as_message bodies.Checkpoint) (is_least (quorum c) (said (said_by votes) number d.0)) (said_by votes) (numbers_from 0 (replicas_for c.f)))
 
 -- ---- ballots that change
 

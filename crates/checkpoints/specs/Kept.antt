@@ -13,7 +13,7 @@ use Rattle.pbft_model.specs.Acts.{add_checkpoint, with_body}
 use Rattle.pbft_model.specs.Certificates.{checkpointed, is_stable}
 use Rattle.pbft_model.specs.Core.{Core}
 use Rattle.pbft_model.specs.Duties.{Duty, due_rise, greatest_stable}
-use Rattle.pbft_model.specs.Setup.{Setup, gathered, is_least, numbers_from, quorum, replicas}
+use Rattle.pbft_model.specs.Setup.{gathered, is_least, numbers_from, quorum, replicas, setup_of}
 use Rattle.pbft_model.specs.Tables.{Table, at, entries_in, with_entry, keep, checkpoint_key, number_key, first_in, is_above}
 use Rattle.seal.specs.Lists.{CheckedMessages}
 use Rattle.seal.specs.Parts.{as_message}
@@ -32,24 +32,12 @@ pub record KeptCheckpoints : Type 0 where
 abbrev pub start : Configuration → KeptCheckpoints
 start c = record { config = c; low = 0; proof = []; checkpoints = []; snapshots = [] }
 
--- The replicas' hash is SHA-256. What doesn't name a snapshot's digest is the same for any other.
-abbrev pub by_sha256 : Configuration → Setup
-by_sha256 c = record { config = c; hash = sha256 }
-
 -- ---- a Checkpoint message
 
 -- a message as a Checkpoint, if it is one
 abbrev pub checkpoint_in : Signed Body → Body → Option (Signed Checkpoint)
 checkpoint_in m (bodies.Checkpoint b) = Some (with_body m b)
-checkpoint_in m (bodies.Request b) = None
-checkpoint_in m (bodies.PrePrepare b) = None
-checkpoint_in m (bodies.Prepare b) = None
-checkpoint_in m (bodies.Commit b) = None
-checkpoint_in m (bodies.Reply b) = None
-checkpoint_in m (bodies.ViewChange b) = None
-checkpoint_in m (bodies.NewView b) = None
-checkpoint_in m (bodies.Fetch b) = None
-checkpoint_in m (bodies.Snapshot b) = None
+checkpoint_in m _ = None
 
 abbrev pub checkpoint_of : Signed Body → Option (Signed Checkpoint)
 checkpoint_of m = checkpoint_in m m.body
@@ -77,12 +65,12 @@ abbrev pub digest_by : Table (Signed Checkpoint) → ℕ → ℕ → Option Dige
 digest_by checkpoints number i = option_map (λ m. m.body.digest) (at checkpoints (checkpoint_key number i))
 
 -- the digest that is stable at a number: two never are
-abbrev pub stable_digest : Setup → Table (Signed Checkpoint) → ℕ → Option Digest
+abbrev pub stable_digest : Configuration → Table (Signed Checkpoint) → ℕ → Option Digest
 stable_digest c checkpoints number =
     find (λ d. is_stable c checkpoints number d.0) (filter_map (digest_by checkpoints number) (numbers_from 0 (replicas c)))
 
 -- the proof that it is: the Checkpoints of a quorum's least signers
-abbrev pub proof_for : Setup → Table (Signed Checkpoint) → ℕ → Option Digest → List (Signed Checkpoint)
+abbrev pub proof_for : Configuration → Table (Signed Checkpoint) → ℕ → Option Digest → List (Signed Checkpoint)
 proof_for c checkpoints number None = []
 proof_for c checkpoints number (Some digest) =
     gathered (is_least (quorum c) (checkpointed checkpoints number digest.0)) (λ i. at checkpoints (checkpoint_key number i)) (replicas c)
@@ -95,13 +83,12 @@ digest_of_proof (m ∷ ms) = Some m.body.digest
 -- The digest that is stable at a number, if one is: at the low mark that of its proof.
 abbrev pub stable_at : KeptCheckpoints → ℕ → Option Digest
 stable_at k number =
-    cond (number == k.low) (digest_of_proof k.proof) (stable_digest (by_sha256 k.config) k.checkpoints number)
+    cond (number == k.low) (digest_of_proof k.proof) (stable_digest k.config k.checkpoints number)
 
 -- The proof of a number: of the low mark that which is kept.
 abbrev pub proof_at : KeptCheckpoints → ℕ → List (Signed Checkpoint)
 proof_at k number =
-    let c = by_sha256 k.config in
-    cond (number == k.low) k.proof (proof_for c k.checkpoints number (stable_digest c k.checkpoints number))
+    cond (number == k.low) k.proof (proof_for k.config k.checkpoints number (stable_digest k.config k.checkpoints number))
 
 abbrev pub proof_list : KeptCheckpoints → ℕ → CheckedMessages
 proof_list k number = record { config = k.config; messages = map (as_message bodies.Checkpoint) (proof_at k number) }
@@ -119,7 +106,7 @@ pub record IsGreatestStable (k : KeptCheckpoints) (e number : ℕ) : Type 0 wher
 -- above the mark a digest is stable exactly where it is this one
 abbrev pub IsStableExactly : KeptCheckpoints → ℕ → Option Digest → Type 0
 IsStableExactly k number o =
-    (d : Digest) → k.low < number → (is_stable (by_sha256 k.config) k.checkpoints number d.0 ≡ true) ↔ (o ≡ Some d)
+    (d : Digest) → k.low < number → (is_stable k.config k.checkpoints number d.0 ≡ true) ↔ (o ≡ Some d)
 
 -- A core with these Checkpoints, whose last executed number is not below the mark.
 pub record HasCheckpointsOf (k : KeptCheckpoints) (s : Core) : Type 0 where
@@ -129,7 +116,7 @@ pub record HasCheckpointsOf (k : KeptCheckpoints) (s : Core) : Type 0 where
 -- the number whose snapshot such a core fetches, where e is the last executed one; 0 for none
 abbrev pub IsFetched : KeptCheckpoints → ℕ → ℕ → Type 0
 IsFetched k e number =
-    (s : Core) → HasCheckpointsOf k s → s.executed ≡ e → greatest_stable (by_sha256 k.config) s (entries_in s.checkpoints) ≡ number
+    (s : Core) → HasCheckpointsOf k s → s.executed ≡ e → greatest_stable (setup_of k.config) s (entries_in s.checkpoints) ≡ number
 
 -- ---- snapshots
 
@@ -140,7 +127,7 @@ with_snapshot k number bytes = record k { snapshots = with_entry k.snapshots (nu
 abbrev pub offer_fault : KeptCheckpoints → ℕ → List ℕ → Option CheckpointFault
 offer_fault k number bytes =
     if nat_le number k.low then Some Old
-    else (if is_stable (by_sha256 k.config) k.checkpoints number (sha256 bytes) then None else Some DigestDiffers)
+    else (if is_stable k.config k.checkpoints number (sha256 bytes) then None else Some DigestDiffers)
 
 -- ---- the low mark
 
@@ -152,7 +139,7 @@ pub record HasTablesOf (k : KeptCheckpoints) (s : Core) : Type 0 where
 
 -- what is due in such a core for its mark to rise, where e is the last executed number
 abbrev pub IsRaised : KeptCheckpoints → ℕ → Option Duty → Type 0
-IsRaised k e duty = (s : Core) → HasTablesOf k s → s.executed ≡ e → due_rise (by_sha256 k.config) s ≡ duty
+IsRaised k e duty = (s : Core) → HasTablesOf k s → s.executed ≡ e → due_rise (setup_of k.config) s ≡ duty
 
 -- All at or below a number above the mark is discarded, but the snapshot there and its proof.
 abbrev pub discarded : ℕ → KeptCheckpoints → KeptCheckpoints

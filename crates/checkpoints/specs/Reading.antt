@@ -15,12 +15,12 @@ use Rattle.pbft_codec.specs.declared.body.Body.TheVariants as bodies
 use Rattle.pbft_model.specs.Words.{Signed, Checkpoint, Replica}
 use Rattle.pbft_model.specs.Certificates.{has_quorum, is_checkpoint_of, some_by}
 use Rattle.pbft_model.specs.Core.{if_passes}
-use Rattle.pbft_model.specs.Setup.{Setup, gathered, is_least, numbers_from, quorum, replicas}
+use Rattle.pbft_model.specs.Setup.{gathered, is_least, numbers_from, quorum, replicas}
 use Rattle.pbft_model.specs.Tables.{Key, Table, at, number_key}
 use Rattle.seal.specs.Opening.{CheckedMessage}
 use Rattle.ballots.specs.Ballots.{Ballot, is_digest, vote_at}
-use Rattle.quorum_log.specs.Windows.{table_by}
-use Rattle.checkpoints.specs.Kept.{KeptCheckpoints, by_sha256, checkpoint_of, stable_at}
+use Rattle.ballots.specs.ByKey.{table_by}
+use Rattle.checkpoints.specs.Kept.{KeptCheckpoints, checkpoint_of, stable_at}
 
 -- ---- the ballots by number
 
@@ -68,16 +68,16 @@ abbrev pub digest_said : (ℕ → Option (Signed Checkpoint)) → ℕ → Option
 digest_said by i = option_map (λ m. m.body.digest) (by i)
 
 -- the digest of this replica's Checkpoint, if a quorum has it
-abbrev pub quorum_by : Setup → (ℕ → Option (Signed Checkpoint)) → ℕ → ℕ → Option Digest
+abbrev pub quorum_by : Configuration → (ℕ → Option (Signed Checkpoint)) → ℕ → ℕ → Option Digest
 quorum_by c by number i = if_passes (λ d. has_quorum c (said by number d.0)) (digest_said by i)
 
 -- the digest that a quorum has
-abbrev pub quorum_digest : Setup → (ℕ → Option (Signed Checkpoint)) → ℕ → Option Digest
+abbrev pub quorum_digest : Configuration → (ℕ → Option (Signed Checkpoint)) → ℕ → Option Digest
 quorum_digest c by number =
     find (λ d. has_quorum c (said by number d.0)) (filter_map (digest_said by) (numbers_from 0 (replicas c)))
 
 -- the Checkpoints of its least signers
-abbrev pub quorum_proof : Setup → (ℕ → Option (Signed Checkpoint)) → ℕ → Option Digest → List (Signed Checkpoint)
+abbrev pub quorum_proof : Configuration → (ℕ → Option (Signed Checkpoint)) → ℕ → Option Digest → List (Signed Checkpoint)
 quorum_proof c by number None = []
 quorum_proof c by number (Some digest) = gathered (is_least (quorum c) (said by number digest.0)) by (replicas c)
 
@@ -117,12 +117,12 @@ snapshots_in snapshots = table_by (bytes_at_key snapshots) (number_keys (tree.ke
 -- the digest that is stable at a number not below the mark
 abbrev pub stable_now : Configuration → ℕ → tree.BTreeMap ℕ Ballot → ℕ → Option Digest
 stable_now c low ballots number =
-    cond (nat_le low number) (quorum_digest (by_sha256 c) (said_by (ballot_in ballots number)) number) None
+    cond (nat_le low number) (quorum_digest c (said_by (ballot_in ballots number)) number) None
 
 abbrev pub proof_now : Configuration → tree.BTreeMap ℕ Ballot → ℕ → List (Signed Checkpoint)
 proof_now c ballots number =
     let by = said_by (ballot_in ballots number) in
-    quorum_proof (by_sha256 c) by number (quorum_digest (by_sha256 c) by number)
+    quorum_proof c by number (quorum_digest c by number)
 
 abbrev pub kept_in : Configuration → ℕ → tree.BTreeMap ℕ Ballot → tree.BTreeMap ℕ (List ℕ) → KeptCheckpoints
 kept_in c low ballots snapshots = record {

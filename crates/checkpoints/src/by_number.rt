@@ -4,16 +4,14 @@ ghost use Rattle.std.specs.Prelude.{◌≡◌, ℕ, ◌<◌, cond, true, false, 
 ghost use Rattle.std.specs.Option.{option_map};
 ghost use Rattle.std.specs.Ordering.{nat_cmp};
 ghost use Rattle.std.specs.BTreeMap as tree;
-ghost use Rattle.ballots.specs.Ballots.{digest_in, is_digest, vote_at};
-ghost use Rattle.quorum_log.specs.Slots.{is_for_other, with_first};
+ghost use Rattle.ballots.specs.Ballots.{digest_in, is_digest, vote_at, is_for_other, with_first};
 ghost use Rattle.checkpoints.specs.Faults.{IsRefusal};
-ghost use Rattle.checkpoints.specs.Kept.{by_sha256};
 ghost use Rattle.checkpoints.specs.Reading.{HasBallot, HaveSameBallots, IsBallotAt, ballot_in, quorum_by, quorum_digest, said_by};
 ghost use Rattle.checkpoints.specs.declared.fault.CheckpointFault.TheVariants.{DigestDiffers};
 
 use crate::fault::CheckpointFault;
+use ballots::{Votes, digest_named};
 use host_types::{Config, Digest, ReplicaId, SeqNo};
-use quorum_log::{Votes, digest_named};
 use seal::Checked;
 use std::alloc::{AllocError, Global};
 use std::collections::BTreeMap;
@@ -89,7 +87,7 @@ pub(crate) fn quorum_at<'a>(
 ) -> Option<(&'a Votes, Digest)>
     requires { IsBallotAt config.now number.0 (ballot_in ballots.now number.0) }
     ensures ballot { IfSome result (λ p. p.0.now ≡ ballot_in ballots.now number.0) }
-    ensures digest { option_map (λ p. p.1) result ≡ quorum_digest (by_sha256 config.now) (said_by (ballot_in ballots.now number.0)) number.0 }
+    ensures digest { option_map (λ p. p.1) result ≡ quorum_digest config.now (said_by (ballot_in ballots.now number.0)) number.0 }
 {
     let votes = ballots.get(&number.0)?;
     let digest = digest_of_quorum(config, votes, number)?;
@@ -99,7 +97,7 @@ pub(crate) fn quorum_at<'a>(
 // The digest that a quorum has, if one has.
 fn digest_of_quorum(config: &Config, votes: &Votes, number: SeqNo) -> Option<Digest>
     requires { IsBallotAt config.now number.0 votes.now }
-    ensures { result ≡ quorum_digest (by_sha256 config.now) (said_by votes.now) number.0 }
+    ensures { result ≡ quorum_digest config.now (said_by votes.now) number.0 }
 {
     for signer in 0..config.replica_count() {
         if let Some(digest) = digest_if_quorum(config, votes, number, ReplicaId(signer)) {
@@ -117,7 +115,7 @@ fn digest_if_quorum(
     signer: ReplicaId,
 ) -> Option<Digest>
     requires { IsBallotAt config.now number.0 votes.now }
-    ensures { result ≡ quorum_by (by_sha256 config.now) (said_by votes.now) number.0 signer.0 }
+    ensures { result ≡ quorum_by config.now (said_by votes.now) number.0 signer.0 }
 {
     let _ = number;
     let digest = digest_named(votes.get(signer)?.body())?;

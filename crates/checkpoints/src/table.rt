@@ -16,9 +16,9 @@ ghost use Rattle.checkpoints.specs.declared.fault.CheckpointFault.TheVariants.{M
 use crate::by_number::{accept, drop_below, quorum_at};
 use crate::fault::CheckpointFault;
 use crate::snapshot::Snapshot;
+use ballots::Votes;
 use host_types::{Bytes, Config, Digest, SeqNo};
 use pbft_codec::Body;
-use quorum_log::Votes;
 use seal::{Checked, CheckedList};
 use std::alloc::{AllocError, Global};
 use std::collections::BTreeMap;

@@ -24,9 +24,10 @@ use Rattle.service_model.proofs.Determined.{follows_more}
 use Rattle.service_model.specs.Steps.{Follows}
 use Rattle.service_model.specs.TenantStates.{genesis_of}
 use Rattle.pbft_model.proofs.Counting.{found_outside}
-use Rattle.pbft_model.specs.Agreement.{IsLastReplyAt, requests_in}
-use Rattle.pbft_model.specs.Histories.{IsCorrect, IsIn, listed_in}
-use Rattle.pbft_model.specs.Journals.{AgreesOver, HasGiven, IsHonestFamily, Journals}
+use Rattle.pbft_agreement.specs.Agreement.{IsLastReplyAt, requests_in}
+use Rattle.pbft_model.specs.Histories.{IsIn, listed_in}
+use Rattle.pbft_model.specs.Families.{IsCorrect}
+use Rattle.pbft_agreement.specs.Journals.{AgreesOver, HasGiven, IsHonestFamily, Journals}
 use Rattle.pbft_model.specs.Rows.{Output, Row}
 use Rattle.pbft_model.specs.Rules.{reply_in}
 use Rattle.pbft_model.specs.Setup.{Setup, count, replicas, request_in}
@@ -102,15 +103,7 @@ offer_same s replica (bodies.Reply b) = split (awaits s b) where
   split : (e : Bool) → Same s (cond e (record s { answers = s.answers ++ answer_in replica b ∷ [] }) s)
   split true = (refl, refl, refl)
   split false = (refl, refl, refl)
-offer_same s replica (bodies.Request b) = (refl, refl, refl)
-offer_same s replica (bodies.PrePrepare b) = (refl, refl, refl)
-offer_same s replica (bodies.Prepare b) = (refl, refl, refl)
-offer_same s replica (bodies.Commit b) = (refl, refl, refl)
-offer_same s replica (bodies.Checkpoint b) = (refl, refl, refl)
-offer_same s replica (bodies.ViewChange b) = (refl, refl, refl)
-offer_same s replica (bodies.NewView b) = (refl, refl, refl)
-offer_same s replica (bodies.Fetch b) = (refl, refl, refl)
-offer_same s replica (bodies.Snapshot b) = (refl, refl, refl)
+offer_same s replica _ = (refl, refl, refl)
 
 offers_same : (s : SessionState) (ms : List (Signed Body)) → Same s (after_offers s ms)
 offers_same s [] = (refl, refl, refl)
@@ -131,15 +124,7 @@ offer_adds s m (bodies.Reply b) a is at = split (awaits s b) refl at where
         let fits = and_parts (b.client.0 == s.client.0) (b.time == s.time) open_one.1 in
         inr (record { message = m; among = inl refl; body = b; body_is = is; answer_is = new; client_is = eqb-true b.client.0 s.client.0 fits.0; time_is = eqb-true b.time s.time fits.1 })
   ]
-offer_adds s m (bodies.Request b) a is at = inl at
-offer_adds s m (bodies.PrePrepare b) a is at = inl at
-offer_adds s m (bodies.Prepare b) a is at = inl at
-offer_adds s m (bodies.Commit b) a is at = inl at
-offer_adds s m (bodies.Checkpoint b) a is at = inl at
-offer_adds s m (bodies.ViewChange b) a is at = inl at
-offer_adds s m (bodies.NewView b) a is at = inl at
-offer_adds s m (bodies.Fetch b) a is at = inl at
-offer_adds s m (bodies.Snapshot b) a is at = inl at
+offer_adds s m _ a is at = inl at
 
 first_offered : (s : SessionState) (m : Signed Body) (ms : List (Signed Body)) (a : Answer) → IsOffered s (m ∷ []) a → IsOffered s (m ∷ ms) a
 first_offered s m ms a w = record { message = w.message; among = only w.among; body = w.body; body_is = w.body_is; answer_is = w.answer_is; client_is = w.client_is; time_is = w.time_is } where
@@ -300,9 +285,9 @@ module _ (c : Setup) (j : Journals) (s : SessionState) (ms : List (Signed Body))
       let f_is : (after_offers s ms).config.f ≡ c.config.f = ap (λ (k : Configuration). k.f) (same.0 ∙ config) in
       let many = ltb-true (after_offers s ms).config.f (backers (after_offers s ms).answers found.0.number.0 found.0.result (replicas_for (after_offers s ms).config.f)) vouched in
       let count_is = counted (after_offers s ms).answers found.0.number.0 found.0.result (replicas_for (after_offers s ms).config.f) in
-      let more = more_than (after_offers s ms).config.f c.config.f _ _ (count j.faulty (replicas c)) f_is many
+      let more = more_than (after_offers s ms).config.f c.config.f _ _ (count j.faulty (replicas c.config)) f_is many
       (count_is ∙ ap (λ (k : ℕ). count (has_said (after_offers s ms).answers found.0.number.0 found.0.result) (replicas_for k)) f_is) h.few in
-      let w = found_outside (has_said (after_offers s ms).answers found.0.number.0 found.0.result) j.faulty (replicas c) more in
+      let w = found_outside (has_said (after_offers s ms).answers found.0.number.0 found.0.result) j.faulty (replicas c.config) more in
       let of : HasSaid (after_offers s ms).answers found.0.number.0 found.0.result w.0 = said (after_offers s ms).answers found.0.number.0 found.0.result w.0 w.2 in
       record {
         replica = w.0;

@@ -14,9 +14,9 @@ use Rattle.service_model.proofs.Determined.{same_follows}
 use Rattle.service_model.specs.Steps.{Follows}
 use Rattle.service_model.specs.TenantStates.{Service, genesis_of, last_reply_of}
 use Rattle.service_model.specs.declared.outcome.Outcome.{Outcome}
-use Rattle.pbft_model.specs.Agreement.{requests_in}
+use Rattle.pbft_agreement.specs.Agreement.{requests_in}
 use Rattle.pbft_model.specs.Histories.{IsIn}
-use Rattle.pbft_model.specs.Journals.{AgreesOver, Journals}
+use Rattle.pbft_agreement.specs.Journals.{AgreesOver, Journals}
 use Rattle.pbft_model.specs.Setup.{Setup, request_in}
 use Rattle.client_session.specs.Accepted.{IsAnswered, SignsAlone}
 use Rattle.client_session.proofs.Accepting.{located}

@@ -9,9 +9,10 @@ use Rattle.pbft_codec.specs.declared.signed.Role.TheVariants.{Replica}
 use Rattle.pbft_codec.specs.declared.signed.Signed.{Signed}
 use Rattle.seal.specs.Parts.{as_message, part_of}
 use Rattle.seal.specs.Signers.{IsAuthentic}
-use Rattle.pbft_model.specs.Agreement.{ServesFirst}
-use Rattle.pbft_model.specs.Histories.{IsCorrect, IsIn}
-use Rattle.pbft_model.specs.Journals.{HasGiven, IsReceived, Journals}
+use Rattle.pbft_agreement.specs.Agreement.{ServesFirst}
+use Rattle.pbft_model.specs.Histories.{IsIn}
+use Rattle.pbft_model.specs.Families.{IsCorrect}
+use Rattle.pbft_agreement.specs.Journals.{HasGiven, IsReceived, Journals}
 use Rattle.pbft_model.specs.Sequential.{Outcome, Service}
 use Rattle.pbft_model.specs.Setup.{Setup}
 use Rattle.client_session.specs.Sessions.{SessionState, offered}

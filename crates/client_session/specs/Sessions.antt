@@ -88,15 +88,7 @@ answer_in replica b = record { replica = replica; number = b.number; result = b.
 abbrev pub after_offer : SessionState → ℕ → Body → SessionState
 after_offer s replica (bodies.Reply b) =
     if awaits s b then record s { answers = s.answers ++ answer_in replica b ∷ [] } else s
-after_offer s replica (bodies.Request b) = s
-after_offer s replica (bodies.PrePrepare b) = s
-after_offer s replica (bodies.Prepare b) = s
-after_offer s replica (bodies.Commit b) = s
-after_offer s replica (bodies.Checkpoint b) = s
-after_offer s replica (bodies.ViewChange b) = s
-after_offer s replica (bodies.NewView b) = s
-after_offer s replica (bodies.Fetch b) = s
-after_offer s replica (bodies.Snapshot b) = s
+after_offer s replica _ = s
 
 abbrev pub offered : SessionState → Signed Body → SessionState
 offered s m = after_offer s m.id m.body

@@ -5,7 +5,7 @@ ghost use Rattle.host_types.specs.declared.request.Reply.{Reply};
 ghost use Rattle.pbft_codec.specs.declared.body.Body.{Body};
 ghost use Rattle.pbft_codec.specs.declared.body.request.RequestBody.{RequestBody};
 ghost use Rattle.pbft_codec.specs.declared.signed.Signed.{Signed};
-ghost use Rattle.pbft_model.specs.Journals.{AgreesOver, IsHonestFamily, Journals};
+ghost use Rattle.pbft_agreement.specs.Journals.{AgreesOver, IsHonestFamily, Journals};
 ghost use Rattle.pbft_model.specs.Setup.{Setup};
 ghost use Rattle.client_session.specs.Accepted.{AreReal, IsAnswered, IsReplyTo, SignsAlone, after_offers};
 ghost use Rattle.client_session.specs.Sessions.{SessionState, accepted_by};

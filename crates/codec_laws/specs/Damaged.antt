@@ -1,6 +1,6 @@
 -- Statement: what is read of a message's bytes that were cut, that go on behind it, or that are too many.
 use Rattle.std.specs.Prelude.{◌≡◌, ℕ, ◌<◌, ◌≤◌, List, ◌++◌, length, take, Err}
-use Rattle.message_fields.specs.declared.fault.CodecFault.TheVariants.{Truncated, Trailing, TooLong}
+use Rattle.codec_fields.specs.declared.fault.CodecFault.TheVariants.{Truncated, Trailing, TooLong}
 use Rattle.pbft_codec.specs.Encoding.{max_bytes}
 use Rattle.pbft_codec.specs.Reading.{reading}
 

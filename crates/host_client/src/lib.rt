@@ -7,3 +7,4 @@ mod calling;
 
 pub use calling::call;
 pub use client_session::{Session, SessionFault};
+pub use replica_threads::{Dest, Host, HostFault, Input, Named, Replica, Row, Seat, Station};

@@ -3,12 +3,11 @@
 ghost use Rattle.std.specs.Prelude.{◌≡◌, ◌<◌, ◌≤◌, IfOk, IfSome, length, map};
 ghost use Rattle.std.specs.List.{All};
 ghost use Rattle.host_types.specs.declared.config.ClientEntry.{ClientEntry};
-ghost use Rattle.world_script.specs.Keys.{key_of};
+ghost use Rattle.world_script.specs.Parties.{key_of};
 
-use host_client::{Session, SessionFault, call};
+use host_client::{Host, Session, SessionFault, call};
 use host_types::{Bytes, ClientId, Config, Reply};
 use lms_tree::Signer;
-use replica_threads::Host;
 use std::alloc::{AllocError, Global};
 use std::sync::{Arc, Wait};
 use world_script::open_sessions;

@@ -3,14 +3,13 @@
 ghost use Rattle.std.specs.Prelude.{◌≡◌};
 
 use crate::callers::Callers;
-use byz_world::audit;
+use host_client::Host;
 use host_types::{Bytes, Gate, ReplicaId};
-use replica_threads::Host;
 use script_text::{Head, Order, Step};
 use std::alloc::{AllocError, Global};
 use std::sync::{Arc, Wait};
 use std::thread::Threads;
-use world_script::{Keys, line_of_audit, line_of_reply, make_keys};
+use world_script::{Keys, audit, line_of_audit, line_of_reply, make_keys};
 
 /// The rows that the journal of a replica has room for.
 const MAX_ROWS: u32 = 65_536;

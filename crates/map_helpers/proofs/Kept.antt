@@ -30,13 +30,8 @@ pub record AllEntries (K V : List ℕ → Type 0) (entries : Entries) : Type 0 w
 
 -- what a put reads has them
 abbrev pub IsPutOf : (K V : List ℕ → Type 0) → Helper → List ℕ → Type 0
-IsPutOf K V Get bytes = Unit {0}
 IsPutOf K V Put bytes = K (take 16 bytes) × V (drop 16 bytes)
-IsPutOf K V Del bytes = Unit {0}
-IsPutOf K V Len bytes = Unit {0}
-IsPutOf K V Next bytes = Unit {0}
-IsPutOf K V Emit bytes = Unit {0}
-IsPutOf K V Caller bytes = Unit {0}
+IsPutOf K V _ bytes = Unit {0}
 
 module _ (K V : List ℕ → Type 0) where
   inserted : (entries : Entries) (key value : List ℕ) → AllEntries K V entries → K key → V value → has_room entries key ≡ true → AllEntries K V (map.insert entries key value)
@@ -133,14 +128,11 @@ nothing_written c bytes = cases (leb (length c.output + length bytes) 256) where
 pub writes_kept : (helper : Helper) (c : Context) (bytes : List ℕ) → IsTenantMap c.entries → Writes helper (effect_of helper c bytes).written
 writes_kept Get c bytes is =
     let l = looked_up c 32 (map.get c.entries bytes) (IsValue-get c.entries bytes is) in record { long = (31, refl, l.0); small = l.1 }
-writes_kept Put c bytes is = record { long = refl; small = All-nil (λ byte. byte < 256) }
-writes_kept Del c bytes is = record { long = refl; small = All-nil (λ byte. byte < 256) }
-writes_kept Len c bytes is = record { long = refl; small = All-nil (λ byte. byte < 256) }
 writes_kept Next c bytes is =
     let l = looked_up c 16 (next_key c.entries bytes) (IsKey-next_key c.entries bytes is) in record { long = (15, refl, l.0); small = l.1 }
 writes_kept Emit c bytes is =
     record { long = nothing_written c bytes; small = subst AreBytes (sym (nothing_written c bytes)) (All-nil (λ byte. byte < 256)) }
-writes_kept Caller c bytes is = record { long = refl; small = All-nil (λ byte. byte < 256) }
+writes_kept _ c bytes is = record { long = refl; small = All-nil (λ byte. byte < 256) }
 
 -- ---- the answer
 
@@ -176,15 +168,12 @@ lookup_output c size (Some bytes) = refl
 -- it stays within 256 bytes
 pub output_short : (helper : Helper) (c : Context) (bytes : List ℕ) → length c.output ≤ 256 → length (effect_of helper c bytes).output ≤ 256
 output_short Get c bytes short = subst (λ (xs : List ℕ). length xs ≤ 256) (sym (lookup_output c 32 (map.get c.entries bytes))) short
-output_short Put c bytes short = short
-output_short Del c bytes short = short
-output_short Len c bytes short = short
 output_short Next c bytes short = subst (λ (xs : List ℕ). length xs ≤ 256) (sym (lookup_output c 16 (next_key c.entries bytes))) short
 output_short Emit c bytes short = cases (leb (length c.output + length bytes) 256) refl where
   cases : (b : Bool) → leb (length c.output + length bytes) 256 ≡ b → length (cond {A = Effect} b (record { answer = 0; written = []; entries = c.entries; output = c.output ++ bytes }) (record { answer = 1; written = []; entries = c.entries; output = c.output })).output ≤ 256
   cases true fits = omega (arith, leb-true _ _ fits, length-append c.output bytes)
   cases false full = short
-output_short Caller c bytes short = short
+output_short _ c bytes short = short
 
 -- ---- registers
 

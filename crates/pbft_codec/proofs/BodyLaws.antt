@@ -16,12 +16,12 @@ use Rattle.pbft_codec.specs.declared.body.fetch.Fetch.TheVariants as fetches
 use Rattle.pbft_codec.specs.declared.body.pre_prepare.PrePrepare.{PrePrepare}
 use Rattle.pbft_codec.specs.declared.body.prepare.Prepare.{Prepare}
 use Rattle.pbft_codec.specs.declared.body.view_change.ViewChange.{ViewChange}
-use Rattle.message_fields.specs.declared.fault.CodecFault.TheVariants.{Truncated, BadKind, BadField}
+use Rattle.codec_fields.specs.declared.fault.CodecFault.TheVariants.{Truncated, BadKind, BadField}
 use Rattle.pbft_codec.specs.declared.kind.Kind.{Kind}
 use Rattle.pbft_codec.specs.declared.kind.Kind.TheVariants as kinds
 use Rattle.pbft_codec.specs.declared.signed.Signed.{Signed}
 use Rattle.pbft_codec.specs.Kinds.{kind_byte, kind_of}
-use Rattle.message_fields.specs.Fields.{Reading, pair, map, number_at, view_at, client_at, sequence_number_at, digest_at, length_prefixed_at}
+use Rattle.codec_fields.specs.Fields.{Reading, pair, map, number_at, view_at, client_at, sequence_number_at, digest_at, length_prefixed_at}
 use Rattle.pbft_codec.specs.Reading.{signed_at, ascending_at, list_at, behind, kind_at, request_at, proposal_at, pre_prepare_at, prepare_at, commit_at, reply_at, checkpoint_at, certificate_at, view_change_at, new_view_at, fetch_at, snapshot_at}
 use Rattle.pbft_codec.specs.Limits.{IsSequenceNumber, IsView, IsDigest, CertificateWellFormed, ViewChangeWellFormed, ProposalFieldsInRange}
 use Rattle.pbft_codec.specs.Bodies.{BodyWellFormed}

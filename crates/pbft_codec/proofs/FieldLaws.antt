@@ -6,11 +6,11 @@ use Rattle.std.proofs.lemmas.Bool.{leb-false, lt-leb, ltb-false, le-ltb, lt-ltb,
 use Rattle.std.proofs.lemmas.List.{take_at, drop_at, take-append-drop, length-append, length-take}
 use Rattle.std.proofs.lemmas.Nat.{be_bytes_4, be_bytes_8, from_be_bytes-to_be_bytes_4, from_be_bytes-to_be_bytes_8}
 use Rattle.host_types.specs.declared.Digest.{Digest}
-use Rattle.message_fields.specs.declared.fault.CodecFault.{CodecFault}
-use Rattle.message_fields.specs.declared.fault.CodecFault.TheVariants.{Truncated, BadField, NotAscending}
+use Rattle.codec_fields.specs.declared.fault.CodecFault.{CodecFault}
+use Rattle.codec_fields.specs.declared.fault.CodecFault.TheVariants.{Truncated, BadField, NotAscending}
 use Rattle.pbft_codec.specs.declared.signed.Role.{Role}
 use Rattle.pbft_codec.specs.declared.signed.Role.TheVariants.{Replica, Client}
-use Rattle.message_fields.specs.Fields.{◌>>=◌, Reading, pair, number_at, number_unless, view_at, client_at, sequence_number_at, digest_at, length_prefixed_at, count_at, id_at}
+use Rattle.codec_fields.specs.Fields.{◌>>=◌, Reading, pair, number_at, number_unless, view_at, client_at, sequence_number_at, digest_at, length_prefixed_at, count_at, id_at}
 use Rattle.pbft_codec.specs.Reading.{whole, many_at, bounded_list_at, role_at, framed, signed_at}
 use Rattle.pbft_codec.specs.Limits.{IsSequenceNumber, IsView, IsDigest}
 use Rattle.pbft_codec.proofs.Widths.{LengthInRange, SignedWidths}

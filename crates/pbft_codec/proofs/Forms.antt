@@ -5,9 +5,9 @@ use Rattle.std.proofs.Math.Dec.{eqb-suc-zero}
 use Rattle.std.proofs.lemmas.Bool.{cases_lt, eqb-true}
 use Rattle.std.proofs.lemmas.List.{append-nil, nil_from_length, length-append, length-take, get_or-drop, get_or-take, get_or_past}
 use Rattle.std.proofs.lemmas.List.Concat.{flat_map-cons}
-use Rattle.message_fields.specs.declared.fault.CodecFault.{CodecFault}
-use Rattle.message_fields.specs.declared.fault.CodecFault.TheVariants.{Truncated, Trailing}
-use Rattle.message_fields.specs.Fields.{◌>>=◌, Reading, pair, map}
+use Rattle.codec_fields.specs.declared.fault.CodecFault.{CodecFault}
+use Rattle.codec_fields.specs.declared.fault.CodecFault.TheVariants.{Truncated, Trailing}
+use Rattle.codec_fields.specs.Fields.{◌>>=◌, Reading, pair, map}
 use Rattle.pbft_codec.specs.Reading.{whole, many_at}
 
 abbrev pub IsBytes : List ℕ → Type 0

@@ -1,10 +1,10 @@
 -- Reading and writing values one after the other, as loops do.
 use Rattle.std.proofs.Common.{◌≡◌, ℕ, suc, ◌-◌, ◌+◌, ◌≤◌, ◌<◌, List, [], ◌∷◌, ◌++◌, Result, Ok, Err, refl, sym, ap, ◌∙◌, append_assoc, arith}
 use Rattle.std.proofs.lemmas.List.{append-nil}
-use Rattle.message_fields.specs.declared.fault.CodecFault.{CodecFault}
-use Rattle.message_fields.specs.declared.fault.ReadError.{ReadError}
-use Rattle.message_fields.specs.declared.fault.ReadError.TheVariants as errors
-use Rattle.message_fields.specs.Fields.{◌>>=◌, Fails, Reading}
+use Rattle.codec_fields.specs.declared.fault.CodecFault.{CodecFault}
+use Rattle.codec_fields.specs.declared.fault.ReadError.{ReadError}
+use Rattle.codec_fields.specs.declared.fault.ReadError.TheVariants as errors
+use Rattle.codec_fields.specs.Fields.{◌>>=◌, Fails, Reading}
 use Rattle.pbft_codec.specs.Reading.{many_at}
 
 -- what was read before, and what is still read

@@ -7,14 +7,14 @@ use Rattle.std.proofs.lemmas.Bool.{eqb-true, ltb-false, le-ltb}
 use Rattle.std.proofs.lemmas.List.{length-append, append-nil}
 use Rattle.pbft_codec.specs.declared.body.Body.{Body}
 use Rattle.pbft_codec.specs.declared.body.Body.TheVariants as bodies
-use Rattle.message_fields.specs.declared.fault.CodecFault.{CodecFault}
-use Rattle.message_fields.specs.declared.fault.CodecFault.TheVariants.{Truncated, Trailing, TooLong}
+use Rattle.codec_fields.specs.declared.fault.CodecFault.{CodecFault}
+use Rattle.codec_fields.specs.declared.fault.CodecFault.TheVariants.{Truncated, Trailing, TooLong}
 use Rattle.pbft_codec.specs.declared.kind.Kind.{Kind}
 use Rattle.pbft_codec.specs.declared.kind.Kind.TheVariants as kinds
 use Rattle.pbft_codec.specs.declared.signed.Role.{Role}
 use Rattle.pbft_codec.specs.declared.signed.Signed.{Signed}
 use Rattle.pbft_codec.specs.Kinds.{kind_byte, kind_of, kinds as every_kind}
-use Rattle.message_fields.specs.Fields.{Reading, pair, map, number_at}
+use Rattle.codec_fields.specs.Fields.{Reading, pair, map, number_at}
 use Rattle.pbft_codec.specs.Reading.{IsUnlessMemory, whole, role_at, signed_at, request_at, pre_prepare_at, prepare_at, commit_at, reply_at, checkpoint_at, view_change_at, new_view_at, fetch_at, snapshot_at, fields_at, known_at, body_at, reading}
 use Rattle.pbft_codec.specs.WellFormed.{WellFormed, Encodes}
 use Rattle.pbft_codec.proofs.Widths.{SignedWidths, narrow_body, widen_message}
@@ -44,15 +44,7 @@ kind_is b kind e = eqb-true _ _ (found_passes (λ k. eqb (kind_byte k) b) every_
 kind_again : (kind : Kind) → kind_of (kind_byte kind) ≡ Some kind
 unfolding kind_of
 kind_again kinds.Request = refl
-kind_again kinds.PrePrepare = refl
-kind_again kinds.Prepare = refl
-kind_again kinds.Commit = refl
-kind_again kinds.Reply = refl
-kind_again kinds.Checkpoint = refl
-kind_again kinds.ViewChange = refl
-kind_again kinds.NewView = refl
-kind_again kinds.Fetch = refl
-kind_again kinds.Snapshot = refl
+kind_again _ = refl
 
 -- ---- the fields of a body
 

@@ -3,14 +3,14 @@ use Rattle.std.proofs.Common.{◌≡◌, ℕ, ◌+◌, ◌-◌, ◌≤◌, List,
 use Rattle.std.specs.List.{slice_range}
 use Rattle.pbft_codec.specs.declared.body.Body.TheVariants as bodies
 use Rattle.pbft_codec.specs.declared.body.snapshot.Snapshot.{Snapshot}
-use Rattle.message_fields.specs.declared.fault.CodecFault.{CodecFault}
-use Rattle.message_fields.specs.declared.fault.ReadError.{ReadError}
-use Rattle.message_fields.specs.declared.fault.ReadError.TheVariants as errors
+use Rattle.codec_fields.specs.declared.fault.CodecFault.{CodecFault}
+use Rattle.codec_fields.specs.declared.fault.ReadError.{ReadError}
+use Rattle.codec_fields.specs.declared.fault.ReadError.TheVariants as errors
 use Rattle.pbft_codec.specs.declared.kind.Kind.TheVariants as kinds
 use Rattle.pbft_codec.specs.declared.signed.Signed.{Signed}
 use Rattle.pbft_codec.specs.Encoding.{body, encoding, max_bytes}
 use Rattle.pbft_codec.specs.Layouts.{length_prefixed, of_kind, signed, snapshot}
-use Rattle.message_fields.specs.Fields.{Fails, IsFault}
+use Rattle.codec_fields.specs.Fields.{Fails, IsFault}
 use Rattle.pbft_codec.specs.Reading.{whole, kind_at, signed_at, snapshot_at}
 use Rattle.pbft_codec.specs.Snapshots.{message_of}
 use Rattle.pbft_codec.specs.WellFormed.{Encodes}

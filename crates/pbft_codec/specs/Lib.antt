@@ -7,3 +7,5 @@ pub mod Encoding
 pub mod WellFormed
 pub mod Reading
 pub mod Snapshots
+pub use Rattle.codec_fields.specs.Faults
+pub use Rattle.codec_fields.specs.declared.fault.CodecFault

@@ -7,9 +7,9 @@ use Rattle.std.specs.Int.{w64}
 use Rattle.host_types.specs.declared.Digest.{Digest}
 use Rattle.host_types.specs.declared.SeqNo.{SeqNo}
 use Rattle.host_types.specs.declared.View.{View}
-use Rattle.message_fields.specs.declared.fault.CodecFault.{CodecFault}
-use Rattle.message_fields.specs.declared.fault.CodecFault.TheVariants.{Truncated, Trailing, BadKind, BadField, TooLong, Memory}
-use Rattle.message_fields.specs.Fields.{◌>>=◌, Reading, pair, map, number_at, view_at, client_at, sequence_number_at, digest_at, length_prefixed_at, count_at, id_at}
+use Rattle.codec_fields.specs.declared.fault.CodecFault.{CodecFault}
+use Rattle.codec_fields.specs.declared.fault.CodecFault.TheVariants.{Truncated, Trailing, BadKind, BadField, TooLong, Memory}
+use Rattle.codec_fields.specs.Fields.{◌>>=◌, Reading, pair, map, number_at, view_at, client_at, sequence_number_at, digest_at, length_prefixed_at, count_at, id_at}
 use Rattle.pbft_codec.specs.declared.body.Body.{Body}
 use Rattle.pbft_codec.specs.declared.body.Body.TheVariants as bodies
 use Rattle.pbft_codec.specs.declared.body.certificate.Certificate.{Certificate}

@@ -3,7 +3,7 @@
 //! Sequence numbers in messages are below 2^48. Times are a client's own.
 
 ghost use Rattle.std.specs.Prelude.{◌≡◌, List};
-ghost use Rattle.message_fields.specs.Fields.{Gives};
+ghost use Rattle.codec_fields.specs.Fields.{Gives};
 ghost use Rattle.pbft_codec.specs.Reading.{fields_at, body_at};
 ghost use Rattle.pbft_codec.specs.Bodies.{kind_in, sender_of, BodyFieldsInRange};
 ghost use Rattle.pbft_codec.specs.Encoding.{body};
@@ -14,7 +14,7 @@ use crate::message_body::{MessageBody, kind_of, read_any};
 use crate::sender::Sender;
 use crate::try_clone::TryClone;
 use crate::writing::put_kind;
-use message_fields::{CodecFault, ReadError};
+use codec_fields::{CodecFault, ReadError};
 use std::alloc::{AllocError, Global};
 
 mod certificate;

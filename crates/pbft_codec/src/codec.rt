@@ -1,10 +1,10 @@
 //! What a message is made of: values that are read and written.
 
 ghost use Rattle.std.specs.Prelude.{◌≡◌, List, ℕ, ◌++◌, Result, OnOk};
-ghost use Rattle.message_fields.specs.declared.fault.CodecFault.{CodecFault};
-ghost use Rattle.message_fields.specs.Fields.{Gives};
+ghost use Rattle.codec_fields.specs.declared.fault.CodecFault.{CodecFault};
+ghost use Rattle.codec_fields.specs.Fields.{Gives};
 
-use message_fields::ReadError;
+use codec_fields::ReadError;
 use std::alloc::{AllocError, Global};
 
 /// A value in a message: it is read from the front of bytes, and written at the end of them.

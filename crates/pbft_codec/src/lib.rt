@@ -30,12 +30,12 @@ pub use body::{
     PrePrepare, PrePrepares, Prepare, Prepares, ReplyBody, RequestBody, Snapshot, ViewChange,
     ViewChanges,
 };
+pub use codec_fields::CodecFault;
 pub use laws::{
     bytes_encode_one_message, encodings_have_these_lengths, signed_bytes_determine_signer_and_body,
 };
 pub use message::{decode, encode, signed_bytes, signed_parts};
 pub use message_body::MessageBody;
-pub use message_fields::CodecFault;
 pub use sender::Sender;
 pub use sequence::Sequence;
 pub use shared::{SignedSnapshot, snapshot_in};

@@ -1,7 +1,7 @@
 //! Signed bodies and lists.
 
 ghost use Rattle.std.specs.Prelude.{◌≡◌, List, ℕ, ◌+◌, ◌++◌, Result, OnOk};
-ghost use Rattle.message_fields.specs.Fields.{Gives};
+ghost use Rattle.codec_fields.specs.Fields.{Gives};
 ghost use Rattle.pbft_codec.specs.Reading.{whole, framed, signed_at, many_at, ascending_at, list_at};
 ghost use Rattle.std.specs.List.{AllByRecursion};
 ghost use Rattle.pbft_codec.specs.Limits.{SignedFieldsInRange};
@@ -11,10 +11,8 @@ use crate::codec::Codec;
 use crate::sequence::Sequence;
 use crate::signed::{Signed, read_role};
 use crate::writing::{put_length, put_length_prefixed, put_role, put_u32};
+use codec_fields::{CodecFault, ReadError, read_bytes, read_count, read_id, read_length_prefixed};
 use host_types::limits::MAX_REPLICAS;
-use message_fields::{
-    CodecFault, ReadError, read_bytes, read_count, read_id, read_length_prefixed,
-};
 use std::alloc::{AllocError, Global};
 
 /// The most messages of one kind in a list of signers: one of each replica.

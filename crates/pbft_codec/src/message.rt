@@ -2,10 +2,10 @@
 
 ghost use Rattle.std.specs.Prelude.{◌≡◌, ◌≤◌, ◌<◌, ◌+◌, ◌++◌, ◌⊎◌, List, ℕ, length, Ok, Err, OnOk, IfOk, IfErr, IsOkUnless};
 ghost use Rattle.pbft_codec.specs.declared.body.Body.{Body};
-ghost use Rattle.message_fields.specs.declared.fault.CodecFault.TheVariants.{Truncated, Trailing, TooLong, Memory};
+ghost use Rattle.codec_fields.specs.declared.fault.CodecFault.TheVariants.{Truncated, Trailing, TooLong, Memory};
 ghost use Rattle.pbft_codec.specs.declared.signed.Signed.{Signed};
 ghost use Rattle.pbft_codec.specs.Kinds.{kind_byte};
-ghost use Rattle.message_fields.specs.Fields.{Gives};
+ghost use Rattle.codec_fields.specs.Fields.{Gives};
 ghost use Rattle.pbft_codec.specs.Reading.{IsUnlessMemory, fields_at, body_at, reading};
 ghost use Rattle.pbft_codec.specs.Bodies.{BodyWellFormed, BodyFieldsInRange};
 ghost use Rattle.pbft_codec.specs.WellFormed.{WellFormed, Encodes};
@@ -16,7 +16,7 @@ use crate::codec::Codec;
 use crate::lists::{put_signed, read_signed, read_whole};
 use crate::signed::Signed;
 use crate::writing::{put_role, put_u32};
-use message_fields::{CodecFault, ReadError};
+use codec_fields::{CodecFault, ReadError};
 use std::alloc::{AllocError, Global};
 
 /// The most bytes of a message.

@@ -2,11 +2,11 @@
 
 ghost use Rattle.std.specs.Prelude.{◌≡◌, List, ℕ, ◌++◌, Result, OnOk, IfErr};
 ghost use Rattle.pbft_codec.specs.declared.body.Body.{Body};
-ghost use Rattle.message_fields.specs.declared.fault.CodecFault.{CodecFault};
+ghost use Rattle.codec_fields.specs.declared.fault.CodecFault.{CodecFault};
 ghost use Rattle.pbft_codec.specs.declared.kind.Kind.{Kind};
 ghost use Rattle.pbft_codec.specs.declared.sender.Sender.{Sender};
 ghost use Rattle.pbft_codec.specs.Layouts.{of_kind};
-ghost use Rattle.message_fields.specs.Fields.{Gives, IsFault, map};
+ghost use Rattle.codec_fields.specs.Fields.{Gives, IsFault, map};
 ghost use Rattle.pbft_codec.specs.Reading.{behind, kind_at};
 
 use crate::body::Body;
@@ -14,7 +14,7 @@ use crate::kind::Kind;
 use crate::sender::Sender;
 use crate::try_clone::TryClone;
 use crate::writing::put_kind;
-use message_fields::{CodecFault, ReadError};
+use codec_fields::{CodecFault, ReadError};
 use std::alloc::{AllocError, Global};
 
 /// A body of one kind.

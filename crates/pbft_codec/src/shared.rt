@@ -2,7 +2,7 @@
 
 ghost use Rattle.std.specs.Prelude.{◌≡◌, IfErr, IfSome, IsSome};
 ghost use Rattle.pbft_codec.specs.declared.kind.Kind.TheVariants as kinds;
-ghost use Rattle.message_fields.specs.Fields.{Gives, IsFault};
+ghost use Rattle.codec_fields.specs.Fields.{Gives, IsFault};
 ghost use Rattle.pbft_codec.specs.Reading.{whole, kind_at, signed_at, snapshot_at};
 ghost use Rattle.pbft_codec.specs.Snapshots.{snapshot_of, signed_snapshot, message_of, message_in};
 ghost use Rattle.pbft_codec.specs.declared.body.snapshot.Snapshot.{Snapshot};
@@ -15,8 +15,8 @@ use crate::message::{MAX_BYTES, parts_signed};
 use crate::message_body::read_kind;
 use crate::sender::Sender;
 use crate::signed::{Role, Signed, read_role};
+use codec_fields::{CodecFault, ReadError, read_id, read_length_prefixed, read_sequence_number};
 use host_types::{Bytes, SeqNo};
-use message_fields::{CodecFault, ReadError, read_id, read_length_prefixed, read_sequence_number};
 use std::alloc::{AllocError, Global};
 use std::sync::Arc;
 

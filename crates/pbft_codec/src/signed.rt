@@ -1,12 +1,12 @@
 //! Signed bodies, and the roles of signers.
 
 ghost use Rattle.std.specs.Prelude.{IfErr};
-ghost use Rattle.message_fields.specs.Fields.{Gives, IsFault};
+ghost use Rattle.codec_fields.specs.Fields.{Gives, IsFault};
 ghost use Rattle.pbft_codec.specs.Reading.{role_at};
 
 use crate::body::Body;
+use codec_fields::{CodecFault, ReadError};
 use host_types::Bytes;
-use message_fields::{CodecFault, ReadError};
 
 /// Who signs: a replica or a client.
 #[derive(Clone, Copy, Debug, PartialEq, Eq)]

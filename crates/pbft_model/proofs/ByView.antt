@@ -13,39 +13,17 @@ use Rattle.pbft_model.specs.Validity.{is_valid_new_view, given, given_numbers, g
 use Rattle.pbft_model.specs.Core.{Core, is_prepared, is_certified, is_known, kept_on_leaving}
 use Rattle.pbft_model.specs.Acts.{Act, Destination, Take, Timeout, Send, Relay, Enter, Rise, Execute, Install, after, said, acted, signed_once_more, left_if_above, left_for}
 use Rattle.pbft_model.specs.Rules.{Allowed, MaySay, IsInside, change_of, is_chosen, chosen_changes}
-use Rattle.pbft_model.specs.Histories.{IsEarlier, IsIn, HasSigned, Family, IsCorrect, IsUnforged, HasCommitted, AgreesByView}
+use Rattle.pbft_model.specs.Histories.{IsEarlier, IsIn, HasSigned}
+use Rattle.pbft_model.specs.Families.{Family, IsCorrect, IsUnforged, HasCommitted, AgreesByView}
 use Rattle.pbft_model.proofs.Counting.{quorums_meet, quorum_has, count_with}
 use Rattle.pbft_model.proofs.Found.{in_any, in_all, from_map, in_map, in_flat, from_gathered}
 use Rattle.pbft_model.proofs.Entries.{from_append}
 use Rattle.pbft_model.proofs.Events.{before, in_order, history_at, holds_on, earlier_trans, low_reached}
-use Rattle.pbft_model.proofs.Calm.{at_in, calm, calm_said}
+use Rattle.pbft_model.proofs.Calm.{at_in, calm, calm_said, low_up}
 use Rattle.pbft_model.proofs.Real.{RealAs, RealCertificate, RealChange, RealCore, real_core, changes_in, list_in, real_change}
 use Rattle.pbft_model.proofs.Stages.{Stage, Holds, holds_keeps, EnteredBy, basis_keeps, by_is, fields_are, voted_is, Remembers, remembers_after, remembers_leaving, view_up}
 use Rattle.pbft_model.proofs.Views.{greatest_above, given_one, given_role, one_given, given_at, below_top, highest_above, entered_holds}
 use Rattle.pbft_model.proofs.Voices.{core_at, Said, Led, CommittedTo, Vouched, vouched_one, led_one, led_from, prepare_said, commit_said, change_said, two_said, later, core_then, listed_fields, valid_list}
-
--- the low mark never falls
-said_low : (c : Setup) (me : ℕ) (s : Core) (m : Signed Body) (b : Body) → MaySay c me s b → s.low ≤ (said c s m b).low
-said_low c me s m (bodies.Request b) says = absurd says
-said_low c me s m (bodies.PrePrepare b) says = omega arith
-said_low c me s m (bodies.Prepare b) says = omega arith
-said_low c me s m (bodies.Commit b) says = omega arith
-said_low c me s m (bodies.Reply b) says = omega arith
-said_low c me s m (bodies.Checkpoint b) says = omega arith
-said_low c me s m (bodies.ViewChange b) says = omega arith
-said_low c me s m (bodies.NewView b) says = elim (nat_lt s.view b.view.0) as (λ t. s.low ≤ (cond t (left_for c s b.view.0) s).low) [ true ↦ omega arith | false ↦ omega arith ]
-said_low c me s m (bodies.Fetch b) says = (calm_said c s m (bodies.Fetch b) tt).3
-said_low c me s m (bodies.Snapshot b) says = omega arith
-
-pub low_up : (c : Setup) (me : ℕ) (s : Core) (a : Act) → s.low ≤ s.executed → Allowed c me s a → s.low ≤ (after c s a).low
-low_up c me s (Take m r) low ok = (calm c me s (Take m r) low ok tt).3
-low_up c me s Timeout low ok = omega arith
-low_up c me s (Send to m) low ok = said_low c me s m m.body ok.says
-low_up c me s (Relay to m) low ok = omega arith
-low_up c me s (Enter m) low ok = elim (nat_lt s.view m.body.view.0) as (λ t. s.low ≤ (cond t (left_for c s m.body.view.0) s).low) [ true ↦ omega arith | false ↦ omega arith ]
-low_up c me s (Rise n d) low ok = (calm c me s (Rise n d) low ok tt).3
-low_up c me s (Execute n d t o) low ok = omega arith
-low_up c me s (Install n b t) low ok = (calm c me s (Install n b t) low ok tt).3
 
 pub from_certificates : (ms : List (Signed ViewChange)) (x : Certificate) → IsIn x (certificates_in ms) → (m : Signed ViewChange) × IsIn m ms × IsIn x m.body.certificates
 from_certificates [] x h = absurd h
@@ -56,7 +34,7 @@ from_certificates (m ∷ ms) x h = elim (from_append x m.body.certificates (cert
 
 -- the ViewChanges chosen are recorded ones
 pub from_chosen : (c : Setup) (me : ℕ) (s : Core) (m : Signed ViewChange) → IsIn m (chosen_changes c me s) → (i : ℕ) × (change_of s i ≡ Some m)
-from_chosen c me s m h = let w = from_gathered (is_chosen c me s) (change_of s) (replicas c) m h in (w.0, w.2)
+from_chosen c me s m h = let w = from_gathered (is_chosen c me s) (change_of s) (replicas c.config) m h in (w.0, w.2)
 
 module _ (c : Setup) (family : Family) (u : IsUnforged c family) where
   pub signed_real : {B : Type 0} (kind : B → Body) (i : ℕ) (test : B → Bool) (m : Signed B) → is_by i test m ≡ true → RealAs c family kind m → IsCorrect c family.faulty i
@@ -71,23 +49,23 @@ module _ (c : Setup) (family : Family) (u : IsUnforged c family) where
 
   pub record Certain (x : Fields) : Type 0 where
     pub voters : ℕ → Bool
-    pub many : quorum c ≤ count voters (replicas c)
+    pub many : quorum c.config ≤ count voters (replicas c.config)
     pub vouch : (i : ℕ) → IsCorrect c family.faulty i → voters i ≡ true → Vouched c family (IsCorrect c family.faulty) u.histories i x
 
-  pub certain_of : (x : Fields) (pre prep : ℕ → Bool) → certified c pre prep x.view ≡ true
-      → (pre (primary c x.view) ≡ true → (m : Signed PrePrepare) × (is_by (primary c x.view) (λ b. same_fields (of_pre_prepare b) x) m ≡ true) × RealAs c family bodies.PrePrepare m)
+  pub certain_of : (x : Fields) (pre prep : ℕ → Bool) → certified c.config pre prep x.view ≡ true
+      → (pre (primary c.config x.view) ≡ true → (m : Signed PrePrepare) × (is_by (primary c.config x.view) (λ b. same_fields (of_pre_prepare b) x) m ≡ true) × RealAs c family bodies.PrePrepare m)
       → ((i : ℕ) → prep i ≡ true → (m : Signed Prepare) × (is_by i (λ b. same_fields (of_prepare b) x) m ≡ true) × RealAs c family bodies.Prepare m) → Certain x
   certain_of x pre prep e real_pre real_prep =
-      let p = primary c x.view in
-      let parts = and_parts (pre p) (nat_le (2 * c.config.f) (count (λ i. not (i == p) && prep i) (replicas c))) e in
-      let enough = leb-true (2 * c.config.f) (count (λ i. not (i == p) && prep i) (replicas c)) parts.1 in
-      let below : p < replicas c = omega arith in
-      let with_one = count_with p (pre p) prep (replicas c) parts.0 below in
+      let p = primary c.config x.view in
+      let parts = and_parts (pre p) (nat_le (2 * c.config.f) (count (λ i. not (i == p) && prep i) (replicas c.config))) e in
+      let enough = leb-true (2 * c.config.f) (count (λ i. not (i == p) && prep i) (replicas c.config)) parts.1 in
+      let below : p < replicas c.config = omega arith in
+      let with_one = count_with p (pre p) prep (replicas c.config) parts.0 below in
       record { voters = λ i. cond (i == p) (pre p) (prep i); many = omega arith; vouch = λ i correct t. cases i correct (i == p) refl t } where
-        cases : (i : ℕ) → IsCorrect c family.faulty i → (b : Bool) → (i == primary c x.view) ≡ b → cond b (pre (primary c x.view)) (prep i) ≡ true → Vouched c family (IsCorrect c family.faulty) u.histories i x
+        cases : (i : ℕ) → IsCorrect c family.faulty i → (b : Bool) → (i == primary c.config x.view) ≡ b → cond b (pre (primary c.config x.view)) (prep i) ≡ true → Vouched c family (IsCorrect c family.faulty) u.histories i x
         cases i correct true same t =
             let w = real_pre t in
-            let is_i : primary c x.view ≡ i = sym (eqb-true i (primary c x.view) same) in
+            let is_i : primary c.config x.view ≡ i = sym (eqb-true i (primary c.config x.view) same) in
             let by = subst (λ (j : ℕ). is_by j (λ b. same_fields (of_pre_prepare b) x) w.0 ≡ true) is_i w.1 in
             let fields = fields_are (of_pre_prepare w.0.body) x ((by_is i (λ b. same_fields (of_pre_prepare b) x) w.0 by).2) in
             inl (subst (λ (y : Fields). Led c family (IsCorrect c family.faulty) u.histories i y) fields (led_from c family (IsCorrect c family.faulty) u.histories i w.0.body correct (signed_real bodies.PrePrepare i (λ b. same_fields (of_pre_prepare b) x) w.0 by w.2 correct)))
@@ -102,38 +80,38 @@ module _ (c : Setup) (family : Family) (u : IsUnforged c family) where
       let s = core_at c family i acts in
       let real = real_core c family i correct u acts h in
       certain_of x (voted of_pre_prepare s.pre_prepares x) (voted of_prepare s.prepares x) e
-      (λ t. let w = voted_is of_pre_prepare s.pre_prepares x (primary c x.view) t in (w.0, w.2, real.0 (vote_key x.number x.view (primary c x.view)) w.0 w.1))
+      (λ t. let w = voted_is of_pre_prepare s.pre_prepares x (primary c.config x.view) t in (w.0, w.2, real.0 (vote_key x.number x.view (primary c.config x.view)) w.0 w.1))
       (λ j t. let w = voted_is of_prepare s.prepares x j t in (w.0, w.2, real.1 (vote_key x.number x.view j) w.0 w.1))
 
   -- and so is a certificate in a real ViewChange
-  pub certain_nested : (y : Certificate) → is_certificate c y ≡ true → RealCertificate c family y → Certain (of_pre_prepare y.pre_prepare.body)
+  pub certain_nested : (y : Certificate) → is_certificate c.config y ≡ true → RealCertificate c family y → Certain (of_pre_prepare y.pre_prepare.body)
   certain_nested y e real =
       let x = of_pre_prepare y.pre_prepare.body in
       certain_of x (voted_among of_pre_prepare (y.pre_prepare ∷ []) x) (voted_among of_prepare y.prepares x)
-      ((and_parts (certified c (voted_among of_pre_prepare (y.pre_prepare ∷ []) x) (voted_among of_prepare y.prepares x) x.view) (length y.prepares == 2 * c.config.f) e).0)
-      (λ t. let w = in_any (is_by (primary c x.view) (λ b. same_fields (of_pre_prepare b) x)) (y.pre_prepare ∷ []) t in
+      ((and_parts (certified c.config (voted_among of_pre_prepare (y.pre_prepare ∷ []) x) (voted_among of_prepare y.prepares x) x.view) (length y.prepares == 2 * c.config.f) e).0)
+      (λ t. let w = in_any (is_by (primary c.config x.view) (λ b. same_fields (of_pre_prepare b) x)) (y.pre_prepare ∷ []) t in
       (w.0, w.2, elim w.1 [ inl same ↦ subst (λ (m : Signed PrePrepare). RealAs c family bodies.PrePrepare m) (sym same) real.pre_prepare | inr none ↦ absurd none ]))
       (λ j t. let w = in_any (is_by j (λ b. same_fields (of_prepare b) x)) y.prepares t in (w.0, w.2, real.prepares w.0 w.1))
 
   -- one certificate for each view and number
   pub one_certain : (x y : Fields) → Certain x → Certain y → x.view ≡ y.view → x.number ≡ y.number → x ≡ y
   one_certain x y a b view number =
-      let w = quorums_meet c.config.f (replicas c) a.voters b.voters family.faulty refl a.many b.many u.few in
+      let w = quorums_meet c.config.f (replicas c.config) a.voters b.voters family.faulty refl a.many b.many u.few in
       let correct : IsCorrect c family.faulty w.0 = (w.1, w.4) in
       vouched_one c family (IsCorrect c family.faulty) u.histories w.0 x y correct (a.vouch w.0 correct w.2) (b.vouch w.0 correct w.3) view number
 
   pub record Committing (x : Fields) : Type 0 where
     pub voters : ℕ → Bool
-    pub many : quorum c ≤ count voters (replicas c)
+    pub many : quorum c.config ≤ count voters (replicas c.config)
     pub commit : (i : ℕ) → IsCorrect c family.faulty i → voters i ≡ true → CommittedTo c family (IsCorrect c family.faulty) u.histories i x
 
-  pub committing_at : (i : ℕ) → IsCorrect c family.faulty i → (acts : List Act) → IsEarlier acts (family.acts i) → (x : Fields) → has_quorum c (voted of_commit (core_at c family i acts).commits x) ≡ true → Committing x
+  pub committing_at : (i : ℕ) → IsCorrect c family.faulty i → (acts : List Act) → IsEarlier acts (family.acts i) → (x : Fields) → has_quorum c.config (voted of_commit (core_at c family i acts).commits x) ≡ true → Committing x
   committing_at i correct acts h x e =
       let s = core_at c family i acts in
       let real = real_core c family i correct u acts h in
       record {
         voters = voted of_commit s.commits x;
-        many = leb-true (quorum c) (count (voted of_commit s.commits x) (replicas c)) e;
+        many = leb-true (quorum c.config) (count (voted of_commit s.commits x) (replicas c.config)) e;
         commit = λ j right t.
             let w = voted_is of_commit s.commits x j t in
             let fields = fields_are (of_commit w.0.body) x ((by_is j (λ b. same_fields (of_commit b) x) w.0 w.2).2) in
@@ -192,20 +170,20 @@ module _ (c : Setup) (family : Family) (u : IsUnforged c family) where
       let parts = and_parts (has_view m.body) (m.body.view.0 == n.view.0) t in
       (parts.0, eqb-true _ _ parts.1)
 
-  many_changes : (n : NewView) → is_valid_new_view c n ≡ true → quorum c ≤ count (changed_by n.changes) (replicas c)
+  many_changes : (n : NewView) → is_valid_new_view c n ≡ true → quorum c.config ≤ count (changed_by n.changes) (replicas c.config)
   many_changes n valid =
       let a = and_parts (are_for_view n) (have_proofs c n && (have_certificates c n && have_order c n)) valid in
       let b = and_parts (have_proofs c n) (have_certificates c n && have_order c n) a.1 in
-      let d = and_parts (list_all (has_proof c) (bodies_in n.changes)) ((length n.changes == quorum c) && has_quorum c (changed_by n.changes)) b.0 in
-      leb-true (quorum c) (count (changed_by n.changes) (replicas c)) ((and_parts (length n.changes == quorum c) (has_quorum c (changed_by n.changes)) d.1).1)
+      let d = and_parts (list_all (has_proof c) (bodies_in n.changes)) ((length n.changes == quorum c.config) && has_quorum c.config (changed_by n.changes)) b.0 in
+      leb-true (quorum c.config) (count (changed_by n.changes) (replicas c.config)) ((and_parts (length n.changes == quorum c.config) (has_quorum c.config (changed_by n.changes)) d.1).1)
 
-  certificate_in : (n : NewView) (m : Signed ViewChange) (y : Certificate) → is_valid_new_view c n ≡ true → IsIn m n.changes → IsIn y m.body.certificates → (is_certificate c y ≡ true) × (y.pre_prepare.body.view.0 < n.view.0)
+  certificate_in : (n : NewView) (m : Signed ViewChange) (y : Certificate) → is_valid_new_view c n ≡ true → IsIn m n.changes → IsIn y m.body.certificates → (is_certificate c.config y ≡ true) × (y.pre_prepare.body.view.0 < n.view.0)
   certificate_in n m y valid h k =
       let a = and_parts (are_for_view n) (have_proofs c n && (have_certificates c n && have_order c n)) valid in
       let b = and_parts (have_proofs c n) (have_certificates c n && have_order c n) a.1 in
       let d = and_parts (have_certificates c n) (have_order c n) b.1 in
       let own = in_all (has_certificates c) (bodies_in n.changes) d.0 m.body (in_map (λ (x : Signed ViewChange). x.body) n.changes m h) in
-      let is = in_all (is_certificate c) m.body.certificates own y k in
+      let is = in_all (is_certificate c.config) m.body.certificates own y k in
       let view = for_view n m valid h in
       let below = in_all (λ x. nat_lt x.pre_prepare.body.view.0 m.body.view.0) m.body.certificates ((and_parts (nat_lt 0 m.body.view.0) (list_all (λ x. nat_lt x.pre_prepare.body.view.0 m.body.view.0) m.body.certificates) view.0).1) y k in
       let less = ltb-true y.pre_prepare.body.view.0 m.body.view.0 below in
@@ -215,7 +193,7 @@ module _ (c : Setup) (family : Family) (u : IsUnforged c family) where
   pub carried : (x : Fields) (n : NewView) → Committing x → is_valid_new_view c n ≡ true → ((m : Signed ViewChange) → IsIn m n.changes → RealChange c family m) → x.view < n.view.0 → floor_of n.changes < x.number
       → (y : Certificate) × IsIn y (certificates_in n.changes) × (y.pre_prepare.body.number.0 ≡ x.number) × (x.view ≤ y.pre_prepare.body.view.0)
   carried x n k valid real higher above =
-      let w = quorums_meet c.config.f (replicas c) k.voters (changed_by n.changes) family.faulty refl k.many (many_changes n valid) u.few in
+      let w = quorums_meet c.config.f (replicas c.config) k.voters (changed_by n.changes) family.faulty refl k.many (many_changes n valid) u.few in
       let correct : IsCorrect c family.faulty w.0 = (w.1, w.4) in
       let v = in_any (is_by w.0 (λ v. true)) n.changes w.3 in
       let view = (for_view n v.0 valid v.1).1 in
@@ -254,15 +232,10 @@ module _ (c : Setup) (family : Family) (u : IsUnforged c family) where
 
         sent : (to : Destination) (m : Signed Body) (b : Body) → m.body ≡ b → MaySay c i s b → (after c s (Send to m)).active ≡ true → 0 < (after c s (Send to m)).view → (s.active ≡ true → 0 < s.view → Entry i s.view acts) → Entry i (after c s (Send to m)).view (Send to m ∷ acts)
         sent to m (bodies.Request b) e says is above rest = absurd says
-        sent to m (bodies.PrePrepare b) e says is above rest = through (Send to m) (ap (λ (x : Body). (said c s m x).view) e) (ap (λ (x : Body). (said c s m x).active) e) is above rest
-        sent to m (bodies.Prepare b) e says is above rest = through (Send to m) (ap (λ (x : Body). (said c s m x).view) e) (ap (λ (x : Body). (said c s m x).active) e) is above rest
-        sent to m (bodies.Commit b) e says is above rest = through (Send to m) (ap (λ (x : Body). (said c s m x).view) e) (ap (λ (x : Body). (said c s m x).active) e) is above rest
-        sent to m (bodies.Reply b) e says is above rest = through (Send to m) (ap (λ (x : Body). (said c s m x).view) e) (ap (λ (x : Body). (said c s m x).active) e) is above rest
-        sent to m (bodies.Checkpoint b) e says is above rest = through (Send to m) (ap (λ (x : Body). (said c s m x).view) e) (ap (λ (x : Body). (said c s m x).active) e) is above rest
         sent to m (bodies.ViewChange b) e says is above rest = absurd (false≢true (sym (ap (λ (x : Body). (said c s m x).active) e) ∙ is))
         sent to m (bodies.NewView b) e says is above rest = record { act = Send to m; early = acts; n = b; point = inl refl; is = inr (to, m, refl, e); view_is = ap (λ (x : Body). (said c s m x).view) (sym e) }
         sent to m (bodies.Fetch b) e says is above rest = through (Send to m) (ap (λ (x : Body). (said c s m x).view) e ∙ (calm_said c s m (bodies.Fetch b) tt).0) (ap (λ (x : Body). (said c s m x).active) e ∙ (calm_said c s m (bodies.Fetch b) tt).1) is above rest
-        sent to m (bodies.Snapshot b) e says is above rest = through (Send to m) (ap (λ (x : Body). (said c s m x).view) e) (ap (λ (x : Body). (said c s m x).active) e) is above rest
+        sent to m _ e says is above rest = through (Send to m) (ap (λ (x : Body). (said c s m x).view) e) (ap (λ (x : Body). (said c s m x).active) e) is above rest
 
         split : (a : Act) → Allowed c i s a → s.low ≤ s.executed → (after c s a).active ≡ true → 0 < (after c s a).view → (s.active ≡ true → 0 < s.view → Entry i s.view acts) → Entry i (after c s a).view (a ∷ acts)
         split (Take m r) ok low is above rest = let k = calm c i s (Take m r) low ok tt in through (Take m r) k.0 k.1 is above rest
@@ -282,8 +255,8 @@ module _ (c : Setup) (family : Family) (u : IsUnforged c family) where
     pub basis : Stage n.view.0 (EnteredBy n.changes) s
     pub view_now : s.view ≡ n.view.0
     pub low_is : s.low ≡ (core_at c family i early).low
-    pub holds : (k : ℕ) → floor_of n.changes < k → k ≤ top_of n.changes → (core_at c family i early).low < k → k ≤ (core_at c family i early).low + span c
-        → Stage n.view.0 (Holds k n.view.0 (primary c n.view.0) (given_digest c n.changes k)) s
+    pub holds : (k : ℕ) → floor_of n.changes < k → k ≤ top_of n.changes → (core_at c family i early).low < k → k ≤ (core_at c family i early).low + span c.config
+        → Stage n.view.0 (Holds k n.view.0 (primary c.config n.view.0) (given_digest c n.changes k)) s
 
   same_low : (s : Core) (view : ℕ) → (left_if_above c s view).low ≡ s.low
   same_low s view = elim (nat_lt s.view view) as (λ b. (cond b (left_for c s view) s).low ≡ s.low) [ true ↦ refl | false ↦ refl ]
@@ -317,7 +290,7 @@ module _ (c : Setup) (family : Family) (u : IsUnforged c family) where
           basis = inl (refl, refl, refl);
           view_now = refl;
           low_is = same_low s m.body.view.0;
-          holds = λ j floor top low high. inl (refl, refl, entered_holds c s m.body (primary c m.body.view.0) j (valid_list c family (IsCorrect c family.faulty) u.histories m.body ok.valid) floor top low high);
+          holds = λ j floor top low high. inl (refl, refl, entered_holds c s m.body (primary c.config m.body.view.0) j (valid_list c family (IsCorrect c family.faulty) u.histories m.body ok.valid) floor top low high);
         }))
 
     by_send : (to : Destination) (m : Signed Body) → IsEarlier (Send to m ∷ o.early) (family.acts i) → (n : NewView) → m.body ≡ bodies.NewView n → (t : Core) → t ≡ core_at c family i (Send to m ∷ o.early) → Enters i n o.early t
@@ -335,7 +308,7 @@ module _ (c : Setup) (family : Family) (u : IsUnforged c family) where
           basis = inl (refl, refl, refl);
           view_now = refl;
           low_is = same_low s n.view.0;
-          holds = λ j floor top low high. inl (refl, refl, entered_holds c s n (primary c n.view.0) j (valid_list c family (IsCorrect c family.faulty) u.histories n says.valid) floor top low high);
+          holds = λ j floor top low high. inl (refl, refl, entered_holds c s n (primary c.config n.view.0) j (valid_list c family (IsCorrect c family.faulty) u.histories n says.valid) floor top low high);
         })
 
   -- ---- after a Commit
@@ -367,7 +340,7 @@ module _ (c : Setup) (family : Family) (u : IsUnforged c family) where
 
   -- the low mark as a view is entered that is higher than that of a Commit
   commit_before : (i : ℕ) (x : Fields) → IsCorrect c family.faulty i → (b : Commit) (w : Said c family i (bodies.Commit b)) → of_commit b ≡ x → (view : ℕ) (acts : List Act) → IsEarlier acts (family.acts i) → (o : Entry i view acts) → x.view < view
-      → (core_at c family i (o.act ∷ o.early)).view ≡ view → x.number ≤ (core_at c family i o.early).low + span c
+      → (core_at c family i (o.act ∷ o.early)).view ≡ view → x.number ≤ (core_at c family i o.early).low + span c.config
   commit_before i x correct b w is view acts h o higher at_view =
       let point = earlier_trans (o.act ∷ o.early) acts (family.acts i) o.point h in
       let view_is : b.view.0 ≡ (core_at c family i w.early).view = w.says.inside.view_is in
@@ -403,14 +376,14 @@ module _ (c : Setup) (family : Family) (u : IsUnforged c family) where
       record { o = o; enter = enter; floor = subst (λ (ms : List (Signed ViewChange)). floor_of ms < number) basis inside.above_floor }
 
   -- a Prepare follows what is recorded
-  bound_by : (i : ℕ) (s : Core) (n : NewView) (p : Prepare) → MaySay c i s (bodies.Prepare p) → n.view.0 ≡ p.view.0 → Holds p.number.0 n.view.0 (primary c n.view.0) (given_digest c n.changes p.number.0) s
+  bound_by : (i : ℕ) (s : Core) (n : NewView) (p : Prepare) → MaySay c i s (bodies.Prepare p) → n.view.0 ≡ p.view.0 → Holds p.number.0 n.view.0 (primary c.config n.view.0) (given_digest c n.changes p.number.0) s
       → p.digest.0 ≡ given_digest c n.changes p.number.0
   bound_by i s n p says view (inl below) = let above = says.inside.above_low in absurd (omega arith)
   bound_by i s n p says view (inr (m, found, digest)) =
-      let w = voted_is of_pre_prepare s.pre_prepares (of_prepare p) (primary c p.view.0) says.proposed in
-      let found' : at s.pre_prepares (vote_key p.number.0 p.view.0 (primary c p.view.0)) ≡ Some m = subst (λ (v : ℕ). at s.pre_prepares (vote_key p.number.0 v (primary c v)) ≡ Some m) view found in
+      let w = voted_is of_pre_prepare s.pre_prepares (of_prepare p) (primary c.config p.view.0) says.proposed in
+      let found' : at s.pre_prepares (vote_key p.number.0 p.view.0 (primary c.config p.view.0)) ≡ Some m = subst (λ (v : ℕ). at s.pre_prepares (vote_key p.number.0 v (primary c.config v)) ≡ Some m) view found in
       let same : w.0 ≡ m = same_Some w.0 m (sym w.1 ∙ found') in
-      let fields = fields_are (of_pre_prepare w.0.body) (of_prepare p) ((by_is (primary c p.view.0) (λ b. same_fields (of_pre_prepare b) (of_prepare p)) w.0 w.2).2) in
+      let fields = fields_are (of_pre_prepare w.0.body) (of_prepare p) ((by_is (primary c.config p.view.0) (λ b. same_fields (of_pre_prepare b) (of_prepare p)) w.0 w.2).2) in
       ap (λ (f : Fields). f.digest) (sym fields) ∙ ap (λ (x : Signed PrePrepare). x.body.digest.0) same ∙ digest
 
   followed_after : (i : ℕ) (x : Fields) (p : Prepare) → IsCorrect c family.faulty i → CommittedTo c family (IsCorrect c family.faulty) u.histories i x → Said c family i (bodies.Prepare p) → x.view < p.view.0 → x.number ≡ p.number.0 → Opening (of_prepare p)
@@ -435,19 +408,19 @@ module _ (c : Setup) (family : Family) (u : IsUnforged c family) where
         changes = enter.changes;
         above = floor;
         bound = λ top. bound_by i s o.n p v.says (o.view_is ∙ sym view_is)
-            (stage_is o.n.view.0 (Holds p.number.0 o.n.view.0 (primary c o.n.view.0) (given_digest c o.n.changes p.number.0)) s (sym o.view_is)
-            (later c family (IsCorrect c family.faulty) u.histories i o.n.view.0 (Holds p.number.0 o.n.view.0 (primary c o.n.view.0) (given_digest c o.n.changes p.number.0)) (holds_keeps c p.number.0 o.n.view.0 (primary c o.n.view.0) (given_digest c o.n.changes p.number.0)) correct
+            (stage_is o.n.view.0 (Holds p.number.0 o.n.view.0 (primary c.config o.n.view.0) (given_digest c o.n.changes p.number.0)) s (sym o.view_is)
+            (later c family (IsCorrect c family.faulty) u.histories i o.n.view.0 (Holds p.number.0 o.n.view.0 (primary c.config o.n.view.0) (given_digest c o.n.changes p.number.0)) (holds_keeps c p.number.0 o.n.view.0 (primary c.config o.n.view.0) (given_digest c o.n.changes p.number.0)) correct
             (o.act ∷ o.early) v.early o.point early (enter.holds p.number.0 floor top (omega arith) (omega arith))));
       }
 
   -- what the list of an entered NewView has at a number, its primary signed
-  list_led : (i view : ℕ) (acts : List Act) (o : Entry i view acts) → Enters i o.n o.early (core_at c family i (o.act ∷ o.early)) → (primary c view == i) ≡ true → (n : ℕ) → floor_of o.n.changes < n → n ≤ top_of o.n.changes
+  list_led : (i view : ℕ) (acts : List Act) (o : Entry i view acts) → Enters i o.n o.early (core_at c family i (o.act ∷ o.early)) → (primary c.config view == i) ≡ true → (n : ℕ) → floor_of o.n.changes < n → n ≤ top_of o.n.changes
       → Led c family (IsCorrect c family.faulty) u.histories i (record { view = o.n.view.0; number = n; digest = given_digest c o.n.changes n })
   list_led i view acts o enter leads n floor top =
-      let w = one_given (primary c o.n.view.0) (given c o.n.view.0 o.n.changes) o.n.pre_prepares (record { view = o.n.view.0; number = n; digest = given_digest c o.n.changes n })
+      let w = one_given (primary c.config o.n.view.0) (given c o.n.view.0 o.n.changes) o.n.pre_prepares (record { view = o.n.view.0; number = n; digest = given_digest c o.n.changes n })
       (valid_list c family (IsCorrect c family.faulty) u.histories o.n enter.valid) (given_at c o.n.view.0 o.n.changes n floor top) in
-      let g = given_role (primary c o.n.view.0) (given c o.n.view.0 o.n.changes) o.n.pre_prepares w.0 (valid_list c family (IsCorrect c family.faulty) u.histories o.n enter.valid) w.1 in
-      let me : primary c o.n.view.0 ≡ i = ap (primary c) o.view_is ∙ eqb-true _ _ leads in
+      let g = given_role (primary c.config o.n.view.0) (given c o.n.view.0 o.n.changes) o.n.pre_prepares w.0 (valid_list c family (IsCorrect c family.faulty) u.histories o.n enter.valid) w.1 in
+      let me : primary c.config o.n.view.0 ≡ i = ap (primary c.config) o.view_is ∙ eqb-true _ _ leads in
       subst (λ (f : Fields). Led c family (IsCorrect c family.faulty) u.histories i f) w.2 (enter.leads w.0 w.1 (g.1 ∙ me) g.0)
 
   proposed_after : (i : ℕ) (x : Fields) (p : PrePrepare) → IsCorrect c family.faulty i → Said c family i (bodies.PrePrepare p) → x.view < p.view.0 → x.number ≡ p.number.0 → Opening (of_pre_prepare p)
@@ -475,7 +448,7 @@ module _ (c : Setup) (family : Family) (u : IsUnforged c family) where
   listed_after i y n q correct w within is =
       let s = core_at c family i w.early in
       let f = listed_fields c family (IsCorrect c family.faulty) u.histories n q y w.says.valid within is in
-      let g = given_one (primary c n.view.0) (given c n.view.0 n.changes) n.pre_prepares q (valid_list c family (IsCorrect c family.faulty) u.histories n w.says.valid) within in
+      let g = given_one (primary c.config n.view.0) (given c n.view.0 n.changes) n.pre_prepares q (valid_list c family (IsCorrect c family.faulty) u.histories n w.says.valid) within in
       let above = given_above n.view.0 n.changes g.0 g.1 in
       let number : g.0.number ≡ y.number = ap (λ (z : Fields). z.number) (sym g.2 ∙ is) in
       record {
@@ -504,14 +477,14 @@ module _ (c : Setup) (family : Family) (u : IsUnforged c family) where
       split (cases_lt x.view y.view) (λ z sure less more same. committed_only bound x z k sure less more same) where
         split : (x.view < y.view) ⊎ (y.view ≤ x.view) → ((z : Fields) → Certain z → z.view < bound → x.view ≤ z.view → x.number ≡ z.number → x.digest ≡ z.digest) → x.digest ≡ y.digest
         split (inr same) rest =
-            let w = quorum_has c.config.f (replicas c) k.voters family.faulty k.many u.few in
+            let w = quorum_has c.config.f (replicas c.config) k.voters family.faulty k.many u.few in
             let correct : IsCorrect c family.faulty w.0 = (w.1, w.3) in
             let (b, v, is) = k.commit w.0 correct w.2 in
             let parts = and_parts (is_certified c (core_at c family w.0 v.early) (of_commit b)) (is_known c (core_at c family w.0 v.early) b.digest.0) v.says.prepared in
             let own : Certain x = subst (λ (f : Fields). Certain f) is (certain_at w.0 correct v.early (before (Send v.to v.message) v.early (family.acts w.0) v.point) (of_commit b) parts.0) in
             ap (λ (f : Fields). f.digest) (one_certain x y own certain (omega arith) number)
         split (inl higher) rest =
-            let w = quorums_meet c.config.f (replicas c) k.voters certain.voters family.faulty refl k.many certain.many u.few in
+            let w = quorums_meet c.config.f (replicas c.config) k.voters certain.voters family.faulty refl k.many certain.many u.few in
             let correct : IsCorrect c family.faulty w.0 = (w.1, w.4) in
             let o = after_commit w.0 x y correct (k.commit w.0 correct w.2) (certain.vouch w.0 correct w.3) higher number in
             let view_is = o.view_is in
@@ -535,7 +508,7 @@ module _ (c : Setup) (family : Family) (u : IsUnforged c family) where
   committed_parts i view number digest w =
       let x : Fields = record { view = view; number = number; digest = digest } in
       let s = core_at c family i w.acts in
-      let a = and_parts (is_prepared c s x) (has_quorum c (voted of_commit s.commits x)) w.committed in
+      let a = and_parts (is_prepared c s x) (has_quorum c.config (voted of_commit s.commits x)) w.committed in
       let b = and_parts (is_certified c s x) (is_known c s digest) a.0 in
       (certain_at i w.correct w.acts w.earlier x b.0, committing_at i w.correct w.acts w.earlier x a.1)
 

@@ -16,8 +16,8 @@ use Rattle.pbft_model.specs.Setup.{Setup, null_digest, digest_of}
 use Rattle.pbft_model.specs.Tables.{Key, Table, at, keep, entries_in, first_in, is_above, vote_key, number_key, with_entry}
 use Rattle.pbft_model.specs.Certificates.{Fields}
 use Rattle.pbft_model.specs.Core.{Core, is_known, held_with, is_named, is_new, names, proof_of}
-use Rattle.pbft_model.specs.Acts.{Act, Take, Timeout, Send, Relay, Enter, Rise, Execute, Install, after, said, acted, recorded, discarded_to, still_held, add_request, with_body}
-use Rattle.pbft_model.specs.Rules.{Allowed}
+use Rattle.pbft_model.specs.Acts.{Act, Take, Timeout, Send, Relay, Enter, Rise, Execute, Install, after, said, acted, left_for, recorded, discarded_to, still_held, add_request, with_body}
+use Rattle.pbft_model.specs.Rules.{Allowed, MaySay}
 use Rattle.pbft_model.specs.Duties.{among}
 use Rattle.pbft_model.specs.Histories.{IsIn}
 use Rattle.pbft_model.proofs.Found.{kept_add, kept_keep, no_some}
@@ -160,13 +160,7 @@ calm_recorded : (c : Setup) (s : Core) (m : Signed Body) (b : Body) → Calm c s
 calm_recorded c s m (bodies.Request b) = with_held c s (with_body m b)
 calm_recorded c s m (bodies.PrePrepare b) = with_pre_prepares c s _ (λ q x h e. kept_add _ s.pre_prepares (vote_key b.number.0 b.view.0 m.id) q (with_body m b) x e)
 calm_recorded c s m (bodies.Prepare b) = with_prepares c s _ (λ q x h e. kept_add _ s.prepares (vote_key b.number.0 b.view.0 m.id) q (with_body m b) x e)
-calm_recorded c s m (bodies.Commit b) = calm_self c s
-calm_recorded c s m (bodies.Reply b) = calm_self c s
-calm_recorded c s m (bodies.Checkpoint b) = calm_self c s
-calm_recorded c s m (bodies.ViewChange b) = calm_self c s
-calm_recorded c s m (bodies.NewView b) = calm_self c s
-calm_recorded c s m (bodies.Fetch b) = calm_self c s
-calm_recorded c s m (bodies.Snapshot b) = calm_self c s
+calm_recorded c s m _ = calm_self c s
 
 calm_asked : (c : Setup) (s : Core) (m : Signed Body) (b : Fetch) → Calm c s (acted (said c s m (bodies.Fetch b)))
 calm_asked c s m (fetches.Request d) = calm_self c s
@@ -175,15 +169,9 @@ calm_asked c s m (fetches.State n) = calm_self c s
 -- the bodies of own messages that leave the view as it is
 abbrev pub IsCalmBody : Body → Type 0
 IsCalmBody (bodies.Request b) = ⊥
-IsCalmBody (bodies.PrePrepare b) = Unit {0}
-IsCalmBody (bodies.Prepare b) = Unit {0}
-IsCalmBody (bodies.Commit b) = Unit {0}
-IsCalmBody (bodies.Reply b) = Unit {0}
-IsCalmBody (bodies.Checkpoint b) = Unit {0}
 IsCalmBody (bodies.ViewChange b) = ⊥
 IsCalmBody (bodies.NewView b) = ⊥
-IsCalmBody (bodies.Fetch b) = Unit {0}
-IsCalmBody (bodies.Snapshot b) = Unit {0}
+IsCalmBody _ = Unit {0}
 
 pub calm_said : (c : Setup) (s : Core) (m : Signed Body) (b : Body) → IsCalmBody b → Calm c s (said c s m b)
 calm_said c s m (bodies.Request b) k = absurd k
@@ -222,23 +210,31 @@ calm_said c s m (bodies.Snapshot b) k = calm_self c s
 
 -- the acts that leave the view as it is
 abbrev pub IsCalm : Act → Type 0
-IsCalm (Take m r) = Unit {0}
-IsCalm Timeout = Unit {0}
 IsCalm (Send to m) = IsCalmBody m.body
-IsCalm (Relay to m) = Unit {0}
 IsCalm (Enter m) = ⊥
-IsCalm (Rise n d) = Unit {0}
-IsCalm (Execute n d t o) = Unit {0}
-IsCalm (Install n b t) = Unit {0}
+IsCalm _ = Unit {0}
 
 pub calm : (c : Setup) (me : ℕ) (s : Core) (a : Act) → s.low ≤ s.executed → Allowed c me s a → IsCalm a → Calm c s (after c s a)
 calm c me s (Take m r) low ok k = calm_recorded c s m m.body
-calm c me s Timeout low ok k = calm_self c s
 calm c me s (Send to m) low ok k = calm_said c s m m.body k
-calm c me s (Relay to m) low ok k = calm_self c s
 calm c me s (Enter m) low ok k = absurd k
 calm c me s (Rise n d) low ok k = let above = ok.above in discard_calm c s n (proof_of c s n d) (omega arith)
-calm c me s (Execute n d t o) low ok k = calm_self c s
 calm c me s (Install n b t) low ok k =
     let above = ok.above in
     discard_calm c (record s { executed = n; service = t; reply_due = None; checkpoint_due = false; snapshots = with_entry s.snapshots (number_key n) b }) n (proof_of c s n (c.hash b)) (omega arith)
+calm c me s _ low ok k = calm_self c s
+
+-- the low mark never falls
+said_low : (c : Setup) (me : ℕ) (s : Core) (m : Signed Body) (b : Body) → MaySay c me s b → s.low ≤ (said c s m b).low
+said_low c me s m (bodies.Request b) says = absurd says
+said_low c me s m (bodies.NewView b) says = elim (nat_lt s.view b.view.0) as (λ t. s.low ≤ (cond t (left_for c s b.view.0) s).low) [ true ↦ omega arith | false ↦ omega arith ]
+said_low c me s m (bodies.Fetch b) says = (calm_said c s m (bodies.Fetch b) tt).3
+said_low c me s m _ says = omega arith
+
+pub low_up : (c : Setup) (me : ℕ) (s : Core) (a : Act) → s.low ≤ s.executed → Allowed c me s a → s.low ≤ (after c s a).low
+low_up c me s (Take m r) low ok = (calm c me s (Take m r) low ok tt).3
+low_up c me s (Send to m) low ok = said_low c me s m m.body ok.says
+low_up c me s (Enter m) low ok = elim (nat_lt s.view m.body.view.0) as (λ t. s.low ≤ (cond t (left_for c s m.body.view.0) s).low) [ true ↦ omega arith | false ↦ omega arith ]
+low_up c me s (Rise n d) low ok = (calm c me s (Rise n d) low ok tt).3
+low_up c me s (Install n b t) low ok = (calm c me s (Install n b t) low ok tt).3
+low_up c me s _ low ok = omega arith

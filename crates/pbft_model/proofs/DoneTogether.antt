@@ -23,7 +23,7 @@ use Rattle.pbft_model.proofs.Following.{alone, replied}
 committed_at : (c : Setup) (s : Core) (x : Fields) → x.view ≡ s.view → is_committed c s x ≡ true
     → (m : Signed PrePrepare) × (if_passes (λ p. is_committed c s (of_pre_prepare p.body)) (pre_prepare_at c s s.view x.number) ≡ Some m) × (of_pre_prepare m.body ≡ x)
 committed_at c s x view e =
-    let a = and_parts (is_prepared c s x) (has_quorum c (voted of_commit s.commits x)) e in
+    let a = and_parts (is_prepared c s x) (has_quorum c.config (voted of_commit s.commits x)) e in
     let b = and_parts (is_certified c s x) (is_known c s x.digest) a.0 in
     let w = prepared_from c s x view b.0 b.1 in
     let found = passed (λ p. is_prepared c s (of_pre_prepare p.body)) (pre_prepare_at c s s.view x.number) w.0 w.1 in

@@ -1,7 +1,7 @@
 -- What is due comes to an end: each act uses up a leaf, a number or a turn.
 use Rattle.std.proofs.Common.{◌≡◌, ℕ, ◌+◌, ◌-◌, ◌*◌, ◌<◌, ◌≤◌, Bool, true, false, Option, Some, None, sym, ap, subst, arith, inl, inr}
 use Rattle.std.specs.Prelude.{nat_lt, not, ◌==◌, ◌&&◌}
-use Rattle.lms_tree.specs.Keys.{leaf_count}
+use Rattle.seal.specs.Keys.{leaf_count}
 use Rattle.pbft_codec.specs.declared.body.Body.{Body}
 use Rattle.pbft_codec.specs.declared.body.Body.TheVariants as bodies
 use Rattle.pbft_codec.specs.declared.body.fetch.Fetch.TheVariants as fetches
@@ -14,7 +14,7 @@ use Rattle.pbft_model.specs.Duties.{Duty, Do, Executing, WornOut, due}
 use Rattle.pbft_model.specs.Rows.{Fulfils, HasLeaves, leaves_for}
 use Rattle.pbft_model.specs.Rules.{Allowed, MaySay}
 use Rattle.std.proofs.lemmas.Bool.{and_parts, eqb-true, ltb-true, not-true, or_cases}
-use Rattle.pbft_model.proofs.ByView.{low_up}
+use Rattle.pbft_model.proofs.Calm.{low_up}
 use Rattle.pbft_model.proofs.Leaves.{signer_by}
 use Rattle.pbft_model.proofs.Origins.{executed_up}
 use Rattle.pbft_model.proofs.Reactions.{IsOwn, Reacting, due_reacting, is_reaction}
@@ -53,14 +53,8 @@ module _ (c : Setup) (me : ℕ) (s : Core) where
   -- ---- who passes on has just taken a message
 
   abbrev IsFresh : Act → Type 0
-  IsFresh (Take m r) = Unit {0}
-  IsFresh Timeout = Unit {0}
-  IsFresh (Send to m) = Unit {0}
   IsFresh (Relay to m) = s.is_fresh ≡ true
-  IsFresh (Enter m) = Unit {0}
-  IsFresh (Rise n d) = Unit {0}
-  IsFresh (Execute n d t o) = Unit {0}
-  IsFresh (Install n b t) = Unit {0}
+  IsFresh _ = Unit {0}
 
   abbrev FreshDuty : Duty → Type 0
   FreshDuty (Do a) = IsFresh a
@@ -70,12 +64,8 @@ module _ (c : Setup) (me : ℕ) (s : Core) where
   own_fresh : (a : Act) → IsOwn a → FreshDuty (Do a)
   own_fresh (Take m r) own = absurd own
   own_fresh Timeout own = absurd own
-  own_fresh (Send to m) own = tt
   own_fresh (Relay to m) own = absurd own
-  own_fresh (Enter m) own = tt
-  own_fresh (Rise n d) own = tt
-  own_fresh (Execute n d t o) own = tt
-  own_fresh (Install n b t) own = tt
+  own_fresh _ own = tt
 
   fulfilled_fresh : (o : Option Duty) (a : Act) → Reacting FreshDuty own_fresh tt o → Fulfils c s o a → IsFresh a
   fulfilled_fresh None a h does = absurd does
@@ -93,15 +83,7 @@ module _ (c : Setup) (me : ℕ) (s : Core) where
 
   pub one_leaf : (b : Body) → 1 ≤ leaves_of b
   one_leaf (bodies.Request b) = omega arith
-  one_leaf (bodies.PrePrepare b) = omega arith
-  one_leaf (bodies.Prepare b) = omega arith
-  one_leaf (bodies.Commit b) = omega arith
-  one_leaf (bodies.Reply b) = omega arith
-  one_leaf (bodies.Checkpoint b) = omega arith
-  one_leaf (bodies.ViewChange b) = omega arith
-  one_leaf (bodies.NewView b) = omega arith
-  one_leaf (bodies.Fetch b) = omega arith
-  one_leaf (bodies.Snapshot b) = omega arith
+  one_leaf _ = omega arith
 
   -- Whatever act does what is due, less is left to do.
   pub less_to_do : (a : Act) → s.low ≤ s.executed → s.executed < number_limit → s.view < view_limit → Allowed c me s a → Fulfils c s (due c me s) a → HasLeaves s a → left_to_do (after c s a) < left_to_do s

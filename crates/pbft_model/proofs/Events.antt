@@ -95,15 +95,7 @@ low_reached c me signer (a ∷ acts) is = reached_after (core_after c signer act
 
   reached_recorded : (s : Core) (m : Signed Body) (b : Body) → s.low ≤ s.executed → (recorded c s m b).low ≤ (recorded c s m b).executed
   reached_recorded s m (bodies.Request b) h = h
-  reached_recorded s m (bodies.PrePrepare b) h = h
-  reached_recorded s m (bodies.Prepare b) h = h
-  reached_recorded s m (bodies.Commit b) h = h
-  reached_recorded s m (bodies.Reply b) h = h
-  reached_recorded s m (bodies.Checkpoint b) h = h
-  reached_recorded s m (bodies.ViewChange b) h = h
-  reached_recorded s m (bodies.NewView b) h = h
-  reached_recorded s m (bodies.Fetch b) h = h
-  reached_recorded s m (bodies.Snapshot b) h = h
+  reached_recorded s m _ h = h
 
   reached_after : (s : Core) (a : Act) → Allowed c me s a → s.low ≤ s.executed → (after c s a).low ≤ (after c s a).executed
   reached_after s (Take m r) ok h = reached_recorded s m m.body h

@@ -2,7 +2,8 @@
 use Rattle.std.proofs.Common.{ℕ, List, ◌∷◌}
 use Rattle.pbft_model.specs.Setup.{Setup}
 use Rattle.pbft_model.specs.Acts.{Execute}
-use Rattle.pbft_model.specs.Histories.{core_after, Family, IsUnforged, HasCommitted, HasExecuted, ExecutesAlike}
+use Rattle.pbft_model.specs.Histories.{core_after}
+use Rattle.pbft_model.specs.Families.{Family, IsUnforged, HasCommitted, HasExecuted, ExecutesAlike}
 use Rattle.pbft_model.proofs.ByView.{agrees_by_view}
 use Rattle.pbft_model.proofs.Events.{before, history_at}
 

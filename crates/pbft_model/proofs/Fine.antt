@@ -71,15 +71,7 @@ module _ (c : Setup) (me : ℕ) (s : Core) where
 
   answer_fine : (m : Signed Body) (b : Body) → Fine (answer_to_request me s m b)
   answer_fine m (bodies.Request b) = again_fine m b (last_reply_of s.service m.id) refl
-  answer_fine m (bodies.PrePrepare b) = none_fine
-  answer_fine m (bodies.Prepare b) = none_fine
-  answer_fine m (bodies.Commit b) = none_fine
-  answer_fine m (bodies.Reply b) = none_fine
-  answer_fine m (bodies.Checkpoint b) = none_fine
-  answer_fine m (bodies.ViewChange b) = none_fine
-  answer_fine m (bodies.NewView b) = none_fine
-  answer_fine m (bodies.Fetch b) = none_fine
-  answer_fine m (bodies.Snapshot b) = none_fine
+  answer_fine m _ = none_fine
 
   pass_fine : (m : Signed Body) (digest : List ℕ) (o : Option (Signed RequestBody)) → held_with c s.held digest ≡ o → Fine (pass_on m o)
   pass_fine m digest None e = none_fine
@@ -94,16 +86,8 @@ module _ (c : Setup) (me : ℕ) (s : Core) where
   fetched_fine m (fetches.State n) = supply_fine m n.0 (at s.snapshots (number_key n.0)) refl
 
   fetch_fine : (m : Signed Body) (b : Body) → Fine (answer_to_fetch c me s m b)
-  fetch_fine m (bodies.Request b) = none_fine
-  fetch_fine m (bodies.PrePrepare b) = none_fine
-  fetch_fine m (bodies.Prepare b) = none_fine
-  fetch_fine m (bodies.Commit b) = none_fine
-  fetch_fine m (bodies.Reply b) = none_fine
-  fetch_fine m (bodies.Checkpoint b) = none_fine
-  fetch_fine m (bodies.ViewChange b) = none_fine
-  fetch_fine m (bodies.NewView b) = none_fine
   fetch_fine m (bodies.Fetch b) = fetched_fine m b
-  fetch_fine m (bodies.Snapshot b) = none_fine
+  fetch_fine m _ = none_fine
 
   taken_fine : (duty : Signed Body → Body → Option Duty) (o : Option (Signed Body)) → ((m : Signed Body) → o ≡ Some m → Fine (duty m m.body)) → Fine (on_taken duty o)
   taken_fine duty None h = none_fine
@@ -113,24 +97,16 @@ module _ (c : Setup) (me : ℕ) (s : Core) where
   same_message m b e = λ i. record { role = m.role; id = m.id; body = e i; sig = m.sig }
 
   enter_fine : (m : Signed Body) (b : Body) → m.body ≡ b → s.taken ≡ Some m → Fine (enter_by c s m b)
-  enter_fine m (bodies.Request b) e taken = none_fine
-  enter_fine m (bodies.PrePrepare b) e taken = none_fine
-  enter_fine m (bodies.Prepare b) e taken = none_fine
-  enter_fine m (bodies.Commit b) e taken = none_fine
-  enter_fine m (bodies.Reply b) e taken = none_fine
-  enter_fine m (bodies.Checkpoint b) e taken = none_fine
-  enter_fine m (bodies.ViewChange b) e taken = none_fine
   enter_fine m (bodies.NewView b) e taken = when_fine (is_awaited s b.view.0 && is_valid_new_view c b) _ (λ t a is.
       let parts = and_parts (is_awaited s b.view.0) (is_valid_new_view c b) t in
       subst (λ (x : Act). Allowed c me s x) (sym is) (record { taken = taken ∙ ap Some (same_message m (bodies.NewView b) e); awaited = parts.0; valid = parts.1 }))
-  enter_fine m (bodies.Fetch b) e taken = none_fine
-  enter_fine m (bodies.Snapshot b) e taken = none_fine
+  enter_fine m _ e taken = none_fine
 
   module _ (sound : IsSoundCore c s) where
     read_fine : (m : Signed Body) (b : Snapshot) (o : Option Service) → m.body ≡ bodies.Snapshot b → s.taken ≡ Some m → s.reading ≡ o → Fine (install_read c s b o)
     read_fine m b None e taken reading = none_fine
-    read_fine m b (Some state) e taken reading = when_fine (nat_lt s.executed b.number.0 && is_stable c s.checkpoints b.number.0 (c.hash b.state)) _ (λ t a is.
-        let parts = and_parts (nat_lt s.executed b.number.0) (is_stable c s.checkpoints b.number.0 (c.hash b.state)) t in
+    read_fine m b (Some state) e taken reading = when_fine (nat_lt s.executed b.number.0 && is_stable c.config s.checkpoints b.number.0 (c.hash b.state)) _ (λ t a is.
+        let parts = and_parts (nat_lt s.executed b.number.0) (is_stable c.config s.checkpoints b.number.0 (c.hash b.state)) t in
         subst (λ (x : Act). Allowed c me s x) (sym is)
         (record {
           above = ltb-true s.executed b.number.0 parts.0;
@@ -142,22 +118,14 @@ module _ (c : Setup) (me : ℕ) (s : Core) where
         }))
 
     install_fine : (m : Signed Body) (b : Body) → m.body ≡ b → s.taken ≡ Some m → Fine (install_from c s m b)
-    install_fine m (bodies.Request b) e taken = none_fine
-    install_fine m (bodies.PrePrepare b) e taken = none_fine
-    install_fine m (bodies.Prepare b) e taken = none_fine
-    install_fine m (bodies.Commit b) e taken = none_fine
-    install_fine m (bodies.Reply b) e taken = none_fine
-    install_fine m (bodies.Checkpoint b) e taken = none_fine
-    install_fine m (bodies.ViewChange b) e taken = none_fine
-    install_fine m (bodies.NewView b) e taken = none_fine
-    install_fine m (bodies.Fetch b) e taken = none_fine
     install_fine m (bodies.Snapshot b) e taken = read_fine m b s.reading e taken refl
+    install_fine m _ e taken = none_fine
 
     rise_with_fine : (number : ℕ) (o : Option (List ℕ)) → at s.snapshots (number_key number) ≡ o → Fine (rise_with c s number o)
     rise_with_fine number None e = none_fine
     rise_with_fine number (Some bytes) e = when_fine (may_rise c s number (c.hash bytes)) _ (λ t a is.
-        let p = and_parts (nat_lt s.low number) (nat_le number s.executed && is_stable c s.checkpoints number (c.hash bytes)) t in
-        let q = and_parts (nat_le number s.executed) (is_stable c s.checkpoints number (c.hash bytes)) p.1 in
+        let p = and_parts (nat_lt s.low number) (nat_le number s.executed && is_stable c.config s.checkpoints number (c.hash bytes)) t in
+        let q = and_parts (nat_le number s.executed) (is_stable c.config s.checkpoints number (c.hash bytes)) p.1 in
         subst (λ (x : Act). Allowed c me s x) (sym is)
         (record { above = ltb-true s.low number p.0; reached = leb-true number s.executed q.0; stable = q.1; bytes = bytes; kept = e; digest_is = refl }))
 
@@ -167,32 +135,32 @@ module _ (c : Setup) (me : ℕ) (s : Core) where
 
     propose_fine : s.active ≡ true → leads c me s ≡ true → (o : Option (Signed RequestBody)) → Fine (propose c me s o)
     propose_fine active lead None = none_fine
-    propose_fine active lead (Some m) = if_fine (nat_le (next_number s) (s.low + span c)) _ (λ t. worn (next_number s == number_limit) (leb-true (next_number s) (s.low + span c) t)) where
-      worn : (b : Bool) → next_number s ≤ s.low + span c → Fine (Some (cond b WornOut (say me s All (bodies.PrePrepare (record { view = record { 0 = s.view }; number = record { 0 = next_number s }; digest = record { 0 = digest_of c m } })))))
+    propose_fine active lead (Some m) = if_fine (nat_le (next_number s) (s.low + span c.config)) _ (λ t. worn (next_number s == number_limit) (leb-true (next_number s) (s.low + span c.config) t)) where
+      worn : (b : Bool) → next_number s ≤ s.low + span c.config → Fine (Some (cond b WornOut (say me s All (bodies.PrePrepare (record { view = record { 0 = s.view }; number = record { 0 = next_number s }; digest = record { 0 = digest_of c m } })))))
       worn true high = λ a none. absurd none
       worn false high = say_fine _ _ (record { inside = record { active = active; view_is = refl; above_floor = omega arith; above_low = omega arith; up_to_high = high }; leads = lead; next = refl })
 
-    within : (n : ℕ) → IsIn n (inside c s) → (s.low < n) × (n ≤ s.low + span c)
-    within n is = let w = numbers_within (span c) (s.low + 1) n is in let low = w.0 in let high = w.1 in (omega arith, omega arith)
+    within : (n : ℕ) → IsIn n (inside c s) → (s.low < n) × (n ≤ s.low + span c.config)
+    within n is = let w = numbers_within (span c.config) (s.low + 1) n is in let low = w.0 in let high = w.1 in (omega arith, omega arith)
 
     -- a PrePrepare recorded for a number of the active view
-    recorded_inside : s.active ≡ true → (n : ℕ) (m : Signed PrePrepare) → IsIn n (inside c s) → pre_prepare_at c s s.view n ≡ Some m → IsInside c s m.body.view.0 m.body.number.0 × (voted of_pre_prepare s.pre_prepares (of_pre_prepare m.body) (primary c m.body.view.0) ≡ true) × (m.body.number.0 ≡ n)
+    recorded_inside : s.active ≡ true → (n : ℕ) (m : Signed PrePrepare) → IsIn n (inside c s) → pre_prepare_at c s s.view n ≡ Some m → IsInside c s m.body.view.0 m.body.number.0 × (voted of_pre_prepare s.pre_prepares (of_pre_prepare m.body) (primary c.config m.body.view.0) ≡ true) × (m.body.number.0 ≡ n)
     recorded_inside active n m is e =
-        let v = passed (is_by (primary c s.view) (has_position s.view n)) (at s.pre_prepares (vote_key n s.view (primary c s.view))) m e in
-        let by = by_is (primary c s.view) (has_position s.view n) m v.1 in
+        let v = passed (is_by (primary c.config s.view) (has_position s.view n)) (at s.pre_prepares (vote_key n s.view (primary c.config s.view))) m e in
+        let by = by_is (primary c.config s.view) (has_position s.view n) m v.1 in
         let position = and_parts (m.body.view.0 == s.view) (m.body.number.0 == n) by.2 in
         let view = eqb-true m.body.view.0 s.view position.0 in
         let number = eqb-true m.body.number.0 n position.1 in
         let w = within n is in
         let low = w.0 in
         let high = w.1 in
-        let floor : floor_in s < n = sound.0 (vote_key n s.view (primary c s.view)) m v.0 active refl in
-        let own : is_by (primary c s.view) (λ b. same_fields (of_pre_prepare b) (of_pre_prepare m.body)) m ≡ true = is_by_from (primary c s.view) (has_position s.view n) (λ b. same_fields (of_pre_prepare b) (of_pre_prepare m.body)) m (λ _. same_self (of_pre_prepare m.body)) v.1 in
-        let here : voted of_pre_prepare s.pre_prepares (record { view = s.view; number = n; digest = m.body.digest.0 }) (primary c s.view) ≡ true =
-        subst (λ (o : Option (Signed PrePrepare)). some_by (primary c s.view) (λ b. same_fields (of_pre_prepare b) (record { view = s.view; number = n; digest = m.body.digest.0 })) o ≡ true) (sym v.0)
-        (subst (λ (x : Fields). is_by (primary c s.view) (λ b. same_fields (of_pre_prepare b) x) m ≡ true) (λ i. record { view = view i; number = number i; digest = m.body.digest.0 }) own) in (
+        let floor : floor_in s < n = sound.0 (vote_key n s.view (primary c.config s.view)) m v.0 active refl in
+        let own : is_by (primary c.config s.view) (λ b. same_fields (of_pre_prepare b) (of_pre_prepare m.body)) m ≡ true = is_by_from (primary c.config s.view) (has_position s.view n) (λ b. same_fields (of_pre_prepare b) (of_pre_prepare m.body)) m (λ _. same_self (of_pre_prepare m.body)) v.1 in
+        let here : voted of_pre_prepare s.pre_prepares (record { view = s.view; number = n; digest = m.body.digest.0 }) (primary c.config s.view) ≡ true =
+        subst (λ (o : Option (Signed PrePrepare)). some_by (primary c.config s.view) (λ b. same_fields (of_pre_prepare b) (record { view = s.view; number = n; digest = m.body.digest.0 })) o ≡ true) (sym v.0)
+        (subst (λ (x : Fields). is_by (primary c.config s.view) (λ b. same_fields (of_pre_prepare b) x) m ≡ true) (λ i. record { view = view i; number = number i; digest = m.body.digest.0 }) own) in (
           record { active = active; view_is = view; above_floor = omega arith; above_low = omega arith; up_to_high = omega arith },
-          subst (λ (x : Fields). voted of_pre_prepare s.pre_prepares x (primary c x.view) ≡ true) (λ i. record { view = sym view i; number = sym number i; digest = m.body.digest.0 }) here,
+          subst (λ (x : Fields). voted of_pre_prepare s.pre_prepares x (primary c.config x.view) ≡ true) (λ i. record { view = sym view i; number = sym number i; digest = m.body.digest.0 }) here,
           number,
         )
 
@@ -227,8 +195,8 @@ module _ (c : Setup) (me : ℕ) (s : Core) where
       executed : (a : Act) → Fulfils c s (Some (Executing n m.body.digest.0)) a → Allowed c me s a
       executed a (t, o, step, is) =
           let w = passed (λ p. is_committed c s (of_pre_prepare p.body)) (pre_prepare_at c s s.view n) m e in
-          let v = passed (is_by (primary c s.view) (has_position s.view n)) (at s.pre_prepares (vote_key n s.view (primary c s.view))) m w.0 in
-          let by = by_is (primary c s.view) (has_position s.view n) m v.1 in
+          let v = passed (is_by (primary c.config s.view) (has_position s.view n)) (at s.pre_prepares (vote_key n s.view (primary c.config s.view))) m w.0 in
+          let by = by_is (primary c.config s.view) (has_position s.view n) m v.1 in
           let position = and_parts (m.body.view.0 == s.view) (m.body.number.0 == n) by.2 in
           let view = eqb-true m.body.view.0 s.view position.0 in
           let number = eqb-true m.body.number.0 n position.1 in
@@ -253,10 +221,10 @@ module _ (c : Setup) (me : ℕ) (s : Core) where
     join_fine (m ∷ ms) h = when_fine _ _ (λ _. change_fine (least_view ms m.body.view.0) (least_above ms m.body.view.0 (h m (inl refl)) (λ x is. h x (inr is))))
 
     open_fine : Fine (due_open c me s)
-    open_fine = when_fine (not s.active && (leads c me s && (wants_view s me && has_quorum c (wants_view s)))) _ (λ t.
-        let p = and_parts (not s.active) (leads c me s && (wants_view s me && has_quorum c (wants_view s))) t in
-        let q = and_parts (leads c me s) (wants_view s me && has_quorum c (wants_view s)) p.1 in
-        let r = and_parts (wants_view s me) (has_quorum c (wants_view s)) q.1 in
+    open_fine = when_fine (not s.active && (leads c me s && (wants_view s me && has_quorum c.config (wants_view s)))) _ (λ t.
+        let p = and_parts (not s.active) (leads c me s && (wants_view s me && has_quorum c.config (wants_view s))) t in
+        let q = and_parts (leads c me s) (wants_view s me && has_quorum c.config (wants_view s)) p.1 in
+        let r = and_parts (wants_view s me) (has_quorum c.config (wants_view s)) q.1 in
         say_fine _ (bodies.NewView (new_view_of c me s)) (record { changing = not-true s.active p.0; leads = q.0; is = refl; valid = new_view_made c me s q.0 r.0 r.1 sound.2 }))
 
     ask_fine : (o : Option (Signed PrePrepare)) → Fine (ask_for me s o)

@@ -83,14 +83,14 @@ module _ (c : Setup) (me : ℕ) (signer : SigningState) (configuration : IsConfi
         let w = held_range acts is m ((from_find (is_named c digest) (core_after c signer acts).held m e).0) in (w.client, w.time)
 
   -- the number of a quorum's Commits is in range, since another's is among them
-  committed_range : (acts : List Act) → IsHistory c me signer acts → (x : Fields) → has_quorum c (voted of_commit (core_after c signer acts).commits x) ≡ true → x.number < number_limit
+  committed_range : (acts : List Act) → IsHistory c me signer acts → (x : Fields) → has_quorum c.config (voted of_commit (core_after c signer acts).commits x) ≡ true → x.number < number_limit
   committed_range acts is x e =
       let s = core_after c signer acts in
       let voters : ℕ → Bool = voted of_commit s.commits x in
-      let many = leb-true (quorum c) (count voters (replicas c)) e in
+      let many = leb-true (quorum c.config) (count voters (replicas c.config)) e in
       let least = configuration.min_faulty in
-      let one = at_most_one me (replicas c) in
-      let w = found_outside voters (λ i. i == me) (replicas c) (omega arith) in
+      let one = at_most_one me (replicas c.config) in
+      let w = found_outside voters (λ i. i == me) (replicas c.config) (omega arith) in
       let v = voted_is of_commit s.commits x w.0 w.2 in
       let by = by_is w.0 (λ b. same_fields (of_commit b) x) v.0 v.2 in
       let fields = fields_are (of_commit v.0.body) x by.2 in
@@ -103,19 +103,16 @@ module _ (c : Setup) (me : ℕ) (signer : SigningState) (configuration : IsConfi
   in_step_after : (acts : List Act) (a : Act) → IsHistory c me signer acts → Allowed c me (core_after c signer acts) a → IsInStep c (core_after c signer acts) → IsInStep c (after c (core_after c signer acts) a)
   in_step_after acts (Take m r) is ok h = let k = recorded_keeps c (core_after c signer acts) m m.body in
       in_step_keeps c (core_after c signer acts) _ (record { number = k.number; service = k.service; reply = k.reply; checkpoint = k.checkpoint }) h
-  in_step_after acts Timeout is ok h = record { sound = h.sound; config_is = h.config_is; number_is = h.number_is }
   in_step_after acts (Send to m) is ok h = let k = said_keeps c (core_after c signer acts) m m.body in
       in_step_keeps c (core_after c signer acts) _ (record { number = k.number; service = k.service; reply = k.reply; checkpoint = k.checkpoint }) h
-  in_step_after acts (Relay to m) is ok h = record { sound = h.sound; config_is = h.config_is; number_is = h.number_is }
   in_step_after acts (Enter m) is ok h = let k = left_keeps c (core_after c signer acts) m.body.view.0 in
       in_step_keeps c (core_after c signer acts) _ (record { number = k.number; service = k.service; reply = k.reply; checkpoint = k.checkpoint }) h
-  in_step_after acts (Rise n d) is ok h = record { sound = h.sound; config_is = h.config_is; number_is = h.number_is }
   in_step_after acts (Execute n d t o) is ok h =
       let s = core_after c signer acts in
       let x : Fields = record { view = s.view; number = n; digest = d } in
       let next : n ≡ s.executed + 1 = ok.next in
       let number : s.service.number ≡ s.executed = h.number_is in
-      let range : n < number_limit = committed_range acts is x ((and_parts (is_prepared c s x) (has_quorum c (voted of_commit s.commits x)) ok.committed).1) in
+      let range : n < number_limit = committed_range acts is x ((and_parts (is_prepared c s x) (has_quorum c.config (voted of_commit s.commits x)) ok.committed).1) in
       let moved = step_config s.service (request_of c s d) t o ok.step in
       let up : t.number ≡ s.service.number + 1 = moved.1 in
       record {
@@ -127,6 +124,7 @@ module _ (c : Setup) (me : ℕ) (signer : SigningState) (configuration : IsConfi
         number_is = omega arith;
       }
   in_step_after acts (Install n b t) is ok h = record { sound = ok.reads.sound; config_is = ok.reads.config_is; number_is = ok.reads.number_is }
+  in_step_after acts _ is ok h = record { sound = h.sound; config_is = h.config_is; number_is = h.number_is }
 
   pub in_step_at : (acts : List Act) → IsHistory c me signer acts → IsInStep c (core_after c signer acts)
   in_step_at [] is = record {

@@ -90,29 +90,14 @@ left_snapshots c s view = cases (nat_lt s.view view) where
   cases false = refl
 
 said_snapshots : (c : Setup) (s : Core) (m : Signed Body) (b : Body) → (said c s m b).snapshots ≡ s.snapshots
-said_snapshots c s m (bodies.Request b) = refl
-said_snapshots c s m (bodies.PrePrepare b) = refl
-said_snapshots c s m (bodies.Prepare b) = refl
-said_snapshots c s m (bodies.Commit b) = refl
-said_snapshots c s m (bodies.Reply b) = refl
-said_snapshots c s m (bodies.Checkpoint b) = refl
-said_snapshots c s m (bodies.ViewChange b) = refl
 said_snapshots c s m (bodies.NewView b) = left_snapshots c s b.view.0
 said_snapshots c s m (bodies.Fetch (fetches.Request d)) = refl
 said_snapshots c s m (bodies.Fetch (fetches.State n)) = refl
-said_snapshots c s m (bodies.Snapshot b) = refl
+said_snapshots c s m _ = refl
 
 recorded_snapshots : (c : Setup) (s : Core) (m : Signed Body) (b : Body) → (recorded c s m b).snapshots ≡ s.snapshots
 recorded_snapshots c s m (bodies.Request b) = refl
-recorded_snapshots c s m (bodies.PrePrepare b) = refl
-recorded_snapshots c s m (bodies.Prepare b) = refl
-recorded_snapshots c s m (bodies.Commit b) = refl
-recorded_snapshots c s m (bodies.Reply b) = refl
-recorded_snapshots c s m (bodies.Checkpoint b) = refl
-recorded_snapshots c s m (bodies.ViewChange b) = refl
-recorded_snapshots c s m (bodies.NewView b) = refl
-recorded_snapshots c s m (bodies.Fetch b) = refl
-recorded_snapshots c s m (bodies.Snapshot b) = refl
+recorded_snapshots c s m _ = refl
 
 snapshots_after : (c : Setup) (me : ℕ) (s : Core) (a : Act) → Allowed c me s a → SnapshotsReached s.executed s.snapshots → SnapshotsReached s.executed (after c s a).snapshots ⊎ SnapshotsReached (after c s a).executed (after c s a).snapshots
 snapshots_after c me s (Take m r) ok h = inl (subst (SnapshotsReached s.executed) (sym (recorded_snapshots c s m m.body)) h)
@@ -192,37 +177,21 @@ module _ (c : Setup) (me : ℕ) (s : Core) (number : ℕ) (service : Service) (s
   t = moved s number service signer
 
   enter_none : (m : Signed Body) (b : Body) → enter_by c s m b ≡ None → enter_by c t m b ≡ None
-  enter_none m (bodies.Request b) e = refl
-  enter_none m (bodies.PrePrepare b) e = refl
-  enter_none m (bodies.Prepare b) e = refl
-  enter_none m (bodies.Commit b) e = refl
-  enter_none m (bodies.Reply b) e = refl
-  enter_none m (bodies.Checkpoint b) e = refl
-  enter_none m (bodies.ViewChange b) e = refl
   enter_none m (bodies.NewView b) e = e
-  enter_none m (bodies.Fetch b) e = refl
-  enter_none m (bodies.Snapshot b) e = refl
+  enter_none m _ e = refl
 
   read_none : (b : Snapshot) (o : Option Service) → install_read c s b o ≡ None → install_read c t b o ≡ None
   read_none b None e = refl
   read_none b (Some state) e =
-      let was = when_none (nat_lt s.executed b.number.0 && is_stable c s.checkpoints b.number.0 (c.hash b.state)) _ e in
-      none_when (nat_lt number b.number.0 && is_stable c s.checkpoints b.number.0 (c.hash b.state)) _ (false_if _ (λ now.
-      let parts = and_parts (nat_lt number b.number.0) (is_stable c s.checkpoints b.number.0 (c.hash b.state)) now in
+      let was = when_none (nat_lt s.executed b.number.0 && is_stable c.config s.checkpoints b.number.0 (c.hash b.state)) _ e in
+      none_when (nat_lt number b.number.0 && is_stable c.config s.checkpoints b.number.0 (c.hash b.state)) _ (false_if _ (λ now.
+      let parts = and_parts (nat_lt number b.number.0) (is_stable c.config s.checkpoints b.number.0 (c.hash b.state)) now in
       let above = ltb-true number b.number.0 parts.0 in
       true≢false (sym (and_from _ _ (lt-ltb s.executed b.number.0 (omega (arith, up, above))) parts.1) ∙ was)))
 
   install_none : (m : Signed Body) (b : Body) → install_from c s m b ≡ None → install_from c t m b ≡ None
-  install_none m (bodies.Request b) e = refl
-  install_none m (bodies.PrePrepare b) e = refl
-  install_none m (bodies.Prepare b) e = refl
-  install_none m (bodies.Commit b) e = refl
-  install_none m (bodies.Reply b) e = refl
-  install_none m (bodies.Checkpoint b) e = refl
-  install_none m (bodies.ViewChange b) e = refl
-  install_none m (bodies.NewView b) e = refl
-  install_none m (bodies.Fetch b) e = refl
   install_none m (bodies.Snapshot b) e = read_none b s.reading e
+  install_none m _ e = refl
 
   taken_none : (duty other : Signed Body → Body → Option Duty) (o : Option (Signed Body)) → ((m : Signed Body) (b : Body) → duty m b ≡ None → other m b ≡ None) → on_taken duty o ≡ None → on_taken other o ≡ None
   taken_none duty other None h e = refl
@@ -234,8 +203,8 @@ module _ (c : Setup) (me : ℕ) (s : Core) (number : ℕ) (service : Service) (s
       let was = when_none (may_rise c s n (c.hash bytes)) _ e in
       let le = below bytes refl in
       none_when (may_rise c t n (c.hash bytes)) _ (false_if _ (λ now.
-      let p = and_parts (nat_lt s.low n) (nat_le n number && is_stable c s.checkpoints n (c.hash bytes)) now in
-      let q = and_parts (nat_le n number) (is_stable c s.checkpoints n (c.hash bytes)) p.1 in
+      let p = and_parts (nat_lt s.low n) (nat_le n number && is_stable c.config s.checkpoints n (c.hash bytes)) now in
+      let q = and_parts (nat_le n number) (is_stable c.config s.checkpoints n (c.hash bytes)) p.1 in
       true≢false (sym (and_from _ _ p.0 (and_from _ _ (le-leb n s.executed le) q.1)) ∙ was)))
 
   rise_none : (es : Table (List ℕ)) → rise_among c s es ≡ None → rise_among c t es ≡ None
@@ -245,13 +214,13 @@ module _ (c : Setup) (me : ℕ) (s : Core) (number : ℕ) (service : Service) (s
       none_or (rise_among c t es) (rise_with c t (first_in x.0) (at s.snapshots (number_key (first_in x.0)))) (rise_none es both.0)
       (rise_with_none (first_in x.0) (at s.snapshots (number_key (first_in x.0))) (λ y f. reached (number_key (first_in x.0)) y f) both.1)
 
-  too_high : (o : Option (Signed RequestBody)) → nat_le (next_number s) (s.low + span c) ≡ false → propose c me t o ≡ None
+  too_high : (o : Option (Signed RequestBody)) → nat_le (next_number s) (s.low + span c.config) ≡ false → propose c me t o ≡ None
   too_high None e = refl
-  too_high (Some m) e = cut (nat_le (next_number s) (s.low + span c)) _ e
+  too_high (Some m) e = cut (nat_le (next_number s) (s.low + span c.config)) _ e
 
   propose_none : (o p : Option (Signed RequestBody)) → (o ≡ None → p ≡ None) → propose c me s o ≡ None → propose c me t p ≡ None
   propose_none None p h e = ap (propose c me t) (h refl)
-  propose_none (Some m) p h e = too_high p (left_none (nat_le (next_number s) (s.low + span c)) _ e) where
+  propose_none (Some m) p h e = too_high p (left_none (nat_le (next_number s) (s.low + span c.config)) _ e) where
     left_none : (b : Bool) (d : Duty) → cond b (Some d) None ≡ None → b ≡ false
     left_none true d e = no_some d (sym e)
     left_none false d e = refl

@@ -79,11 +79,8 @@ module _ (c : Setup) (me : ℕ) (signer : SigningState) (all : List Act) (is : I
   taken_after s (Take m r) early at h p e = subst (λ (x : Signed Body). HasTaken x all) (same_Some _ _ e) (taken_at m r early all at)
   taken_after s Timeout early at h p e = no_some p e
   taken_after s (Send to m) early at h p e = h p (sym (said_taken s m m.body) ∙ e)
-  taken_after s (Relay to m) early at h p e = h p e
   taken_after s (Enter m) early at h p e = h p (sym (left_taken c s m.body.view.0) ∙ e)
-  taken_after s (Rise n d) early at h p e = h p e
-  taken_after s (Execute n d t o) early at h p e = h p e
-  taken_after s (Install n b t) early at h p e = h p e
+  taken_after s _ early at h p e = h p e
 
   pub just_taken : (acts : List Act) → IsEarlier acts all → TakenOnce (core_after c signer acts)
   just_taken [] at m e = no_some m e
@@ -123,25 +120,15 @@ module _ (c : Setup) (me : ℕ) (signer : SigningState) (all : List Act) (is : I
   recorded_held : (s : Core) (m : Signed Body) (b : Body) → m.body ≡ b → HasTaken m all → HeldTaken s.held → HeldTaken (recorded c s m b).held
   recorded_held s m (bodies.Request b) e taken h =
       request_added (with_body m b) s.held (subst (λ (x : Body). HasTaken (record { role = m.role; id = m.id; body = x; sig = m.sig }) all) e taken) h
-  recorded_held s m (bodies.PrePrepare b) e taken h = h
-  recorded_held s m (bodies.Prepare b) e taken h = h
-  recorded_held s m (bodies.Commit b) e taken h = h
-  recorded_held s m (bodies.Reply b) e taken h = h
-  recorded_held s m (bodies.Checkpoint b) e taken h = h
-  recorded_held s m (bodies.ViewChange b) e taken h = h
-  recorded_held s m (bodies.NewView b) e taken h = h
-  recorded_held s m (bodies.Fetch b) e taken h = h
-  recorded_held s m (bodies.Snapshot b) e taken h = h
+  recorded_held s m _ e taken h = h
 
   held_after : (s : Core) (a : Act) (early : List Act) → IsEarlier (a ∷ early) all → HeldTaken s.held → HeldTaken (after c s a).held
   held_after s (Take m r) early at h = recorded_held s m m.body refl (taken_at m r early all at) h
-  held_after s Timeout early at h = h
   held_after s (Send to m) early at h = subst HeldTaken (sym (said_held s m m.body)) h
-  held_after s (Relay to m) early at h = h
   held_after s (Enter m) early at h = subst HeldTaken (sym (left_held c s m.body.view.0)) h
   held_after s (Rise n d) early at h = λ p within. h p (from_filter _ s.held p within)
-  held_after s (Execute n d t o) early at h = h
   held_after s (Install n b t) early at h = λ p within. h p (from_filter _ s.held p within)
+  held_after s _ early at h = h
 
   -- each request that is held was taken
   pub held_taken : (acts : List Act) → IsEarlier acts all → HeldTaken (core_after c signer acts).held
@@ -181,26 +168,16 @@ module _ (c : Setup) (me : ℕ) (signer : SigningState) (all : List Act) (is : I
   said_in_range s m (bodies.Snapshot b) own h = h
 
   recorded_in_range : (s : Core) (m : Signed Body) (b : Body) → BodyWellFormed b → AreOwnOrInRange s.commits → AreOwnOrInRange (recorded c s m b).commits
-  recorded_in_range s m (bodies.Request b) fits h = h
-  recorded_in_range s m (bodies.PrePrepare b) fits h = h
-  recorded_in_range s m (bodies.Prepare b) fits h = h
   recorded_in_range s m (bodies.Commit b) fits h = added_in_range s (with_body m b) _ (inr fits) h
-  recorded_in_range s m (bodies.Reply b) fits h = h
-  recorded_in_range s m (bodies.Checkpoint b) fits h = h
-  recorded_in_range s m (bodies.ViewChange b) fits h = h
-  recorded_in_range s m (bodies.NewView b) fits h = h
-  recorded_in_range s m (bodies.Fetch b) fits h = h
-  recorded_in_range s m (bodies.Snapshot b) fits h = h
+  recorded_in_range s m _ fits h = h
 
   commits_after : (s : Core) (a : Act) → Allowed c me s a → AreOwnOrInRange s.commits → AreOwnOrInRange (after c s a).commits
   commits_after s (Take m r) ok h = recorded_in_range s m m.body ok.opened.encodes.well_formed.well_formed h
-  commits_after s Timeout ok h = h
   commits_after s (Send to m) ok h = said_in_range s m m.body (ap (λ (x : Signed Body). x.id) ok.signed) h
-  commits_after s (Relay to m) ok h = h
   commits_after s (Enter m) ok h = kept_in_range _ (left_if_above c s m.body.view.0).commits (subst AreOwnOrInRange (sym (left_commits c s m.body.view.0)) h)
   commits_after s (Rise n d) ok h = kept_in_range (is_above n) s.commits h
-  commits_after s (Execute n d t o) ok h = h
   commits_after s (Install n b t) ok h = kept_in_range (is_above n) s.commits h
+  commits_after s _ ok h = h
 
   -- a recorded Commit of another has a number below the limit
   pub commits_in_range : (acts : List Act) → IsEarlier acts all → AreOwnOrInRange (core_after c signer acts).commits

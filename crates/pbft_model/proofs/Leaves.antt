@@ -22,39 +22,20 @@ left_signer c s view = cases (nat_lt s.view view) where
   cases false = refl
 
 said_signer : (c : Setup) (s : Core) (m : Signed Body) (b : Body) → (said c s m b).signer ≡ s.signer
-said_signer c s m (bodies.Request b) = refl
-said_signer c s m (bodies.PrePrepare b) = refl
-said_signer c s m (bodies.Prepare b) = refl
-said_signer c s m (bodies.Commit b) = refl
-said_signer c s m (bodies.Reply b) = refl
-said_signer c s m (bodies.Checkpoint b) = refl
-said_signer c s m (bodies.ViewChange b) = refl
 said_signer c s m (bodies.NewView b) = left_signer c s b.view.0
 said_signer c s m (bodies.Fetch (fetches.Request d)) = refl
 said_signer c s m (bodies.Fetch (fetches.State n)) = refl
-said_signer c s m (bodies.Snapshot b) = refl
+said_signer c s m _ = refl
 
 recorded_signer : (c : Setup) (s : Core) (m : Signed Body) (b : Body) → (recorded c s m b).signer ≡ s.signer
 recorded_signer c s m (bodies.Request b) = refl
-recorded_signer c s m (bodies.PrePrepare b) = refl
-recorded_signer c s m (bodies.Prepare b) = refl
-recorded_signer c s m (bodies.Commit b) = refl
-recorded_signer c s m (bodies.Reply b) = refl
-recorded_signer c s m (bodies.Checkpoint b) = refl
-recorded_signer c s m (bodies.ViewChange b) = refl
-recorded_signer c s m (bodies.NewView b) = refl
-recorded_signer c s m (bodies.Fetch b) = refl
-recorded_signer c s m (bodies.Snapshot b) = refl
+recorded_signer c s m _ = refl
 
 pub signer_by : (c : Setup) (s : Core) (a : Act) → (after c s a).signer ≡ signer_after s.signer (leaves_for a)
 signer_by c s (Take m r) = recorded_signer c s m m.body ∙ none_taken s.signer
-signer_by c s Timeout = none_taken s.signer
 signer_by c s (Send to m) = ap (λ (x : SigningState). signer_after x (leaves_of m.body)) (said_signer c s m m.body)
-signer_by c s (Relay to m) = none_taken s.signer
 signer_by c s (Enter m) = left_signer c s m.body.view.0 ∙ none_taken s.signer
-signer_by c s (Rise n d) = none_taken s.signer
-signer_by c s (Execute n d t o) = none_taken s.signer
-signer_by c s (Install n b t) = none_taken s.signer
+signer_by c s _ = none_taken s.signer
 
 signer_follows : (c : Setup) (me : ℕ) (acts : List Act) (s t : Core) → Follows c me s acts t → t.signer ≡ signer_after s.signer (all_leaves acts)
 signer_follows c me [] s t same = ap (λ (x : Core). x.signer) same ∙ none_taken s.signer

@@ -35,24 +35,24 @@ is_by_with i test m role id e = and_from _ _ (ap is_replica role) (and_from _ _ 
 
 -- ---- a kept certificate
 
-pub certificate_made : (c : Setup) (s : Core) (n : ℕ) (m : Signed PrePrepare) → prepared_at c s n ≡ Some m → is_certificate c (certificate_of c s m) ≡ true
+pub certificate_made : (c : Setup) (s : Core) (n : ℕ) (m : Signed PrePrepare) → prepared_at c s n ≡ Some m → is_certificate c.config (certificate_of c s m) ≡ true
 certificate_made c s n m e =
     let is = prepared_is c s n m e in
     let x : Fields = of_pre_prepare m.body in
     let certified_x = (and_parts (is_certified c s x) (is_known c s x.digest) is.2).0 in
-    let parts = and_parts (voted of_pre_prepare s.pre_prepares x (primary c x.view)) (nat_le (2 * c.config.f) (count (is_matching c s x) (replicas c))) certified_x in
-    let enough = leb-true (2 * c.config.f) (count (is_matching c s x) (replicas c)) parts.1 in
-    let least = count_least (2 * c.config.f) (is_matching c s x) (replicas c) in
+    let parts = and_parts (voted of_pre_prepare s.pre_prepares x (primary c.config x.view)) (nat_le (2 * c.config.f) (count (is_matching c s x) (replicas c.config))) certified_x in
+    let enough = leb-true (2 * c.config.f) (count (is_matching c s x) (replicas c.config)) parts.1 in
+    let least = count_least (2 * c.config.f) (is_matching c s x) (replicas c.config) in
     let value : ℕ → Option (Signed Prepare) = λ i. at s.prepares (vote_key m.body.number.0 m.body.view.0 i) in
     let found : (i : ℕ) → is_least (2 * c.config.f) (is_matching c s x) i ≡ true → (p : Signed Prepare) × (value i ≡ Some p) × (is_by i (λ b. same_fields (of_prepare b) x) p ≡ true)
     = λ i t. voted_is of_prepare s.prepares x i ((and_parts _ _ ((and_parts (is_matching c s x i) (nat_lt (count (is_matching c s x) i) (2 * c.config.f)) t).0)).1) in
-    let signers = signers_gathered (is_least (2 * c.config.f) (is_matching c s x)) value (λ b. same_fields (of_prepare b) x) (replicas c) found
-    (λ i. not (i == primary c x.view) && voted_among of_prepare (gathered (is_least (2 * c.config.f) (is_matching c s x)) value (replicas c)) x i)
-    (λ i t k. and_from _ _ ((and_parts (not (i == primary c x.view)) (voted of_prepare s.prepares x i) ((and_parts (is_matching c s x i) (nat_lt (count (is_matching c s x) i) (2 * c.config.f)) t).0)).0) k) in
-    let long = length_gathered (is_least (2 * c.config.f) (is_matching c s x)) value (replicas c) (λ i t. let w = found i t in (w.0, w.1)) in
-    let own : is_by (primary c x.view) (λ b. same_fields (of_pre_prepare b) x) m ≡ true = is_by_with (primary c x.view) (λ b. same_fields (of_pre_prepare b) x) m is.3 (is.4 ∙ ap (primary c) (sym is.0)) (same_self x) in
-    and_from _ _ (and_from _ _ (or_left _ _ own) (le-leb (2 * c.config.f) (count (λ i. not (i == primary c x.view) && voted_among of_prepare (gathered (is_least (2 * c.config.f) (is_matching c s x)) value (replicas c)) x i) (replicas c)) (omega arith)))
-    (eq-eqb (length (gathered (is_least (2 * c.config.f) (is_matching c s x)) value (replicas c))) (2 * c.config.f) (omega arith))
+    let signers = signers_gathered (is_least (2 * c.config.f) (is_matching c s x)) value (λ b. same_fields (of_prepare b) x) (replicas c.config) found
+    (λ i. not (i == primary c.config x.view) && voted_among of_prepare (gathered (is_least (2 * c.config.f) (is_matching c s x)) value (replicas c.config)) x i)
+    (λ i t k. and_from _ _ ((and_parts (not (i == primary c.config x.view)) (voted of_prepare s.prepares x i) ((and_parts (is_matching c s x i) (nat_lt (count (is_matching c s x) i) (2 * c.config.f)) t).0)).0) k) in
+    let long = length_gathered (is_least (2 * c.config.f) (is_matching c s x)) value (replicas c.config) (λ i t. let w = found i t in (w.0, w.1)) in
+    let own : is_by (primary c.config x.view) (λ b. same_fields (of_pre_prepare b) x) m ≡ true = is_by_with (primary c.config x.view) (λ b. same_fields (of_pre_prepare b) x) m is.3 (is.4 ∙ ap (primary c.config) (sym is.0)) (same_self x) in
+    and_from _ _ (and_from _ _ (or_left _ _ own) (le-leb (2 * c.config.f) (count (λ i. not (i == primary c.config x.view) && voted_among of_prepare (gathered (is_least (2 * c.config.f) (is_matching c s x)) value (replicas c.config)) x i) (replicas c.config)) (omega arith)))
+    (eq-eqb (length (gathered (is_least (2 * c.config.f) (is_matching c s x)) value (replicas c.config))) (2 * c.config.f) (omega arith))
 
 -- ---- a proof
 
@@ -67,34 +67,34 @@ digest_of_all : (ms : List (Signed Checkpoint)) (digest : List ℕ) → ((m : Si
 digest_of_all [] digest h k = absurd (omega arith)
 digest_of_all (m ∷ ms) digest h k = h m (inl refl)
 
-pub proof_made : (c : Setup) (s : Core) (number : ℕ) (digest : List ℕ) → is_stable c s.checkpoints number digest ≡ true → is_proof c number (proof_of c s number digest) ≡ true
+pub proof_made : (c : Setup) (s : Core) (number : ℕ) (digest : List ℕ) → is_stable c.config s.checkpoints number digest ≡ true → is_proof c number (proof_of c s number digest) ≡ true
 proof_made c s number digest e =
     let test = checkpointed s.checkpoints number digest in
     let value : ℕ → Option (Signed Checkpoint) = λ i. at s.checkpoints (checkpoint_key number i) in
-    let enough = leb-true (quorum c) (count test (replicas c)) e in
-    let least = count_least (quorum c) test (replicas c) in
-    let found : (i : ℕ) → is_least (quorum c) test i ≡ true → (m : Signed Checkpoint) × (value i ≡ Some m) × (is_by i (is_checkpoint_of number digest) m ≡ true)
-    = λ i t. checkpoint_found s.checkpoints number digest i ((and_parts (test i) (nat_lt (count test i) (quorum c)) t).0) in
+    let enough = leb-true (quorum c.config) (count test (replicas c.config)) e in
+    let least = count_least (quorum c.config) test (replicas c.config) in
+    let found : (i : ℕ) → is_least (quorum c.config) test i ≡ true → (m : Signed Checkpoint) × (value i ≡ Some m) × (is_by i (is_checkpoint_of number digest) m ≡ true)
+    = λ i t. checkpoint_found s.checkpoints number digest i ((and_parts (test i) (nat_lt (count test i) (quorum c.config)) t).0) in
     let ms = proof_of c s number digest in
-    let long = length_gathered (is_least (quorum c) test) value (replicas c) (λ i t. let w = found i t in (w.0, w.1)) in
+    let long = length_gathered (is_least (quorum c.config) test) value (replicas c.config) (λ i t. let w = found i t in (w.0, w.1)) in
     let digest_is : digest_in ms ≡ digest = digest_of_all ms digest (λ m within.
-    let w = from_gathered (is_least (quorum c) test) value (replicas c) m within in
+    let w = from_gathered (is_least (quorum c.config) test) value (replicas c.config) m within in
     let v = found w.0 w.1 in
     let same : v.0 ≡ m = same_Some v.0 m (sym v.1 ∙ w.2) in
     let by = by_is w.0 (is_checkpoint_of number digest) v.0 v.2 in
     subst (λ (p : Signed Checkpoint). p.body.digest.0 ≡ digest) same ((bytes_eq-Decides v.0.body.digest.0 digest).0 ((and_parts (v.0.body.number.0 == number) (bytes_eq v.0.body.digest.0 digest) by.2).1)))
     (omega arith) in
-    let signers = signers_gathered (is_least (quorum c) test) value (is_checkpoint_of number digest) (replicas c) found (λ i. list_any (is_by i (is_checkpoint_of number digest)) ms) (λ i t k. k) in
-    let many : has_quorum c (λ i. list_any (is_by i (is_checkpoint_of number digest)) ms) ≡ true = le-leb (quorum c) (count (λ i. list_any (is_by i (is_checkpoint_of number digest)) ms) (replicas c)) (omega arith) in
-    and_from _ _ (eq-eqb (length ms) (quorum c) (omega arith)) (subst (λ (d : List ℕ). has_quorum c (λ i. list_any (is_by i (is_checkpoint_of number d)) ms) ≡ true) (sym digest_is) many)
+    let signers = signers_gathered (is_least (quorum c.config) test) value (is_checkpoint_of number digest) (replicas c.config) found (λ i. list_any (is_by i (is_checkpoint_of number digest)) ms) (λ i t k. k) in
+    let many : has_quorum c.config (λ i. list_any (is_by i (is_checkpoint_of number digest)) ms) ≡ true = le-leb (quorum c.config) (count (λ i. list_any (is_by i (is_checkpoint_of number digest)) ms) (replicas c.config)) (omega arith) in
+    and_from _ _ (eq-eqb (length ms) (quorum c.config) (omega arith)) (subst (λ (d : List ℕ). has_quorum c.config (λ i. list_any (is_by i (is_checkpoint_of number d)) ms) ≡ true) (sym digest_is) many)
 
 -- ---- the table of kept certificates
 
 -- each stands under its number, between the marks, is a certificate, and of a view below this one
 abbrev pub IsKeptEntry : Setup → ℕ → ℕ → (Key × Certificate) → Type 0
 IsKeptEntry c low view e =
-    (e.0 ≡ number_key e.1.pre_prepare.body.number.0) × (low < e.1.pre_prepare.body.number.0) × (e.1.pre_prepare.body.number.0 ≤ low + span c)
-    × (is_certificate c e.1 ≡ true) × (e.1.pre_prepare.body.view.0 < view)
+    (e.0 ≡ number_key e.1.pre_prepare.body.number.0) × (low < e.1.pre_prepare.body.number.0) × (e.1.pre_prepare.body.number.0 ≤ low + span c.config)
+    × (is_certificate c.config e.1 ≡ true) × (e.1.pre_prepare.body.view.0 < view)
 
 abbrev pub IsKept : Setup → ℕ → ℕ → Table Certificate → Type 0
 IsKept c low view t = T (is_sorted (slice_cmp nat_cmp) t) × ((e : Key × Certificate) → IsIn e t → IsKeptEntry c low view e)
@@ -119,7 +119,7 @@ from_where {X} test (d ∷ t) e h = cases (test d.0) refl h (from_where test t e
   cases true is (inr later) rest = let w = rest later in (w.0, inr w.1)
   cases false is later rest = let w = rest later in (w.0, inr w.1)
 
-pub kept_with : (c : Setup) (s : Core) (view : ℕ) (ns : List ℕ) → ((n : ℕ) → IsIn n ns → (s.low < n) × (n ≤ s.low + span c)) → s.view < view → IsKept c s.low view s.kept → IsKept c s.low view (with_certificates c s ns s.kept)
+pub kept_with : (c : Setup) (s : Core) (view : ℕ) (ns : List ℕ) → ((n : ℕ) → IsIn n ns → (s.low < n) × (n ≤ s.low + span c.config)) → s.view < view → IsKept c s.low view s.kept → IsKept c s.low view (with_certificates c s ns s.kept)
 kept_with c s view [] inside higher h = h
 kept_with c s view (n ∷ ns) inside higher h = cases (prepared_at c s n) refl (kept_with c s view ns (λ k is. inside k (inr is)) higher h) where
   cases : (o : Option (Signed PrePrepare)) → prepared_at c s n ≡ o → IsKept c s.low view (with_certificates c s ns s.kept) → IsKept c s.low view (with_certificate c s n o (with_certificates c s ns s.kept))
@@ -148,7 +148,7 @@ higher_view c low view view' t up h = (h.0, λ e is. let w = h.1 e is in let bel
 
 pub kept_leaving : (c : Setup) (s : Core) (view : ℕ) → s.view < view → IsKept c s.low s.view s.kept → IsKept c s.low view (kept_on_leaving c s)
 kept_leaving c s view higher h =
-    kept_with c s view (inside c s) (λ n is. let w = numbers_within (span c) (s.low + 1) n is in let low = w.0 in let high = w.1 in (omega arith, omega arith)) higher
+    kept_with c s view (inside c s) (λ n is. let w = numbers_within (span c.config) (s.low + 1) n is in let low = w.0 in let high = w.1 in (omega arith, omega arith)) higher
     (higher_view c s.low s.view view s.kept (omega arith) h)
 
 pub kept_above : (c : Setup) (low number view : ℕ) (t : Table Certificate) → low ≤ number → IsKept c low view t → IsKept c number view (keep (λ key. nat_lt number (first_in key)) t)
@@ -211,5 +211,5 @@ view_change_made c s view higher kept proof =
     and_from _ _ (and_from _ _ (lt-ltb 0 view (omega arith)) (all_from (λ x. nat_lt x.pre_prepare.body.view.0 view) (entries_in (kept_on_leaving c s)) (λ x is.
     let w = each x is in subst (λ (y : Certificate). nat_lt y.pre_prepare.body.view.0 view ≡ true) (sym w.2) (lt-ltb w.0.1.pre_prepare.body.view.0 view ((k.1 w.0 w.1).4)))))
     (and_from _ _ proof
-    (and_from _ _ (all_from (is_certificate c) (entries_in (kept_on_leaving c s)) (λ x is. let w = each x is in subst (λ (y : Certificate). is_certificate c y ≡ true) (sym w.2) ((k.1 w.0 w.1).3)))
-    (ascending (s.low + 1) (s.low + span c) (kept_on_leaving c s) k.0 (λ e is. let w = k.1 e is in let low = w.1 in (w.0, omega arith, w.2)))))
+    (and_from _ _ (all_from (is_certificate c.config) (entries_in (kept_on_leaving c s)) (λ x is. let w = each x is in subst (λ (y : Certificate). is_certificate c.config y ≡ true) (sym w.2) ((k.1 w.0 w.1).3)))
+    (ascending (s.low + 1) (s.low + span c.config) (kept_on_leaving c s) k.0 (λ e is. let w = k.1 e is in let low = w.1 in (w.0, omega arith, w.2)))))

@@ -59,15 +59,15 @@ other_apart : (c : Setup) (me : ℕ) (s : Core) (i : ℕ) → (i == me) ≡ true
 other_apart c me s i same other = true≢false (sym ((and_parts (not (i == me)) (wants_view s i) other).0) ∙ ap not same)
 
 -- the chosen are a quorum
-chosen_count : (c : Setup) (me : ℕ) (s : Core) → me < replicas c → wants_view s me ≡ true → has_quorum c (wants_view s) ≡ true → count (is_chosen c me s) (replicas c) ≡ quorum c
+chosen_count : (c : Setup) (me : ℕ) (s : Core) → me < replicas c.config → wants_view s me ≡ true → has_quorum c.config (wants_view s) ≡ true → count (is_chosen c me s) (replicas c.config) ≡ quorum c.config
 chosen_count c me s below own e =
-    let many = leb-true (quorum c) (count (wants_view s) (replicas c)) e in
-    let split = count_more (wants_view s) (λ i. (i == me) || other_wants me s i) (replicas c) (λ i t. either i (i == me) refl t) in
-    let wanted = count_apart (λ i. i == me) (other_wants me s) (replicas c) (other_apart c me s) in
-    let chosen = count_apart (λ i. i == me) (is_least (2 * c.config.f) (other_wants me s)) (replicas c)
+    let many = leb-true (quorum c.config) (count (wants_view s) (replicas c.config)) e in
+    let split = count_more (wants_view s) (λ i. (i == me) || other_wants me s i) (replicas c.config) (λ i t. either i (i == me) refl t) in
+    let wanted = count_apart (λ i. i == me) (other_wants me s) (replicas c.config) (other_apart c me s) in
+    let chosen = count_apart (λ i. i == me) (is_least (2 * c.config.f) (other_wants me s)) (replicas c.config)
     (λ i same t. other_apart c me s i same ((and_parts (other_wants me s i) (nat_lt (count (other_wants me s) i) (2 * c.config.f)) t).0)) in
-    let least = count_least (2 * c.config.f) (other_wants me s) (replicas c) in
-    let one = count_me me (replicas c) below in
+    let least = count_least (2 * c.config.f) (other_wants me s) (replicas c.config) in
+    let one = count_me me (replicas c.config) below in
     omega arith where
       either : (i : ℕ) (b : Bool) → (i == me) ≡ b → wants_view s i ≡ true → ((i == me) || other_wants me s i) ≡ true
       either i true same t = or_left _ _ same
@@ -97,20 +97,20 @@ valid_parts c v e =
     let d = and_parts (has_certificates c v) (has_order c v) b.1 in
     (a.0, b.0, d.0, d.1)
 
-pub new_view_made : (c : Setup) (me : ℕ) (s : Core) → (primary c s.view == me) ≡ true → wants_view s me ≡ true → has_quorum c (wants_view s) ≡ true
+pub new_view_made : (c : Setup) (me : ℕ) (s : Core) → (primary c.config s.view == me) ≡ true → wants_view s me ≡ true → has_quorum c.config (wants_view s) ≡ true
     → ((q : Key) (m : Signed ViewChange) → at s.changes q ≡ Some m → is_valid c m.body ≡ true) → is_valid_new_view c (new_view_of c me s) ≡ true
 new_view_made c me s leads own e valid =
-    let is_me : primary c s.view ≡ me = eqb-true _ _ leads in
-    let below : me < replicas c = omega arith in
+    let is_me : primary c.config s.view ≡ me = eqb-true _ _ leads in
+    let below : me < replicas c.config = omega arith in
     let ms = chosen_changes c me s in
     let chosen = chosen_count c me s below own e in
     let found : (i : ℕ) → is_chosen c me s i ≡ true → (m : Signed ViewChange) × (change_of s i ≡ Some m) × (is_by i (λ v. true) m ≡ true)
     = λ i t. let w = wants_is s i (chosen_wants c me s i own t) in (w.0, w.1, is_by_from i (λ v. v.view.0 == s.view) (λ v. true) w.0 (λ _. refl) w.2) in
-    let long = length_gathered (is_chosen c me s) (change_of s) (replicas c) (λ i t. let w = found i t in (w.0, w.1)) in
-    let signers = signers_gathered (is_chosen c me s) (change_of s) (λ v. true) (replicas c) found (changed_by ms) (λ i t k. k) in
+    let long = length_gathered (is_chosen c me s) (change_of s) (replicas c.config) (λ i t. let w = found i t in (w.0, w.1)) in
+    let signers = signers_gathered (is_chosen c me s) (change_of s) (λ v. true) (replicas c.config) found (changed_by ms) (λ i t k. k) in
     let each : (v : ViewChange) → IsIn v (bodies_in ms) → (is_valid c v ≡ true) × ((v.view.0 == s.view) ≡ true) = λ v is.
     let w = from_map (λ (m : Signed ViewChange). m.body) ms v is in
-    let g = from_gathered (is_chosen c me s) (change_of s) (replicas c) w.0 w.1 in
+    let g = from_gathered (is_chosen c me s) (change_of s) (replicas c.config) w.0 w.1 in
     let k = wants_is s g.0 (chosen_wants c me s g.0 own g.1) in
     let same : k.0 ≡ w.0 = same_Some k.0 w.0 (sym k.1 ∙ g.2) in
     let by = by_is g.0 (λ v. v.view.0 == s.view) k.0 k.2 in
@@ -118,7 +118,7 @@ new_view_made c me s leads own e valid =
     (valid (change_key s.view g.0) w.0 g.2, subst (λ (m : Signed ViewChange). (m.body.view.0 == s.view) ≡ true) same by.2) in
     let views : are_for_view (new_view_of c me s) ≡ true = all_from (λ v. has_view v && (v.view.0 == s.view)) (bodies_in ms) (λ v is. let w = each v is in and_from _ _ ((valid_parts c v w.0).0) w.1) in
     let proofs : have_proofs c (new_view_of c me s) ≡ true = and_from _ _ (all_from (has_proof c) (bodies_in ms) (λ v is. (valid_parts c v ((each v is).0)).1))
-    (and_from _ _ (eq-eqb (length ms) (quorum c) (omega arith)) (le-leb (quorum c) (count (changed_by ms) (replicas c)) (omega arith))) in
+    (and_from _ _ (eq-eqb (length ms) (quorum c.config) (omega arith)) (le-leb (quorum c.config) (count (changed_by ms) (replicas c.config)) (omega arith))) in
     let certificates : have_certificates c (new_view_of c me s) ≡ true = all_from (has_certificates c) (bodies_in ms) (λ v is. (valid_parts c v ((each v is).0)).2) in
     let orders : have_order c (new_view_of c me s) ≡ true = and_from _ _ (all_from (has_order c) (bodies_in ms) (λ v is. (valid_parts c v ((each v is).0)).3))
     (subst (λ (leader : ℕ). are_given leader (given c s.view ms) (signed_list s.signer me (given c s.view ms)) ≡ true) (sym is_me) (signed_given me (given c s.view ms) s.signer)) in

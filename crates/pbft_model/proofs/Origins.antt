@@ -43,15 +43,7 @@ said_keeps c s m (bodies.Snapshot b) = keeps_all s _ refl refl refl refl
 
 pub recorded_keeps : (c : Setup) (s : Core) (m : Signed Body) (b : Body) → Keeps s (recorded c s m b)
 recorded_keeps c s m (bodies.Request b) = keeps_all s _ refl refl refl refl
-recorded_keeps c s m (bodies.PrePrepare b) = keeps_all s _ refl refl refl refl
-recorded_keeps c s m (bodies.Prepare b) = keeps_all s _ refl refl refl refl
-recorded_keeps c s m (bodies.Commit b) = keeps_all s _ refl refl refl refl
-recorded_keeps c s m (bodies.Reply b) = keeps_all s _ refl refl refl refl
-recorded_keeps c s m (bodies.Checkpoint b) = keeps_all s _ refl refl refl refl
-recorded_keeps c s m (bodies.ViewChange b) = keeps_all s _ refl refl refl refl
-recorded_keeps c s m (bodies.NewView b) = keeps_all s _ refl refl refl refl
-recorded_keeps c s m (bodies.Fetch b) = keeps_all s _ refl refl refl refl
-recorded_keeps c s m (bodies.Snapshot b) = keeps_all s _ refl refl refl refl
+recorded_keeps c s m _ = keeps_all s _ refl refl refl refl
 
 -- ---- the origin of a state
 
@@ -173,10 +165,8 @@ said_number c s m b = let k = said_keeps c s m b in let same : (said c s m b).ex
 -- what was reached is never lost
 pub executed_up : (c : Setup) (me : ℕ) (s : Core) (a : Act) → Allowed c me s a → s.executed ≤ (after c s a).executed
 executed_up c me s (Take m r) ok = let k = recorded_keeps c s m m.body in let same : (recorded c s m m.body).executed ≡ s.executed = k.number in omega arith
-executed_up c me s Timeout ok = omega arith
 executed_up c me s (Send to m) ok = said_number c s m m.body
-executed_up c me s (Relay to m) ok = omega arith
 executed_up c me s (Enter m) ok = let k = left_keeps c s m.body.view.0 in let same : (left_if_above c s m.body.view.0).executed ≡ s.executed = k.number in omega arith
-executed_up c me s (Rise n d) ok = omega arith
 executed_up c me s (Execute n d t o) ok = let next : n ≡ s.executed + 1 = ok.next in omega arith
 executed_up c me s (Install n b t) ok = let above : s.executed < n = ok.above in omega arith
+executed_up c me s _ ok = omega arith

@@ -18,33 +18,18 @@ use Rattle.pbft_model.specs.Rows.{Fulfils}
 abbrev pub IsReaction : Act → Type 0
 IsReaction (Take m r) = ⊥
 IsReaction Timeout = ⊥
-IsReaction (Send to m) = Unit {0}
-IsReaction (Relay to m) = Unit {0}
-IsReaction (Enter m) = Unit {0}
-IsReaction (Rise n d) = Unit {0}
-IsReaction (Execute n d t o) = Unit {0}
-IsReaction (Install n b t) = Unit {0}
+IsReaction _ = Unit {0}
 
 -- nor another's message that is passed on
 abbrev pub IsOwn : Act → Type 0
 IsOwn (Take m r) = ⊥
 IsOwn Timeout = ⊥
-IsOwn (Send to m) = Unit {0}
 IsOwn (Relay to m) = ⊥
-IsOwn (Enter m) = Unit {0}
-IsOwn (Rise n d) = Unit {0}
-IsOwn (Execute n d t o) = Unit {0}
-IsOwn (Install n b t) = Unit {0}
+IsOwn _ = Unit {0}
 
 own_reaction : (a : Act) → IsOwn a → IsReaction a
-own_reaction (Take m r) h = h
-own_reaction Timeout h = h
-own_reaction (Send to m) h = h
 own_reaction (Relay to m) h = absurd h
-own_reaction (Enter m) h = h
-own_reaction (Rise n d) h = h
-own_reaction (Execute n d t o) h = h
-own_reaction (Install n b t) h = h
+own_reaction _ h = h
 
 -- What holds of every act that is an own reaction, and of wearing out, holds of each duty but those to pass on
 -- and to execute.
@@ -94,15 +79,7 @@ module _ (P : Duty → Type 0) (acts : (a : Act) → IsOwn a → P (Do a)) (worn
 
     pub answer_reacting : (m : Signed Body) (b : Body) → Reacting (answer_to_request me s m b)
     answer_reacting m (bodies.Request b) = again_reacting m b (last_reply_of s.service m.id)
-    answer_reacting m (bodies.PrePrepare b) = tt
-    answer_reacting m (bodies.Prepare b) = tt
-    answer_reacting m (bodies.Commit b) = tt
-    answer_reacting m (bodies.Reply b) = tt
-    answer_reacting m (bodies.Checkpoint b) = tt
-    answer_reacting m (bodies.ViewChange b) = tt
-    answer_reacting m (bodies.NewView b) = tt
-    answer_reacting m (bodies.Fetch b) = tt
-    answer_reacting m (bodies.Snapshot b) = tt
+    answer_reacting m _ = tt
 
     -- what holds of all that is passed on
     abbrev pub ForRelays : Type 0
@@ -130,32 +107,16 @@ module _ (P : Duty → Type 0) (acts : (a : Act) → IsOwn a → P (Do a)) (worn
     fetch_reacting relays m (bodies.Snapshot b) = tt
 
     pub enter_reacting : (m : Signed Body) (b : Body) → Reacting (enter_by c s m b)
-    enter_reacting m (bodies.Request b) = tt
-    enter_reacting m (bodies.PrePrepare b) = tt
-    enter_reacting m (bodies.Prepare b) = tt
-    enter_reacting m (bodies.Commit b) = tt
-    enter_reacting m (bodies.Reply b) = tt
-    enter_reacting m (bodies.Checkpoint b) = tt
-    enter_reacting m (bodies.ViewChange b) = tt
     enter_reacting m (bodies.NewView b) = when_reacting _ _ (acts _ tt)
-    enter_reacting m (bodies.Fetch b) = tt
-    enter_reacting m (bodies.Snapshot b) = tt
+    enter_reacting m _ = tt
 
     read_reacting : (b : Snapshot) (o : Option Service) → Reacting (install_read c s b o)
     read_reacting b None = tt
     read_reacting b (Some state) = when_reacting _ _ (acts _ tt)
 
     pub install_reacting : (m : Signed Body) (b : Body) → Reacting (install_from c s m b)
-    install_reacting m (bodies.Request b) = tt
-    install_reacting m (bodies.PrePrepare b) = tt
-    install_reacting m (bodies.Prepare b) = tt
-    install_reacting m (bodies.Commit b) = tt
-    install_reacting m (bodies.Reply b) = tt
-    install_reacting m (bodies.Checkpoint b) = tt
-    install_reacting m (bodies.ViewChange b) = tt
-    install_reacting m (bodies.NewView b) = tt
-    install_reacting m (bodies.Fetch b) = tt
     install_reacting m (bodies.Snapshot b) = read_reacting b s.reading
+    install_reacting m _ = tt
 
     pub taken_reacting : (duty : Signed Body → Body → Option Duty) (o : Option (Signed Body)) → ((m : Signed Body) (b : Body) → Reacting (duty m b)) → Reacting (on_taken duty o)
     taken_reacting duty None h = tt
@@ -171,7 +132,7 @@ module _ (P : Duty → Type 0) (acts : (a : Act) → IsOwn a → P (Do a)) (worn
 
     pub propose_reacting : (o : Option (Signed RequestBody)) → Reacting (propose c me s o)
     propose_reacting None = tt
-    propose_reacting (Some m) = if_reacting (nat_le (next_number s) (s.low + span c)) _ (worn (next_number s == number_limit)) where
+    propose_reacting (Some m) = if_reacting (nat_le (next_number s) (s.low + span c.config)) _ (worn (next_number s == number_limit)) where
       worn : (b : Bool) → Reacting (Some (cond b WornOut (say me s All (bodies.PrePrepare (pre_prepare_of (record { view = s.view; number = next_number s; digest = digest_of c m }))))))
       worn true = worn_out
       worn false = acts _ tt

@@ -15,7 +15,8 @@ use Rattle.pbft_model.specs.Validity.{is_valid, is_valid_new_view}
 use Rattle.pbft_model.specs.Core.{Core, has_position, is_prepared, pre_prepare_at, prepared_at, certificate_of, is_matching, with_certificate, with_certificates, inside}
 use Rattle.pbft_model.specs.Acts.{Act, Destination, Take, Timeout, Send, Relay, Enter, Rise, Execute, Install, after, said, recorded, entered, opened_by, with_list, left_for, left_if_above, add_pre_prepares, add_checkpoints, add_change, with_body}
 use Rattle.pbft_model.specs.Rules.{Allowed, MaySay, MaySend, view_change_of, signed_list, new_view_of}
-use Rattle.pbft_model.specs.Histories.{core_after, IsEarlier, IsIn, HasSigned, Family, IsCorrect, IsReal, IsUnforged, signed_in, listed_in}
+use Rattle.pbft_model.specs.Histories.{core_after, IsEarlier, IsIn, HasSigned, signed_in, listed_in}
+use Rattle.pbft_model.specs.Families.{Family, IsCorrect, IsReal, IsUnforged}
 use Rattle.pbft_model.proofs.Found.{found_add, found_keep, no_some, passed, in_map, in_append_left, in_append_right, in_flat, from_gathered}
 use Rattle.pbft_model.proofs.Events.{before, signed_at, taken_at, history_at}
 use Rattle.pbft_model.proofs.Entries.{from_entry, from_keep, from_append}
@@ -113,9 +114,9 @@ module _ (c : Setup) (family : Family) where
   real_made s h n m e =
       let found = (passed (λ p. is_prepared c s (of_pre_prepare p.body)) (pre_prepare_at c s s.view n) m e).0 in
       record {
-        pre_prepare = h.0 (vote_key n s.view (primary c s.view)) m ((passed (is_by (primary c s.view) (has_position s.view n)) (at s.pre_prepares (vote_key n s.view (primary c s.view))) m found).0);
+        pre_prepare = h.0 (vote_key n s.view (primary c.config s.view)) m ((passed (is_by (primary c.config s.view) (has_position s.view n)) (at s.pre_prepares (vote_key n s.view (primary c.config s.view))) m found).0);
         prepares = λ p is.
-            let w = from_gathered (is_least (2 * c.config.f) (is_matching c s (of_pre_prepare m.body))) (λ i. at s.prepares (vote_key m.body.number.0 m.body.view.0 i)) (replicas c) p is in
+            let w = from_gathered (is_least (2 * c.config.f) (is_matching c s (of_pre_prepare m.body))) (λ i. at s.prepares (vote_key m.body.number.0 m.body.view.0 i)) (replicas c.config) p is in
             h.1 (vote_key m.body.number.0 m.body.view.0 w.0) p w.2;
       }
 

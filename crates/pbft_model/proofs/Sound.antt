@@ -125,12 +125,7 @@ module _ (c : Setup) where
 
   sound_recorded : (s : Core) (m : Signed Body) (b : Body) (reading : Option Service) → IsReading c m.body reading → IsSoundCore c s
       → IsSoundCore c (record (recorded c s m b) { taken = Some m; reading = reading; is_fresh = true; timed_out = false })
-  sound_recorded s m (bodies.Request b) r reads h = (h.0, reads_now m r reads, h.2, h.3, h.4)
   sound_recorded s m (bodies.PrePrepare b) r reads h = (one_above s (with_body m b) h.0, reads_now m r reads, h.2, h.3, h.4)
-  sound_recorded s m (bodies.Prepare b) r reads h = (h.0, reads_now m r reads, h.2, h.3, h.4)
-  sound_recorded s m (bodies.Commit b) r reads h = (h.0, reads_now m r reads, h.2, h.3, h.4)
-  sound_recorded s m (bodies.Reply b) r reads h = (h.0, reads_now m r reads, h.2, h.3, h.4)
-  sound_recorded s m (bodies.Checkpoint b) r reads h = (h.0, reads_now m r reads, h.2, h.3, h.4)
   sound_recorded s m (bodies.ViewChange b) r reads h = (
     h.0,
     reads_now m r reads,
@@ -141,9 +136,7 @@ module _ (c : Setup) where
     h.3,
     h.4,
   )
-  sound_recorded s m (bodies.NewView b) r reads h = (h.0, reads_now m r reads, h.2, h.3, h.4)
-  sound_recorded s m (bodies.Fetch b) r reads h = (h.0, reads_now m r reads, h.2, h.3, h.4)
-  sound_recorded s m (bodies.Snapshot b) r reads h = (h.0, reads_now m r reads, h.2, h.3, h.4)
+  sound_recorded s m _ r reads h = (h.0, reads_now m r reads, h.2, h.3, h.4)
 
   floor_above : (s : Core) (n : ℕ) → AboveFloor s → (q : Key) (m : Signed PrePrepare) → at (keep (is_above n) s.pre_prepares) q ≡ Some m → s.active ≡ true → view_in q ≡ s.view → floor_in s < first_in q
   floor_above s n h q m e active view = h q m ((found_keep (is_above n) s.pre_prepares q m e).1) active view

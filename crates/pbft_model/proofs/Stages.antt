@@ -67,13 +67,13 @@ pub count_more : (p q : ℕ → Bool) (n : ℕ) → ((i : ℕ) → p i ≡ true 
 count_more p q zero h = omega arith
 count_more p q (suc n) h = count_step (p n) (q n) _ _ (h n) (count_more p q n h)
 
-pub certified_more : (c : Setup) (a b a' b' : ℕ → Bool) (view : ℕ) → ((i : ℕ) → a i ≡ true → a' i ≡ true) → ((i : ℕ) → b i ≡ true → b' i ≡ true) → certified c a b view ≡ true → certified c a' b' view ≡ true
+pub certified_more : (c : Setup) (a b a' b' : ℕ → Bool) (view : ℕ) → ((i : ℕ) → a i ≡ true → a' i ≡ true) → ((i : ℕ) → b i ≡ true → b' i ≡ true) → certified c.config a b view ≡ true → certified c.config a' b' view ≡ true
 certified_more c a b a' b' view h k e =
     let w = and_parts _ _ e in
-    let enough = leb-true (2 * c.config.f) (count (λ i. not (i == primary c view) && b i) (replicas c)) w.1 in
-    let more = count_more (λ i. not (i == primary c view) && b i) (λ i. not (i == primary c view) && b' i) (replicas c)
-    (λ i t. let s = and_parts (not (i == primary c view)) (b i) t in and_from _ _ s.0 (k i s.1)) in
-    and_from _ _ (h (primary c view) w.0) (le-leb (2 * c.config.f) (count (λ i. not (i == primary c view) && b' i) (replicas c)) (omega arith))
+    let enough = leb-true (2 * c.config.f) (count (λ i. not (i == primary c.config view) && b i) (replicas c.config)) w.1 in
+    let more = count_more (λ i. not (i == primary c.config view) && b i) (λ i. not (i == primary c.config view) && b' i) (replicas c.config)
+    (λ i t. let s = and_parts (not (i == primary c.config view)) (b i) t in and_from _ _ s.0 (k i s.1)) in
+    and_from _ _ (h (primary c.config view) w.0) (le-leb (2 * c.config.f) (count (λ i. not (i == primary c.config view) && b' i) (replicas c.config)) (omega arith))
 
 -- what is certified above the low mark stays so
 certified_calm : (c : Setup) (s t : Core) (x : Fields) → t.low < x.number → Calm c s t → is_certified c s x ≡ true → is_certified c t x ≡ true
@@ -84,11 +84,11 @@ certified_calm c s t x above calm e =
 
 known_calm : (c : Setup) (s t : Core) (x : Fields) → t.low < x.number → Calm c s t → is_certified c s x ≡ true → is_known c s x.digest ≡ true → is_known c t x.digest ≡ true
 known_calm c s t x above calm e known =
-    let w = voted_is of_pre_prepare s.pre_prepares x (primary c x.view) ((and_parts _ _ e).0) in
-    let by = by_is (primary c x.view) (λ b. same_fields (of_pre_prepare b) x) w.0 w.2 in
+    let w = voted_is of_pre_prepare s.pre_prepares x (primary c.config x.view) ((and_parts _ _ e).0) in
+    let by = by_is (primary c.config x.view) (λ b. same_fields (of_pre_prepare b) x) w.0 w.2 in
     let digest : w.0.body.digest.0 ≡ x.digest = ap (λ (y : Fields). y.digest) (fields_are (of_pre_prepare w.0.body) x by.2) in
     subst (λ (d : List ℕ). is_known c t d ≡ true) digest
-    (calm.8 (vote_key x.number x.view (primary c x.view)) w.0 above w.1 (subst (λ (d : List ℕ). is_known c s d ≡ true) (sym digest) known))
+    (calm.8 (vote_key x.number x.view (primary c.config x.view)) w.0 above w.1 (subst (λ (d : List ℕ). is_known c s d ≡ true) (sym digest) known))
 
 -- ---- views
 
@@ -187,23 +187,23 @@ in_numbers (suc many) first n h k = elim (cases_eq n first) [
 ]
 
 pub prepared_is : (c : Setup) (s : Core) (n : ℕ) (m : Signed PrePrepare) → prepared_at c s n ≡ Some m
-    → (m.body.view.0 ≡ s.view) × (m.body.number.0 ≡ n) × (is_prepared c s (of_pre_prepare m.body) ≡ true) × (m.role ≡ Replica) × (m.id ≡ primary c s.view)
+    → (m.body.view.0 ≡ s.view) × (m.body.number.0 ≡ n) × (is_prepared c s (of_pre_prepare m.body) ≡ true) × (m.role ≡ Replica) × (m.id ≡ primary c.config s.view)
 prepared_is c s n m e =
     let w = passed (λ p. is_prepared c s (of_pre_prepare p.body)) (pre_prepare_at c s s.view n) m e in
-    let v = passed (is_by (primary c s.view) (has_position s.view n)) (at s.pre_prepares (vote_key n s.view (primary c s.view))) m w.0 in
-    let by = by_is (primary c s.view) (has_position s.view n) m v.1 in
+    let v = passed (is_by (primary c.config s.view) (has_position s.view n)) (at s.pre_prepares (vote_key n s.view (primary c.config s.view))) m w.0 in
+    let by = by_is (primary c.config s.view) (has_position s.view n) m v.1 in
     let position = and_parts (m.body.view.0 == s.view) (m.body.number.0 == n) by.2 in
     (eqb-true _ _ position.0, eqb-true _ _ position.1, w.1, by.0, by.1)
 
 pub prepared_from : (c : Setup) (s : Core) (x : Fields) → x.view ≡ s.view → is_certified c s x ≡ true → is_known c s x.digest ≡ true → (m : Signed PrePrepare) × (prepared_at c s x.number ≡ Some m) × (of_pre_prepare m.body ≡ x)
 prepared_from c s x view e known =
-    let w = voted_is of_pre_prepare s.pre_prepares x (primary c x.view) ((and_parts _ _ e).0) in
-    let by = by_is (primary c x.view) (λ b. same_fields (of_pre_prepare b) x) w.0 w.2 in
+    let w = voted_is of_pre_prepare s.pre_prepares x (primary c.config x.view) ((and_parts _ _ e).0) in
+    let by = by_is (primary c.config x.view) (λ b. same_fields (of_pre_prepare b) x) w.0 w.2 in
     let same = fields_are (of_pre_prepare w.0.body) x by.2 in
-    let at_position : is_by (primary c x.view) (has_position x.view x.number) w.0 ≡ true =
-    is_by_from (primary c x.view) (λ b. same_fields (of_pre_prepare b) x) (has_position x.view x.number) w.0
+    let at_position : is_by (primary c.config x.view) (has_position x.view x.number) w.0 ≡ true =
+    is_by_from (primary c.config x.view) (λ b. same_fields (of_pre_prepare b) x) (has_position x.view x.number) w.0
     (λ _. and_from _ _ (eq-eqb _ _ (ap (λ (y : Fields). y.view) same)) (eq-eqb _ _ (ap (λ (y : Fields). y.number) same))) w.2 in
-    let found : pre_prepare_at c s x.view x.number ≡ Some w.0 = passes (is_by (primary c x.view) (has_position x.view x.number)) (at s.pre_prepares (vote_key x.number x.view (primary c x.view))) w.0 w.1 at_position in
+    let found : pre_prepare_at c s x.view x.number ≡ Some w.0 = passes (is_by (primary c.config x.view) (has_position x.view x.number)) (at s.pre_prepares (vote_key x.number x.view (primary c.config x.view))) w.0 w.1 at_position in
     let found' : pre_prepare_at c s s.view x.number ≡ Some w.0 = subst (λ (v : ℕ). pre_prepare_at c s v x.number ≡ Some w.0) view found in
     let prepared : is_prepared c s (of_pre_prepare w.0.body) ≡ true = subst (λ (y : Fields). is_prepared c s y ≡ true) (sym same) (and_from _ _ e known) in
     (w.0, passes (λ p. is_prepared c s (of_pre_prepare p.body)) (pre_prepare_at c s s.view x.number) w.0 found' prepared, same)
@@ -249,7 +249,7 @@ abbrev pub Left : Fields → Core → Type 0
 Left x s = (x.view < s.view) × ((x.number ≤ s.low) ⊎ KeepsOne x.view x.number s.kept)
 
 abbrev pub Remembers : Setup → Fields → Core → Type 0
-Remembers c x s = (x.number ≤ s.low + span c) × (Still c x s ⊎ Left x s)
+Remembers c x s = (x.number ≤ s.low + span c.config) × (Still c x s ⊎ Left x s)
 
 -- as the view is left
 pub remembers_leaving : (c : Setup) (x : Fields) (s : Core) → Remembers c x s → (x.number ≤ s.low) ⊎ KeepsOne x.view x.number (kept_on_leaving c s)
@@ -260,7 +260,7 @@ remembers_leaving c x s r = let inside_high = r.0 in elim r.1 [
       | inl above ↦
           let p = prepared_from c s x (sym still.0) w.0 w.1 in
           let view = still.0 in
-          inr (keeps_new c s x.view x.number (inside c s) s.kept p.0 (omega arith) (in_numbers (span c) (s.low + 1) x.number (omega arith) (omega arith)) p.1)
+          inr (keeps_new c s x.view x.number (inside c s) s.kept p.0 (omega arith) (in_numbers (span c.config) (s.low + 1) x.number (omega arith) (omega arith)) p.1)
       | inr below ↦ inl below
     ]
   ]
@@ -308,7 +308,7 @@ module _ (c : Setup) (me : ℕ) (x : Fields) where
   -- entering: from a lower view it is left, and from the view itself nothing of it was committed
   entered_remembers : (s : Core) (n : NewView) → (s.active ≡ true → s.view < n.view.0) → s.view ≤ n.view.0 → Remembers c x s → Remembers c x (entered c s n)
   entered_remembers s n up up' r = cases (nat_lt s.view n.view.0) refl where
-    cases : (b : Bool) → nat_lt s.view n.view.0 ≡ b → (x.number ≤ (cond b (left_for c s n.view.0) s).low + span c) × (Still c x (entered c s n) ⊎ ((x.view < n.view.0) × ((x.number ≤ (cond b (left_for c s n.view.0) s).low) ⊎ KeepsOne x.view x.number (cond b (left_for c s n.view.0) s).kept)))
+    cases : (b : Bool) → nat_lt s.view n.view.0 ≡ b → (x.number ≤ (cond b (left_for c s n.view.0) s).low + span c.config) × (Still c x (entered c s n) ⊎ ((x.view < n.view.0) × ((x.number ≤ (cond b (left_for c s n.view.0) s).low) ⊎ KeepsOne x.view x.number (cond b (left_for c s n.view.0) s).kept)))
     cases true e = let higher = ltb-true s.view n.view.0 e in let below = view_of s r in (r.0, inr (omega arith, remembers_leaving c x s r))
     cases false e = let below = ltb-false s.view n.view.0 e in (
       r.0,
@@ -345,22 +345,13 @@ module _ (c : Setup) (me : ℕ) (x : Fields) where
 -- the view never falls
 said_up : (c : Setup) (me : ℕ) (s : Core) (m : Signed Body) (b : Body) → MaySay c me s b → s.view ≤ (said c s m b).view
 said_up c me s m (bodies.Request b) says = absurd says
-said_up c me s m (bodies.PrePrepare b) says = omega arith
-said_up c me s m (bodies.Prepare b) says = omega arith
-said_up c me s m (bodies.Commit b) says = omega arith
-said_up c me s m (bodies.Reply b) says = omega arith
-said_up c me s m (bodies.Checkpoint b) says = omega arith
 said_up c me s m (bodies.ViewChange b) says = let higher = says.higher in omega arith
 said_up c me s m (bodies.NewView b) says = let same : b.view.0 ≡ s.view = ap (λ (n : NewView). n.view.0) says.is in omega arith
 said_up c me s m (bodies.Fetch b) says = let same : (said c s m (bodies.Fetch b)).view ≡ s.view = (calm_said c s m (bodies.Fetch b) tt).0 in omega arith
-said_up c me s m (bodies.Snapshot b) says = omega arith
+said_up c me s m _ says = omega arith
 
 pub view_up : (c : Setup) (me : ℕ) (s : Core) (a : Act) → s.low ≤ s.executed → Allowed c me s a → s.view ≤ (after c s a).view
 view_up c me s (Take m r) low ok = let same : (after c s (Take m r)).view ≡ s.view = (calm c me s (Take m r) low ok tt).0 in omega arith
-view_up c me s Timeout low ok = omega arith
 view_up c me s (Send to m) low ok = said_up c me s m m.body ok.says
-view_up c me s (Relay to m) low ok = omega arith
 view_up c me s (Enter m) low ok = awaited_above s m.body.view.0 ok.awaited
-view_up c me s (Rise n d) low ok = omega arith
-view_up c me s (Execute n d t o) low ok = omega arith
-view_up c me s (Install n b t) low ok = omega arith
+view_up c me s _ low ok = omega arith

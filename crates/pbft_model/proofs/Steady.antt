@@ -9,7 +9,8 @@ use Rattle.pbft_model.specs.Certificates.{Fields, of_commit, voted, has_quorum}
 use Rattle.pbft_model.specs.Core.{Core, is_prepared}
 use Rattle.pbft_model.specs.Acts.{Act, Take, Timeout, Send, Relay, Enter, Rise, Execute, Install}
 use Rattle.pbft_model.specs.Rules.{Allowed, MaySay}
-use Rattle.pbft_model.specs.Histories.{core_after, IsHistory, IsEarlier, IsSteadyBody, IsSteady, Family, IsCorrect, IsUnforged, HasCommitted}
+use Rattle.pbft_model.specs.Histories.{core_after, IsHistory, IsEarlier}
+use Rattle.pbft_model.specs.Families.{IsSteadyBody, IsSteady, Family, IsCorrect, IsUnforged, HasCommitted}
 use Rattle.pbft_model.proofs.Counting.{quorum_has}
 use Rattle.pbft_model.proofs.Events.{before, history_at, low_reached}
 use Rattle.pbft_model.proofs.Calm.{IsCalmBody, IsCalm, calm}
@@ -18,25 +19,15 @@ use Rattle.pbft_model.proofs.ByView.{committing_at}
 
 calm_body : (c : Setup) (me : ℕ) (s : Core) (b : Body) → MaySay c me s b → IsSteadyBody b → IsCalmBody b
 calm_body c me s (bodies.Request b) says h = absurd says
-calm_body c me s (bodies.PrePrepare b) says h = tt
-calm_body c me s (bodies.Prepare b) says h = tt
-calm_body c me s (bodies.Commit b) says h = tt
-calm_body c me s (bodies.Reply b) says h = tt
-calm_body c me s (bodies.Checkpoint b) says h = tt
 calm_body c me s (bodies.ViewChange b) says h = absurd h
 calm_body c me s (bodies.NewView b) says h = absurd h
-calm_body c me s (bodies.Fetch b) says h = tt
-calm_body c me s (bodies.Snapshot b) says h = tt
+calm_body c me s _ says h = tt
 
 calm_act : (c : Setup) (me : ℕ) (s : Core) (a : Act) → Allowed c me s a → IsSteady a → IsCalm a
-calm_act c me s (Take m r) ok h = tt
-calm_act c me s Timeout ok h = tt
 calm_act c me s (Send to m) ok h = calm_body c me s m.body ok.says h
-calm_act c me s (Relay to m) ok h = tt
 calm_act c me s (Enter m) ok h = absurd h
-calm_act c me s (Rise n d) ok h = tt
-calm_act c me s (Execute n d t o) ok h = tt
 calm_act c me s (Install n b t) ok h = absurd h
+calm_act c me s _ ok h = tt
 
 pub stays : (c : Setup) (me : ℕ) (signer : SigningState) (acts : List Act) → IsHistory c me signer acts → AllByRecursion IsSteady acts
     → ((core_after c signer acts).view ≡ 0) × ((core_after c signer acts).active ≡ true)
@@ -57,9 +48,9 @@ pub commits : (c : Setup) (family : Family) → IsUnforged c family → ((i : �
 commits c family u steady i view number digest w =
     let s = core_at c family i w.acts in
     let x : Fields = record { view = view; number = number; digest = digest } in
-    let both = and_parts (is_prepared c s x) (has_quorum c (voted of_commit s.commits x)) w.committed in
+    let both = and_parts (is_prepared c s x) (has_quorum c.config (voted of_commit s.commits x)) w.committed in
     let many = committing_at c family u i w.correct w.acts w.earlier x both.1 in
-    let v = quorum_has c.config.f (replicas c) many.voters family.faulty many.many u.few in
+    let v = quorum_has c.config.f (replicas c.config) many.voters family.faulty many.many u.few in
     let correct : IsCorrect c family.faulty v.0 = (v.1, v.3) in
     let (b, said, fields) = many.commit v.0 correct v.2 in
     let at_first = before (Send said.to said.message) said.early (family.acts v.0) said.point in

@@ -1,5 +1,5 @@
 -- A row is determined by the core before it and its input.
-use Rattle.std.proofs.Common.{◌≡◌, ℕ, List, [], ◌∷◌, Option, Some, None, refl, sym, ap, subst, ◌∙◌}
+use Rattle.std.proofs.Common.{◌≡◌, ℕ, List, [], ◌∷◌, ◌++◌, Option, Some, None, refl, sym, ap, subst, ◌∙◌}
 use Rattle.pbft_model.specs.Words.{Body, Snapshot}
 use Rattle.pbft_codec.specs.declared.body.Body.TheVariants as bodies
 use Rattle.service_model.proofs.Determined.{same_step}
@@ -10,7 +10,7 @@ use Rattle.pbft_model.specs.Core.{Core, request_of}
 use Rattle.pbft_model.specs.Acts.{Act, Take, Execute, after}
 use Rattle.pbft_model.specs.Rules.{IsReading, IsReadingOf, IsStateAt}
 use Rattle.pbft_model.specs.Duties.{Duty, Do, Executing, WornOut, due}
-use Rattle.pbft_model.specs.Rows.{Row, Input, Received, TimedOut, Fulfils, Follows, Begins, IsNext, all_outputs, all_done, all_leaves}
+use Rattle.pbft_model.specs.Rows.{Row, Input, Received, TimedOut, Fulfils, Follows, Begins, IsLawfulFrom, IsNext, all_outputs, all_done, all_leaves}
 
 module _ (c : Setup) (me : ℕ) where
   -- two states that the same bytes encode are one
@@ -24,16 +24,8 @@ module _ (c : Setup) (me : ℕ) where
   one_reading_of b (Some s) (Some t) h k = ap Some (one_state b.number.0 b.state s t h k)
 
   one_reading : (b : Body) (r r' : Option Service) → IsReading c b r → IsReading c b r' → r ≡ r'
-  one_reading (bodies.Request b) r r' h k = h ∙ sym k
-  one_reading (bodies.PrePrepare b) r r' h k = h ∙ sym k
-  one_reading (bodies.Prepare b) r r' h k = h ∙ sym k
-  one_reading (bodies.Commit b) r r' h k = h ∙ sym k
-  one_reading (bodies.Reply b) r r' h k = h ∙ sym k
-  one_reading (bodies.Checkpoint b) r r' h k = h ∙ sym k
-  one_reading (bodies.ViewChange b) r r' h k = h ∙ sym k
-  one_reading (bodies.NewView b) r r' h k = h ∙ sym k
-  one_reading (bodies.Fetch b) r r' h k = h ∙ sym k
   one_reading (bodies.Snapshot b) r r' h k = one_reading_of b r r' h k
+  one_reading _ r r' h k = h ∙ sym k
 
   pub one_beginning : (input : Input) (a b : Act) → Begins c input a → Begins c input b → a ≡ b
   one_beginning (Received m) a b (r, may, is) (r', may', is') = is ∙ ap (Take m) (one_reading m.body r r' may.reads may'.reads) ∙ sym is'
@@ -73,3 +65,8 @@ module _ (c : Setup) (me : ℕ) where
       let done = n.done ∙ ap (all_done c) w.0 ∙ sym n'.done in
       let leaves = n.leaves ∙ ap all_leaves w.0 ∙ sym n'.leaves in
       ((λ i. record { input = input i; outputs = outputs i; done = done i; leaves = leaves i }), w.1)
+
+  -- a row more is lawful
+  pub one_row_more : (rows : List Row) (row : Row) (s t u : Core) → IsLawfulFrom c me s rows t → IsNext c me t row u → IsLawfulFrom c me s (rows ++ row ∷ []) u
+  one_row_more [] row s t u w next = (u, subst (λ (x : Core). IsNext c me x row u) w next, refl)
+  one_row_more (r ∷ rows) row s t u (v, n, w) next = (v, n, one_row_more rows row v t u w next)

@@ -175,17 +175,17 @@ module _ (c : Setup) (s : Core) (view leader n : ℕ) (digest : List ℕ) (admit
       (record { view = view; number = n; digest = given_digest c ms n }, given_at c view ms n h k, refl)
       (λ m found. absurd (none m found))
 
-admits : (c : Setup) (t : Core) (b : NewView) (n : ℕ) → floor_of b.changes < n → t.low < n → n ≤ t.low + span c → is_admitted c (opened_by t b) b.view.0 n ≡ true
+admits : (c : Setup) (t : Core) (b : NewView) (n : ℕ) → floor_of b.changes < n → t.low < n → n ≤ t.low + span c.config → is_admitted c (opened_by t b) b.view.0 n ≡ true
 admits c t b n h k l =
     and_from _ _ (le-leb b.view.0 b.view.0 (omega arith))
-    (and_from _ _ (and_from _ _ (lt-ltb t.low n k) (le-leb n (t.low + span c) l))
+    (and_from _ _ (and_from _ _ (lt-ltb t.low n k) (le-leb n (t.low + span c.config) l))
     (not_from_false _ (and_right (b.view.0 == b.view.0) (nat_le n (floor_of b.changes)) (lt-leb n (floor_of b.changes) h))))
 
 same_low : (c : Setup) (s : Core) (view : ℕ) → (left_if_above c s view).low ≡ s.low
 same_low c s view = elim (nat_lt s.view view) as (λ b. (cond b (left_for c s view) s).low ≡ s.low) [ true ↦ refl | false ↦ refl ]
 
 -- After entering, each number up to the top that lies between the marks holds the digest that is given.
-pub entered_holds : (c : Setup) (s : Core) (b : NewView) (leader n : ℕ) → are_given leader (given c b.view.0 b.changes) b.pre_prepares ≡ true → floor_of b.changes < n → n ≤ top_of b.changes → s.low < n → n ≤ s.low + span c
+pub entered_holds : (c : Setup) (s : Core) (b : NewView) (leader n : ℕ) → are_given leader (given c b.view.0 b.changes) b.pre_prepares ≡ true → floor_of b.changes < n → n ≤ top_of b.changes → s.low < n → n ≤ s.low + span c.config
     → Holds n b.view.0 leader (given_digest c b.changes n) (entered c s b)
 entered_holds c s b leader n e h k low high = inr (from (left_if_above c s b.view.0) (same_low c s b.view.0)) where
   above_top : (t : Core) (m : Signed PrePrepare) → at (keep (is_of_entered b.view.0 (top_of b.changes)) t.pre_prepares) (vote_key n b.view.0 leader) ≡ Some m → ⊥

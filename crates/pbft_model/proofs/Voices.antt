@@ -12,7 +12,8 @@ use Rattle.pbft_model.specs.Core.{Core, next_number}
 use Rattle.pbft_model.specs.Acts.{Act, Destination, Send, said, acted, signed_once_more}
 use Rattle.pbft_model.specs.Rules.{MaySay}
 use Rattle.pbft_model.specs.Duties.{among}
-use Rattle.pbft_model.specs.Histories.{core_after, IsEarlier, IsHistory, IsIn, HasSigned, Family, listed_in}
+use Rattle.pbft_model.specs.Histories.{core_after, IsEarlier, IsHistory, IsIn, HasSigned, listed_in}
+use Rattle.pbft_model.specs.Families.{Family}
 use Rattle.pbft_model.proofs.Found.{in_any, from_map, in_map}
 use Rattle.pbft_model.proofs.Events.{Sent, sent_of, before, in_order, history_at, holds_on}
 use Rattle.pbft_model.proofs.Calm.{any_in, has_number, Calm}
@@ -98,16 +99,8 @@ module _ (c : Setup) (family : Family) where
     new_view_said i b correct h = alone i (part_by i (bodies.NewView b)) (bodies.NewView b) refl (λ q e. cc) correct h
 
     listed_body : (body : Body) (q : Signed PrePrepare) → IsIn q (listed_in body) → (n : NewView) × (body ≡ bodies.NewView n) × IsIn q n.pre_prepares
-    listed_body (bodies.Request b) q h = absurd h
-    listed_body (bodies.PrePrepare b) q h = absurd h
-    listed_body (bodies.Prepare b) q h = absurd h
-    listed_body (bodies.Commit b) q h = absurd h
-    listed_body (bodies.Reply b) q h = absurd h
-    listed_body (bodies.Checkpoint b) q h = absurd h
-    listed_body (bodies.ViewChange b) q h = absurd h
     listed_body (bodies.NewView b) q h = (b, refl, h)
-    listed_body (bodies.Fetch b) q h = absurd h
-    listed_body (bodies.Snapshot b) q h = absurd h
+    listed_body _ q h = absurd h
 
     pub led_part : (i : ℕ) (p : Part) (b : PrePrepare) → p.body ≡ bodies.PrePrepare b → IsLawful i → HasSigned p (family.acts i) → Led i (of_pre_prepare b)
     led_part i p b is correct h =
@@ -183,16 +176,16 @@ module _ (c : Setup) (family : Family) where
 
     -- ---- proposals
 
-    pub valid_list : (n : NewView) → is_valid_new_view c n ≡ true → are_given (primary c n.view.0) (given c n.view.0 n.changes) n.pre_prepares ≡ true
+    pub valid_list : (n : NewView) → is_valid_new_view c n ≡ true → are_given (primary c.config n.view.0) (given c n.view.0 n.changes) n.pre_prepares ≡ true
     valid_list n e =
         let a = and_parts (are_for_view n) (have_proofs c n && (have_certificates c n && have_order c n)) e in
         let b = and_parts (have_proofs c n) (have_certificates c n && have_order c n) a.1 in
         let d = and_parts (have_certificates c n) (have_order c n) b.1 in
-        (and_parts (list_all (has_order c) (bodies_in n.changes)) (are_given (primary c n.view.0) (given c n.view.0 n.changes) n.pre_prepares) d.1).1
+        (and_parts (list_all (has_order c) (bodies_in n.changes)) (are_given (primary c.config n.view.0) (given c n.view.0 n.changes) n.pre_prepares) d.1).1
 
     pub listed_fields : (n : NewView) (q : Signed PrePrepare) (x : Fields) → is_valid_new_view c n ≡ true → IsIn q n.pre_prepares → of_pre_prepare q.body ≡ x → (x.view ≡ n.view.0) × (x.digest ≡ given_digest c n.changes x.number)
     listed_fields n q x valid within is =
-        let w = given_one (primary c n.view.0) (given c n.view.0 n.changes) n.pre_prepares q (valid_list n valid) within in
+        let w = given_one (primary c.config n.view.0) (given c n.view.0 n.changes) n.pre_prepares q (valid_list n valid) within in
         let g = in_given c n.view.0 n.changes w.0 w.1 in
         let same : w.0 ≡ x = sym w.2 ∙ is in
         (ap (λ (f : Fields). f.view) (sym same) ∙ g.0, subst (λ (f : Fields). f.digest ≡ given_digest c n.changes f.number) same g.1)
@@ -239,7 +232,7 @@ module _ (c : Setup) (family : Family) where
         let same : b.number.0 ≡ x.number = ap (λ (y : Fields). y.number) is in
         let next = says.next in let below = below_next s x.number done in absurd (omega arith)
 
-    led_new : (i : ℕ) (x : Fields) (body : Body) (s : Core) → Leads x body → MaySay c i s body → (s.view ≡ x.view) × (s.active ≡ true → Proposed x.number s → ⊥) × ((primary c s.view == i) ≡ true)
+    led_new : (i : ℕ) (x : Fields) (body : Body) (s : Core) → Leads x body → MaySay c i s body → (s.view ≡ x.view) × (s.active ≡ true → Proposed x.number s → ⊥) × ((primary c.config s.view == i) ≡ true)
     led_new i x body s (inl (b, e, is)) says =
         let says' : MaySay c i s (bodies.PrePrepare b) = subst (λ (y : Body). MaySay c i s y) e says in
         (sym says'.inside.view_is ∙ ap (λ (y : Fields). y.view) is, (λ _ done. proposes_new i x b s is says' done), says'.leads)
@@ -279,7 +272,7 @@ module _ (c : Setup) (family : Family) where
     led_or_followed i x y (body, w, leads) (b, w', is) view =
         let new = led_new i x body (core_at i w.early) leads w.says in
         let views : (core_at i w.early).view ≡ (core_at i w'.early).view = new.0 ∙ view ∙ ap (λ (f : Fields). f.view) (sym is) ∙ w'.says.inside.view_is in
-        true≢false (sym new.2 ∙ ap (λ (v : ℕ). primary c v == i) views ∙ w'.says.follows)
+        true≢false (sym new.2 ∙ ap (λ (v : ℕ). primary c.config v == i) views ∙ w'.says.follows)
 
     abbrev pub Vouched : ℕ → Fields → Type 0
     Vouched i x = Led i x ⊎ Followed i x

@@ -168,16 +168,8 @@ discarded_to c s number proof = record s {
 
 -- how many leaves an own message takes
 abbrev pub leaves_of : Body → ℕ
-leaves_of (bodies.Request b) = 1
-leaves_of (bodies.PrePrepare b) = 1
-leaves_of (bodies.Prepare b) = 1
-leaves_of (bodies.Commit b) = 1
-leaves_of (bodies.Reply b) = 1
-leaves_of (bodies.Checkpoint b) = 1
-leaves_of (bodies.ViewChange b) = 1
 leaves_of (bodies.NewView b) = 1 + length b.pre_prepares
-leaves_of (bodies.Fetch b) = 1
-leaves_of (bodies.Snapshot b) = 1
+leaves_of _ = 1
 
 -- what was asked for
 abbrev pub asked : Core → Fetch → Core

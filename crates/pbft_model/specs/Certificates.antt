@@ -1,8 +1,8 @@
 -- Statement: certificates over messages (Castro and Liskov, sections 4.2 to 4.4).
 use Rattle.std.specs.Prelude.{ℕ, ◌*◌, ◌==◌, Bool, false, ◌&&◌, not, nat_le, List, [], ◌∷◌, Option, Some, None, length, bytes_eq}
 use Rattle.std.specs.List.{list_any}
-use Rattle.pbft_model.specs.Words.{Signed, PrePrepare, Prepare, Commit, Checkpoint, Certificate}
-use Rattle.pbft_model.specs.Setup.{Setup, replicas, quorum, primary, count, is_replica}
+use Rattle.pbft_model.specs.Words.{Configuration, Signed, PrePrepare, Prepare, Commit, Checkpoint, Certificate}
+use Rattle.pbft_model.specs.Setup.{replicas, quorum, primary, count, is_replica}
 use Rattle.pbft_model.specs.Tables.{Table, at, vote_key, checkpoint_key}
 
 -- What a PrePrepare, a Prepare and a Commit have alike.
@@ -40,20 +40,20 @@ abbrev pub voted_among : {B : Type 0} → (B → Fields) → List (Signed B) →
 voted_among of ms x i = list_any (is_by i (λ b. same_fields (of b) x)) ms
 
 -- Certified: a PrePrepare of the view's primary, and Prepares of 2f different backups that match it (section 4.2).
-abbrev pub certified : Setup → (ℕ → Bool) → (ℕ → Bool) → ℕ → Bool
+abbrev pub certified : Configuration → (ℕ → Bool) → (ℕ → Bool) → ℕ → Bool
 certified c pre_prepared prepared view =
     pre_prepared (primary c view)
-    && nat_le (2 * c.config.f) (count (λ i. not (i == primary c view) && prepared i) (replicas c))
+    && nat_le (2 * c.f) (count (λ i. not (i == primary c view) && prepared i) (replicas c))
 
 -- A certificate in a ViewChange: the PrePrepare, and 2f Prepares (section 4.4).
-abbrev pub is_certificate : Setup → Certificate → Bool
+abbrev pub is_certificate : Configuration → Certificate → Bool
 is_certificate c x =
     let fields = of_pre_prepare x.pre_prepare.body in
     certified c (voted_among of_pre_prepare (x.pre_prepare ∷ []) fields) (voted_among of_prepare x.prepares fields) fields.view
-    && length x.prepares == 2 * c.config.f
+    && length x.prepares == 2 * c.f
 
 -- A quorum of different replicas has voted so.
-abbrev pub has_quorum : Setup → (ℕ → Bool) → Bool
+abbrev pub has_quorum : Configuration → (ℕ → Bool) → Bool
 has_quorum c voters = nat_le (quorum c) (count voters (replicas c))
 
 abbrev pub is_checkpoint_of : ℕ → List ℕ → Checkpoint → Bool
@@ -64,5 +64,5 @@ abbrev pub checkpointed : Table (Signed Checkpoint) → ℕ → List ℕ → ℕ
 checkpointed checkpoints number digest i = some_by i (is_checkpoint_of number digest) (at checkpoints (checkpoint_key number i))
 
 -- Stable: matching Checkpoints of a quorum (section 4.3).
-abbrev pub is_stable : Setup → Table (Signed Checkpoint) → ℕ → List ℕ → Bool
+abbrev pub is_stable : Configuration → Table (Signed Checkpoint) → ℕ → List ℕ → Bool
 is_stable c checkpoints number digest = has_quorum c (checkpointed checkpoints number digest)

@@ -89,11 +89,11 @@ floor_in s = floor_of s.basis
 
 -- above the low and not above the high water mark
 abbrev pub is_inside : Setup → Core → ℕ → Bool
-is_inside c s number = nat_lt s.low number && nat_le number (s.low + span c)
+is_inside c s number = nat_lt s.low number && nat_le number (s.low + span c.config)
 
 -- the numbers between the marks
 abbrev pub inside : Setup → Core → List ℕ
-inside c s = numbers_from (s.low + 1) (span c)
+inside c s = numbers_from (s.low + 1) (span c.config)
 
 -- A vote is recorded if its view is not below the replica's and its number lies between the marks; in the
 -- view that the replica is active in also above the floor.
@@ -144,10 +144,10 @@ has_position view number p = p.view.0 == view && p.number.0 == number
 -- the PrePrepare of the view's primary for a number
 abbrev pub pre_prepare_at : Setup → Core → ℕ → ℕ → Option (Signed PrePrepare)
 pre_prepare_at c s view number =
-    if_passes (is_by (primary c view) (has_position view number)) (at s.pre_prepares (vote_key number view (primary c view)))
+    if_passes (is_by (primary c.config view) (has_position view number)) (at s.pre_prepares (vote_key number view (primary c.config view)))
 
 abbrev pub is_certified : Setup → Core → Fields → Bool
-is_certified c s x = certified c (voted of_pre_prepare s.pre_prepares x) (voted of_prepare s.prepares x) x.view
+is_certified c s x = certified c.config (voted of_pre_prepare s.pre_prepares x) (voted of_prepare s.prepares x) x.view
 
 -- Prepared: certified, and the request is held or null (section 4.2).
 abbrev pub is_prepared : Setup → Core → Fields → Bool
@@ -155,7 +155,7 @@ is_prepared c s x = is_certified c s x && is_known c s x.digest
 
 -- Committed-local: prepared, and Commits of a quorum (section 4.2).
 abbrev pub is_committed : Setup → Core → Fields → Bool
-is_committed c s x = is_prepared c s x && has_quorum c (voted of_commit s.commits x)
+is_committed c s x = is_prepared c s x && has_quorum c.config (voted of_commit s.commits x)
 
 -- the PrePrepare of the replica's view with which the number is prepared
 abbrev pub prepared_at : Setup → Core → ℕ → Option (Signed PrePrepare)
@@ -163,20 +163,20 @@ prepared_at c s number = if_passes (λ m. is_prepared c s (of_pre_prepare m.body
 
 -- a backup whose recorded Prepare has these fields
 abbrev pub is_matching : Setup → Core → Fields → ℕ → Bool
-is_matching c s x i = not (i == primary c x.view) && voted of_prepare s.prepares x i
+is_matching c s x i = not (i == primary c.config x.view) && voted of_prepare s.prepares x i
 
 -- the certificate of a PrePrepare: with the 2f matching Prepares of least signers
 abbrev pub certificate_of : Setup → Core → Signed PrePrepare → Certificate
 certificate_of c s m = record {
   pre_prepare = m;
   prepares = gathered (is_least (2 * c.config.f) (is_matching c s (of_pre_prepare m.body)))
-      (λ i. at s.prepares (vote_key m.body.number.0 m.body.view.0 i)) (replicas c);
+      (λ i. at s.prepares (vote_key m.body.number.0 m.body.view.0 i)) (replicas c.config);
 }
 
 -- the proof that a number is stable: the Checkpoints of a quorum's least signers
 abbrev pub proof_of : Setup → Core → ℕ → List ℕ → List (Signed Checkpoint)
 proof_of c s number digest =
-    gathered (is_least (quorum c) (checkpointed s.checkpoints number digest)) (λ i. at s.checkpoints (checkpoint_key number i)) (replicas c)
+    gathered (is_least (quorum c.config) (checkpointed s.checkpoints number digest)) (λ i. at s.checkpoints (checkpoint_key number i)) (replicas c.config)
 
 -- ---- leaving a view
 

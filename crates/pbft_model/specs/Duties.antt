@@ -69,15 +69,7 @@ answer_again me s m b (Some last) = when (last.time == b.time) (say me s (ToClie
 
 abbrev pub answer_to_request : ℕ → Core → Signed Body → Body → Option Duty
 answer_to_request me s m (bodies.Request b) = answer_again me s m b (last_reply_of s.service m.id)
-answer_to_request me s m (bodies.PrePrepare b) = None
-answer_to_request me s m (bodies.Prepare b) = None
-answer_to_request me s m (bodies.Commit b) = None
-answer_to_request me s m (bodies.Reply b) = None
-answer_to_request me s m (bodies.Checkpoint b) = None
-answer_to_request me s m (bodies.ViewChange b) = None
-answer_to_request me s m (bodies.NewView b) = None
-answer_to_request me s m (bodies.Fetch b) = None
-answer_to_request me s m (bodies.Snapshot b) = None
+answer_to_request me s m _ = None
 
 -- ---- 2: the Fetch just taken names a request that is held, or a snapshot that is kept
 
@@ -95,49 +87,25 @@ answer_fetched c me s m (fetches.Request digest) = pass_on m (held_with c s.held
 answer_fetched c me s m (fetches.State number) = supply me s m number.0 (at s.snapshots (number_key number.0))
 
 abbrev pub answer_to_fetch : Setup → ℕ → Core → Signed Body → Body → Option Duty
-answer_to_fetch c me s m (bodies.Request b) = None
-answer_to_fetch c me s m (bodies.PrePrepare b) = None
-answer_to_fetch c me s m (bodies.Prepare b) = None
-answer_to_fetch c me s m (bodies.Commit b) = None
-answer_to_fetch c me s m (bodies.Reply b) = None
-answer_to_fetch c me s m (bodies.Checkpoint b) = None
-answer_to_fetch c me s m (bodies.ViewChange b) = None
-answer_to_fetch c me s m (bodies.NewView b) = None
 answer_to_fetch c me s m (bodies.Fetch b) = answer_fetched c me s m b
-answer_to_fetch c me s m (bodies.Snapshot b) = None
+answer_to_fetch c me s m _ = None
 
 -- ---- 3: the NewView just taken is valid and for a view that the replica awaits: enter it
 
 abbrev pub enter_by : Setup → Core → Signed Body → Body → Option Duty
-enter_by c s m (bodies.Request b) = None
-enter_by c s m (bodies.PrePrepare b) = None
-enter_by c s m (bodies.Prepare b) = None
-enter_by c s m (bodies.Commit b) = None
-enter_by c s m (bodies.Reply b) = None
-enter_by c s m (bodies.Checkpoint b) = None
-enter_by c s m (bodies.ViewChange b) = None
 enter_by c s m (bodies.NewView b) = when (is_awaited s b.view.0 && is_valid_new_view c b) (Do (Enter (with_body m b)))
-enter_by c s m (bodies.Fetch b) = None
-enter_by c s m (bodies.Snapshot b) = None
+enter_by c s m _ = None
 
 -- ---- 4: the Snapshot just taken is above what was executed, has a stable digest and reads as a state: install it
 
 abbrev pub install_read : Setup → Core → Snapshot → Option Service → Option Duty
 install_read c s b None = None
 install_read c s b (Some state) =
-    when (nat_lt s.executed b.number.0 && is_stable c s.checkpoints b.number.0 (c.hash b.state)) (Do (Install b.number.0 b.state state))
+    when (nat_lt s.executed b.number.0 && is_stable c.config s.checkpoints b.number.0 (c.hash b.state)) (Do (Install b.number.0 b.state state))
 
 abbrev pub install_from : Setup → Core → Signed Body → Body → Option Duty
-install_from c s m (bodies.Request b) = None
-install_from c s m (bodies.PrePrepare b) = None
-install_from c s m (bodies.Prepare b) = None
-install_from c s m (bodies.Commit b) = None
-install_from c s m (bodies.Reply b) = None
-install_from c s m (bodies.Checkpoint b) = None
-install_from c s m (bodies.ViewChange b) = None
-install_from c s m (bodies.NewView b) = None
-install_from c s m (bodies.Fetch b) = None
 install_from c s m (bodies.Snapshot b) = install_read c s b s.reading
+install_from c s m _ = None
 
 -- a duty that the message just taken gives
 abbrev pub on_taken : (Signed Body → Body → Option Duty) → Option (Signed Body) → Option Duty
@@ -160,7 +128,7 @@ due_install c s = on_taken (install_from c s) s.taken
 
 abbrev pub may_rise : Setup → Core → ℕ → List ℕ → Bool
 may_rise c s number digest =
-    nat_lt s.low number && (nat_le number s.executed && is_stable c s.checkpoints number digest)
+    nat_lt s.low number && (nat_le number s.executed && is_stable c.config s.checkpoints number digest)
 
 abbrev pub rise_with : Setup → Core → ℕ → Option (List ℕ) → Option Duty
 rise_with c s number None = None
@@ -177,13 +145,13 @@ due_rise c s = rise_among c s s.snapshots
 -- ---- 6: active primary: the first request that is new and not proposed gets the next number, if it is inside the marks
 
 abbrev pub leads : Setup → ℕ → Core → Bool
-leads c me s = primary c s.view == me
+leads c me s = primary c.config s.view == me
 
 abbrev pub propose : Setup → ℕ → Core → Option (Signed RequestBody) → Option Duty
 propose c me s None = None
 propose c me s (Some m) =
     let number = next_number s in
-    if nat_le number (s.low + span c)
+    if nat_le number (s.low + span c.config)
     then Some (if number == number_limit then WornOut
     else say me s All (bodies.PrePrepare (pre_prepare_of (record { view = s.view; number = number; digest = digest_of c m }))))
     else None
@@ -249,7 +217,7 @@ least_view (m ∷ ms) least = least_view ms (min m.body.view.0 least)
 abbrev pub join : Setup → ℕ → Core → List (Signed ViewChange) → Option Duty
 join c me s [] = None
 join c me s (m ∷ ms) =
-    when (nat_le (c.config.f + 1) (count (λ i. list_any (is_by i (λ v. true)) (m ∷ ms)) (replicas c))) (change_to c me s (least_view ms m.body.view.0))
+    when (nat_le (c.config.f + 1) (count (λ i. list_any (is_by i (λ v. true)) (m ∷ ms)) (replicas c.config))) (change_to c me s (least_view ms m.body.view.0))
 
 abbrev pub due_join : Setup → ℕ → Core → Option Duty
 due_join c me s = join c me s (higher_changes me s)
@@ -258,13 +226,13 @@ due_join c me s = join c me s (higher_changes me s)
 
 abbrev pub due_open : Setup → ℕ → Core → Option Duty
 due_open c me s =
-    when (not s.active && (leads c me s && (wants_view s me && has_quorum c (wants_view s)))) (say me s All (bodies.NewView (new_view_of c me s)))
+    when (not s.active && (leads c me s && (wants_view s me && has_quorum c.config (wants_view s)))) (say me s All (bodies.NewView (new_view_of c me s)))
 
 -- ---- 12: fetch the snapshot of the greatest stable number above what was executed, once; and the request of a recorded
 -- PrePrepare of the active view that is not held, once
 
 abbrev pub is_stable_entry : Setup → Core → Signed Checkpoint → Bool
-is_stable_entry c s m = nat_lt s.executed m.body.number.0 && is_stable c s.checkpoints m.body.number.0 m.body.digest.0
+is_stable_entry c s m = nat_lt s.executed m.body.number.0 && is_stable c.config s.checkpoints m.body.number.0 m.body.digest.0
 
 abbrev pub greatest_stable : Setup → Core → List (Signed Checkpoint) → ℕ
 greatest_stable c s [] = 0

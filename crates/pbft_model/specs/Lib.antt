@@ -10,12 +10,10 @@ pub mod Rules
 pub mod Duties
 pub mod Rows
 pub mod Histories
-pub mod Received
-pub mod Agreement
-pub mod Journals
-pub mod RowRules
-pub mod Worked
-pub mod Example
-pub mod Episode
+pub mod Families
 pub mod Ending
 pub mod Together
+pub use Rattle.pbft_codec.specs.declared.body.Body
+pub use Rattle.pbft_codec.specs.declared.signed.Signed
+pub use Rattle.seal.specs.Opening
+pub use Rattle.service_model.specs.Equality

@@ -41,34 +41,18 @@ result_of (Some reply) = reply.result
 
 -- what an act adds to its row
 abbrev pub outputs_of : Act → List Output
-outputs_of (Take m reading) = []
-outputs_of Timeout = []
 outputs_of (Send to m) = record { to = to; message = m; own = true } ∷ []
 outputs_of (Relay to m) = record { to = to; message = m; own = false } ∷ []
-outputs_of (Enter m) = []
-outputs_of (Rise number digest) = []
-outputs_of (Execute number digest service outcome) = []
-outputs_of (Install number bytes service) = []
+outputs_of _ = []
 
 abbrev pub done_of : Setup → Act → List Done
-done_of c (Take m reading) = []
-done_of c Timeout = []
-done_of c (Send to m) = []
-done_of c (Relay to m) = []
-done_of c (Enter m) = []
-done_of c (Rise number digest) = []
 done_of c (Execute number digest service outcome) = Executed number digest (result_of outcome.reply) ∷ []
 done_of c (Install number bytes service) = Installed number (c.hash bytes) ∷ []
+done_of c _ = []
 
 abbrev pub leaves_for : Act → ℕ
-leaves_for (Take m reading) = 0
-leaves_for Timeout = 0
 leaves_for (Send to m) = leaves_of m.body
-leaves_for (Relay to m) = 0
-leaves_for (Enter m) = 0
-leaves_for (Rise number digest) = 0
-leaves_for (Execute number digest service outcome) = 0
-leaves_for (Install number bytes service) = 0
+leaves_for _ = 0
 
 abbrev pub all_outputs : List Act → List Output
 all_outputs [] = []

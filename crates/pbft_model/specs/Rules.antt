@@ -10,7 +10,6 @@ use Rattle.pbft_model.specs.Certificates.{Fields, of_pre_prepare, of_prepare, of
 use Rattle.pbft_model.specs.Validity.{is_valid_new_view, given}
 use Rattle.pbft_model.specs.Core.{Core, floor_in, is_prepared, is_committed, request_of, held_with, kept_on_leaving, next_number}
 use Rattle.pbft_model.specs.Acts.{Act, Take, Timeout, Send, Relay, Enter, Rise, Execute, Install, is_awaited}
-use Rattle.pbft_model.specs.Words.{Reply}
 
 -- ---- the messages that a replica makes of what it keeps
 
@@ -39,7 +38,7 @@ is_chosen c me s i = i == me || is_least (2 * c.config.f) (other_wants me s) i
 
 -- The ViewChanges of an own NewView: its own and the 2f of least signers among the others, signers ascending.
 abbrev pub chosen_changes : Setup → ℕ → Core → List (Signed ViewChange)
-chosen_changes c me s = gathered (is_chosen c me s) (change_of s) (replicas c)
+chosen_changes c me s = gathered (is_chosen c me s) (change_of s) (replicas c.config)
 
 abbrev pub pre_prepare_of : Fields → PrePrepare
 pre_prepare_of x = record { view = record { 0 = x.view }; number = record { 0 = x.number }; digest = record { 0 = x.digest } }
@@ -59,16 +58,8 @@ new_view_of c me s = record {
 
 -- how many leaves are taken before an own message's own
 abbrev pub leaves_before : Body → ℕ
-leaves_before (bodies.Request b) = 0
-leaves_before (bodies.PrePrepare b) = 0
-leaves_before (bodies.Prepare b) = 0
-leaves_before (bodies.Commit b) = 0
-leaves_before (bodies.Reply b) = 0
-leaves_before (bodies.Checkpoint b) = 0
-leaves_before (bodies.ViewChange b) = 0
 leaves_before (bodies.NewView b) = length b.pre_prepares
-leaves_before (bodies.Fetch b) = 0
-leaves_before (bodies.Snapshot b) = 0
+leaves_before _ = 0
 
 abbrev pub own_message : Core → ℕ → Body → Signed Body
 own_message s me body = signed_by (λ b. b) (signer_after s.signer (leaves_before body)) me body
@@ -85,19 +76,19 @@ pub record IsInside (c : Setup) (s : Core) (view number : ℕ) : Type 0 where
   pub view_is : view ≡ s.view
   pub above_floor : floor_in s < number
   pub above_low : s.low < number
-  pub up_to_high : number ≤ s.low + span c
+  pub up_to_high : number ≤ s.low + span c.config
 
 -- The view's primary proposes at the next number.
 pub record MayPropose (c : Setup) (me : ℕ) (s : Core) (b : PrePrepare) : Type 0 where
   pub inside : IsInside c s b.view.0 b.number.0
-  pub leads : (primary c s.view == me) ≡ true
+  pub leads : (primary c.config s.view == me) ≡ true
   pub next : b.number.0 ≡ next_number s
 
 -- A backup agrees with the recorded proposal, once for each number.
 pub record MayPrepare (c : Setup) (me : ℕ) (s : Core) (b : Prepare) : Type 0 where
   pub inside : IsInside c s b.view.0 b.number.0
-  pub follows : (primary c s.view == me) ≡ false
-  pub proposed : voted of_pre_prepare s.pre_prepares (of_prepare b) (primary c b.view.0) ≡ true
+  pub follows : (primary c.config s.view == me) ≡ false
+  pub proposed : voted of_pre_prepare s.pre_prepares (of_prepare b) (primary c.config b.view.0) ≡ true
   pub once : list_any (λ n. n == b.number.0) s.prepared_numbers ≡ false
 
 -- A Commit is for what is prepared, once for each number.
@@ -125,7 +116,7 @@ pub record MayChange (c : Setup) (s : Core) (b : ViewChange) : Type 0 where
 -- The primary of the view that it changes to opens it, by a valid NewView.
 pub record MayOpen (c : Setup) (me : ℕ) (s : Core) (b : NewView) : Type 0 where
   pub changing : s.active ≡ false
-  pub leads : (primary c s.view == me) ≡ true
+  pub leads : (primary c.config s.view == me) ≡ true
   pub is : b ≡ new_view_of c me s
   pub valid : is_valid_new_view c b ≡ true
 
@@ -160,16 +151,8 @@ IsReadingOf c b reading =
     MatchOption reading ((state : Service) → IsStateAt c b.number.0 b.state state → ⊥) (λ state. IsStateAt c b.number.0 b.state state)
 
 abbrev pub IsReading : Setup → Body → Option Service → Type 0
-IsReading c (bodies.Request b) reading = reading ≡ None
-IsReading c (bodies.PrePrepare b) reading = reading ≡ None
-IsReading c (bodies.Prepare b) reading = reading ≡ None
-IsReading c (bodies.Commit b) reading = reading ≡ None
-IsReading c (bodies.Reply b) reading = reading ≡ None
-IsReading c (bodies.Checkpoint b) reading = reading ≡ None
-IsReading c (bodies.ViewChange b) reading = reading ≡ None
-IsReading c (bodies.NewView b) reading = reading ≡ None
-IsReading c (bodies.Fetch b) reading = reading ≡ None
 IsReading c (bodies.Snapshot b) reading = IsReadingOf c b reading
+IsReading c _ reading = reading ≡ None
 
 -- ---- the guards
 
@@ -199,7 +182,7 @@ pub record MayEnter (c : Setup) (s : Core) (m : Signed NewView) : Type 0 where
 pub record MayRise (c : Setup) (s : Core) (number : ℕ) (digest : List ℕ) : Type 0 where
   pub above : s.low < number
   pub reached : number ≤ s.executed
-  pub stable : is_stable c s.checkpoints number digest ≡ true
+  pub stable : is_stable c.config s.checkpoints number digest ≡ true
   pub bytes : List ℕ
   pub kept : at s.snapshots (number_key number) ≡ Some bytes
   pub digest_is : digest ≡ c.hash bytes
@@ -214,7 +197,7 @@ pub record MayExecute (c : Setup) (s : Core) (number : ℕ) (digest : List ℕ) 
 -- A Snapshot just taken is installed whose bytes have a stable digest and read as a state at its number.
 pub record MayInstall (c : Setup) (s : Core) (number : ℕ) (bytes : List ℕ) (service : Service) : Type 0 where
   pub above : s.executed < number
-  pub stable : is_stable c s.checkpoints number (c.hash bytes) ≡ true
+  pub stable : is_stable c.config s.checkpoints number (c.hash bytes) ≡ true
   pub message : Signed Snapshot
   pub taken : s.taken ≡ Some (as_message bodies.Snapshot message)
   pub bytes_are : message.body.state ≡ bytes

@@ -2,7 +2,9 @@
 use Rattle.std.proofs.Common.{zero, suc}
 use Rattle.std.specs.Prelude.{ℕ, ◌+◌, ◌*◌, ◌%◌, Bool, true, false, ◌&&◌, cond, nat_lt, List, [], ◌∷◌, Option, None}
 use Rattle.std.specs.List.{filter_map}
+use Rattle.sha2.specs.Sha256.{sha256}
 use Rattle.pbft_model.specs.Words.{Configuration, replicas_for, Body, RequestBody, Signed, Role, Replica, Client, Request, SigningState, signed_text, as_message, sealed_message}
+use Rattle.seal.specs.Height.TheVariants.{H5}
 use Rattle.pbft_codec.specs.declared.body.Body.TheVariants as bodies
 
 -- A configuration and the hash function. Every law holds for every hash; the replicas' is SHA-256.
@@ -10,21 +12,25 @@ pub record Setup : Type 0 where
   pub config : Configuration
   pub hash : List ℕ → List ℕ
 
+-- The replicas of a configuration hash with SHA-256 (FIPS 180-4).
+abbrev pub setup_of : Configuration → Setup
+setup_of c = record { config = c; hash = sha256 }
+
 -- 3f + 1 replicas
-abbrev pub replicas : Setup → ℕ
-replicas c = replicas_for c.config.f
+abbrev pub replicas : Configuration → ℕ
+replicas c = replicas_for c.f
 
 -- 2f + 1 of them are a quorum
-abbrev pub quorum : Setup → ℕ
-quorum c = 2 * c.config.f + 1
+abbrev pub quorum : Configuration → ℕ
+quorum c = 2 * c.f + 1
 
 -- the primary of a view (section 4.1)
-abbrev pub primary : Setup → ℕ → ℕ
+abbrev pub primary : Configuration → ℕ → ℕ
 primary c view = view % replicas c
 
 -- how many numbers lie between the low and the high water mark
-abbrev pub span : Setup → ℕ
-span c = 2 * c.config.k
+abbrev pub span : Configuration → ℕ
+span c = 2 * c.k
 
 -- views lie below this number, and sequence numbers below the other
 abbrev pub view_limit : ℕ
@@ -78,3 +84,7 @@ signed_by kind signer me body = record { role = Replica; id = me; body = body; s
 -- the signer after so many signatures
 abbrev pub signer_after : SigningState → ℕ → SigningState
 signer_after signer leaves = record signer { next_leaf = signer.next_leaf + leaves }
+
+-- a signer that has signed nothing
+abbrev pub fresh : List ℕ → List ℕ → SigningState
+fresh id secret = record { height = H5; bottom = None; id = id; secret = secret; next_leaf = 0 }

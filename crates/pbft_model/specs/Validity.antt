@@ -24,15 +24,15 @@ digest_in (m ∷ ms) = m.body.digest.0
 -- Checkpoints of a quorum at this number with one digest, and no others
 abbrev pub is_proof : Setup → ℕ → List (Signed Checkpoint) → Bool
 is_proof c number ms =
-    length ms == quorum c
-    && has_quorum c (λ i. list_any (is_by i (is_checkpoint_of number (digest_in ms))) ms)
+    length ms == quorum c.config
+    && has_quorum c.config (λ i. list_any (is_by i (is_checkpoint_of number (digest_in ms))) ms)
 
 -- its Checkpoints show that its low mark is stable; 0 needs none
 abbrev pub has_proof : Setup → ViewChange → Bool
 has_proof c v = is_proof c v.low.0 v.checkpoints || (v.low.0 == 0 && length v.checkpoints == 0)
 
 abbrev pub has_certificates : Setup → ViewChange → Bool
-has_certificates c v = list_all (is_certificate c) v.certificates
+has_certificates c v = list_all (is_certificate c.config) v.certificates
 
 -- the numbers ascend, each at least `first`, up to `last`
 abbrev pub ascend_within : ℕ → ℕ → List Certificate → Bool
@@ -42,7 +42,7 @@ ascend_within first last (x ∷ xs) =
     nat_le first number && (nat_le number last && ascend_within (number + 1) last xs)
 
 abbrev pub has_order : Setup → ViewChange → Bool
-has_order c v = ascend_within (v.low.0 + 1) (v.low.0 + span c) v.certificates
+has_order c v = ascend_within (v.low.0 + 1) (v.low.0 + span c.config) v.certificates
 
 -- the first test that fails
 abbrev pub first_fault : Bool → Bool → Bool → Bool → Option ViewFault
@@ -122,7 +122,7 @@ are_for_view n = list_all (λ v. has_view v && v.view.0 == n.view.0) (bodies_in 
 abbrev pub have_proofs : Setup → NewView → Bool
 have_proofs c n =
     list_all (has_proof c) (bodies_in n.changes)
-    && (length n.changes == quorum c && has_quorum c (changed_by n.changes))
+    && (length n.changes == quorum c.config && has_quorum c.config (changed_by n.changes))
 
 abbrev pub have_certificates : Setup → NewView → Bool
 have_certificates c n = list_all (has_certificates c) (bodies_in n.changes)
@@ -130,7 +130,7 @@ have_certificates c n = list_all (has_certificates c) (bodies_in n.changes)
 abbrev pub have_order : Setup → NewView → Bool
 have_order c n =
     list_all (has_order c) (bodies_in n.changes)
-    && are_given (primary c n.view.0) (given c n.view.0 n.changes) n.pre_prepares
+    && are_given (primary c.config n.view.0) (given c n.view.0 n.changes) n.pre_prepares
 
 abbrev pub new_view_fault : Setup → NewView → Option ViewFault
 new_view_fault c n = first_fault (are_for_view n) (have_proofs c n) (have_certificates c n) (have_order c n)

@@ -6,8 +6,8 @@ pub use Rattle.host_types.specs.declared.View.{View}
 pub use Rattle.host_types.specs.declared.request.Request.{Request}
 pub use Rattle.host_types.specs.declared.request.Reply.{Reply}
 pub use Rattle.host_types.specs.Configuration.{Configuration, IsConfiguration, replicas_for}
-pub use Rattle.lms_tree.specs.SigningState.{SigningState}
-pub use Rattle.lms_tree.specs.Keys.{IsKeyOf, leaf_count}
+pub use Rattle.seal.specs.SigningState.{SigningState}
+pub use Rattle.seal.specs.Keys.{IsKeyOf, leaf_count}
 pub use Rattle.pbft_codec.specs.declared.body.Body.{Body}
 pub use Rattle.pbft_codec.specs.declared.body.certificate.Certificate.{Certificate}
 pub use Rattle.pbft_codec.specs.declared.body.checkpoint.Checkpoint.{Checkpoint}

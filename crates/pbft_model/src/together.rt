@@ -1,7 +1,7 @@
 //! Several numbers executed in one row.
 
 ghost use Rattle.std.specs.Prelude.{◌≡◌, ◌+◌, ◌≤◌, ℕ, List, Some};
-ghost use Rattle.lms_tree.specs.SigningState.{SigningState};
+ghost use Rattle.seal.specs.SigningState.{SigningState};
 ghost use Rattle.pbft_model.specs.Setup.{Setup};
 ghost use Rattle.pbft_model.specs.Words.{leaf_count};
 ghost use Rattle.pbft_model.specs.Acts.{Act, after};

@@ -17,7 +17,7 @@ use Rattle.quorum_log.specs.Windows.{HasSlotAt, HaveSameWindows, slots_at, slot_
 use Rattle.quorum_log.specs.Reading.{read_by, table_of}
 use Rattle.quorum_log.proofs.Covering.{covers_table}
 use Rattle.quorum_log.proofs.Recording.{AfterFirst, other_kind}
-use Rattle.quorum_log.proofs.Tables.{added_table, same_table, same_key, is_equal, ties}
+use Rattle.ballots.proofs.Tables.{added_table, same_table, same_key, is_equal, ties}
 
 -- ---- the slot itself, and the others
 

@@ -15,7 +15,7 @@ use Rattle.pbft_model.specs.Words.{Signed, PrePrepare}
 use Rattle.pbft_model.specs.Acts.{with_body}
 use Rattle.pbft_model.specs.Certificates.{Fields, of_pre_prepare, of_prepare, of_commit, same_fields, is_by, some_by, voted, certified, has_quorum}
 use Rattle.pbft_model.specs.Core.{if_passes, has_position}
-use Rattle.pbft_model.specs.Setup.{Setup, count, is_replica}
+use Rattle.pbft_model.specs.Setup.{count, is_replica}
 use Rattle.pbft_model.specs.Tables.{at}
 use Rattle.seal.specs.Opening.{CheckedMessage}
 use Rattle.seal.specs.Votes.{vote_in}
@@ -28,7 +28,7 @@ use Rattle.quorum_log.specs.Asking.{Represents}
 use Rattle.ballots.specs.Ballots.{Ballot, AreListed, AreUnder, digest_in, is_digest, is_for, vote_at, voted_for}
 use Rattle.quorum_log.specs.Log.{KeptLog, Log, certified_at, if_certified, is_certified_in, is_committed_at, is_committed_by, proposal_in}
 use Rattle.quorum_log.specs.Reading.{AreKept, as_pre_prepare, as_prepare, as_commit, log_in, read_by}
-use Rattle.quorum_log.specs.Slots.{AreVotesAt, IsVoteAt, digest_here, digest_of_some, empty_slot, is_certified_for, is_certified_here, is_committed_for, is_committed_here, setup_of}
+use Rattle.quorum_log.specs.Slots.{AreVotesAt, IsVoteAt, digest_here, digest_of_some, empty_slot, is_certified_for, is_certified_here, is_committed_for, is_committed_here}
 use Rattle.quorum_log.specs.Windows.{if_by, index_in, slot_of, slots_at}
 use Rattle.quorum_log.proofs.Accepting.{slot_was}
 use Rattle.quorum_log.proofs.Windows.{beyond}
@@ -43,9 +43,6 @@ represents_slot c v floor low numbers view number h = record {
   prepares = λ i lt. read_at as_prepare kinds.Prepare low number view i numbers lt;
   commits = λ i lt. read_at as_commit kinds.Commit low number view i numbers lt;
 }
-
-abbrev pub setup : Configuration → (List ℕ → List ℕ) → Setup
-setup c hash = record { config = c; hash = hash }
 
 abbrev pub fields : ℕ → ℕ → List ℕ → Fields
 fields view number digest = record { view = view; number = number; digest = digest }
@@ -96,13 +93,7 @@ prepare_voted c view number i digest m h id (bodies.PrePrepare b) e = absurd (no
 prepare_voted c view number i digest m h id (bodies.Commit b) e = absurd (no (ap kind_of (ap (vote_in m.message.id) (sym e) ∙ h.is) ∙ ap Some h.of_kind)) where
   no : Some kinds.Commit ≡ Some kinds.Prepare → ⊥
   no e = absurd cc
-prepare_voted c view number i digest m h id (bodies.Request b) e = absurd (none_is (ap (vote_in m.message.id) (sym e) ∙ h.is))
-prepare_voted c view number i digest m h id (bodies.Reply b) e = absurd (none_is (ap (vote_in m.message.id) (sym e) ∙ h.is))
-prepare_voted c view number i digest m h id (bodies.Checkpoint b) e = absurd (none_is (ap (vote_in m.message.id) (sym e) ∙ h.is))
-prepare_voted c view number i digest m h id (bodies.ViewChange b) e = absurd (none_is (ap (vote_in m.message.id) (sym e) ∙ h.is))
-prepare_voted c view number i digest m h id (bodies.NewView b) e = absurd (none_is (ap (vote_in m.message.id) (sym e) ∙ h.is))
-prepare_voted c view number i digest m h id (bodies.Fetch b) e = absurd (none_is (ap (vote_in m.message.id) (sym e) ∙ h.is))
-prepare_voted c view number i digest m h id (bodies.Snapshot b) e = absurd (none_is (ap (vote_in m.message.id) (sym e) ∙ h.is))
+prepare_voted c view number i digest m h id _ e = absurd (none_is (ap (vote_in m.message.id) (sym e) ∙ h.is))
 
 commit_voted : (c : Configuration) (view number i : ℕ) (digest : List ℕ) (m : CheckedMessage) → IsVoteAt c kinds.Commit view number m → m.message.id ≡ i → (body : Body) → m.message.body ≡ body
     → some_by i (λ b. same_fields (of_commit b) (fields view number digest)) (as_commit m.message body) ≡ is_digest digest (digest_in body)
@@ -115,13 +106,7 @@ commit_voted c view number i digest m h id (bodies.PrePrepare b) e = absurd (no 
 commit_voted c view number i digest m h id (bodies.Prepare b) e = absurd (no (ap kind_of (ap (vote_in m.message.id) (sym e) ∙ h.is) ∙ ap Some h.of_kind)) where
   no : Some kinds.Prepare ≡ Some kinds.Commit → ⊥
   no e = absurd cc
-commit_voted c view number i digest m h id (bodies.Request b) e = absurd (none_is (ap (vote_in m.message.id) (sym e) ∙ h.is))
-commit_voted c view number i digest m h id (bodies.Reply b) e = absurd (none_is (ap (vote_in m.message.id) (sym e) ∙ h.is))
-commit_voted c view number i digest m h id (bodies.Checkpoint b) e = absurd (none_is (ap (vote_in m.message.id) (sym e) ∙ h.is))
-commit_voted c view number i digest m h id (bodies.ViewChange b) e = absurd (none_is (ap (vote_in m.message.id) (sym e) ∙ h.is))
-commit_voted c view number i digest m h id (bodies.NewView b) e = absurd (none_is (ap (vote_in m.message.id) (sym e) ∙ h.is))
-commit_voted c view number i digest m h id (bodies.Fetch b) e = absurd (none_is (ap (vote_in m.message.id) (sym e) ∙ h.is))
-commit_voted c view number i digest m h id (bodies.Snapshot b) e = absurd (none_is (ap (vote_in m.message.id) (sym e) ∙ h.is))
+commit_voted c view number i digest m h id _ e = absurd (none_is (ap (vote_in m.message.id) (sym e) ∙ h.is))
 
 prepares_at : (c : Configuration) (view number i : ℕ) (digest : List ℕ) (o : Option CheckedMessage) → ((m : CheckedMessage) → o ≡ Some m → IsVoteAt c kinds.Prepare view number m × (m.message.id ≡ i))
     → some_by i (λ b. same_fields (of_prepare b) (fields view number digest)) (read_by as_prepare o) ≡ is_for digest o
@@ -191,21 +176,15 @@ proposes c view number m h (bodies.Prepare b) e = absurd (no (ap kind_of (ap (vo
 proposes c view number m h (bodies.Commit b) e = absurd (no (ap kind_of (ap (vote_in m.message.id) (sym e) ∙ h.is) ∙ ap Some h.of_kind)) where
   no : Some kinds.Commit ≡ Some kinds.PrePrepare → ⊥
   no e = absurd cc
-proposes c view number m h (bodies.Request b) e = absurd (none_is (ap (vote_in m.message.id) (sym e) ∙ h.is))
-proposes c view number m h (bodies.Reply b) e = absurd (none_is (ap (vote_in m.message.id) (sym e) ∙ h.is))
-proposes c view number m h (bodies.Checkpoint b) e = absurd (none_is (ap (vote_in m.message.id) (sym e) ∙ h.is))
-proposes c view number m h (bodies.ViewChange b) e = absurd (none_is (ap (vote_in m.message.id) (sym e) ∙ h.is))
-proposes c view number m h (bodies.NewView b) e = absurd (none_is (ap (vote_in m.message.id) (sym e) ∙ h.is))
-proposes c view number m h (bodies.Fetch b) e = absurd (none_is (ap (vote_in m.message.id) (sym e) ∙ h.is))
-proposes c view number m h (bodies.Snapshot b) e = absurd (none_is (ap (vote_in m.message.id) (sym e) ∙ h.is))
+proposes c view number m h _ e = absurd (none_is (ap (vote_in m.message.id) (sym e) ∙ h.is))
 
 -- the PrePrepare that the log has
-found_proposal : (c : Configuration) (hash : List ℕ → List ℕ) (l : Log) (view number : ℕ) (s : Slot) → IsConfiguration c → Represents c l view number s → (o : Option CheckedMessage) → s.pre_prepare ≡ o → ((m : CheckedMessage) → o ≡ Some m → IsVoteAt c kinds.PrePrepare view number m)
-    → proposal_in (setup c hash) l view number ≡ read_by as_pre_prepare o
-found_proposal c hash l view number s k h None e is =
+found_proposal : (c : Configuration) (l : Log) (view number : ℕ) (s : Slot) → IsConfiguration c → Represents c l view number s → (o : Option CheckedMessage) → s.pre_prepare ≡ o → ((m : CheckedMessage) → o ≡ Some m → IsVoteAt c kinds.PrePrepare view number m)
+    → proposal_in c l view number ≡ read_by as_pre_prepare o
+found_proposal c l view number s k h None e is =
     let p = view % replicas_for c.f in
     ap (if_passes (is_by p (has_position view number))) (h.pre_prepares p (primary_below c view k) ∙ ap (λ o. read_by as_pre_prepare (if_by p o)) e)
-found_proposal c hash l view number s k h (Some m) e is =
+found_proposal c l view number s k h (Some m) e is =
     let p = view % replicas_for c.f in
     let x = proposes c view number m (is m refl) m.message.body refl in
     ap (if_passes (is_by p (has_position view number))) (h.pre_prepares p (primary_below c view k) ∙ ap (λ o. read_by as_pre_prepare (if_by p o)) e
@@ -214,8 +193,8 @@ found_proposal c hash l view number s k h (Some m) e is =
     ∙ ap (λ b. if b then Some (with_body m.message x.body) else None) x.by_primary
     ∙ sym (ap (as_pre_prepare m.message) x.is)
 
-pub proposal_is : (c : Configuration) (hash : List ℕ → List ℕ) (l : Log) (view number : ℕ) (s : Slot) → IsConfiguration c → Represents c l view number s → proposal_in (setup c hash) l view number ≡ read_by as_pre_prepare s.pre_prepare
-proposal_is c hash l view number s k h = found_proposal c hash l view number s k h s.pre_prepare refl h.is.pre_prepare
+pub proposal_is : (c : Configuration) (l : Log) (view number : ℕ) (s : Slot) → IsConfiguration c → Represents c l view number s → proposal_in c l view number ≡ read_by as_pre_prepare s.pre_prepare
+proposal_is c l view number s k h = found_proposal c l view number s k h s.pre_prepare refl h.is.pre_prepare
 
 digest_read : (c : Configuration) (view number : ℕ) (o : Option CheckedMessage) → ((m : CheckedMessage) → o ≡ Some m → IsVoteAt c kinds.PrePrepare view number m) → option_map (λ m. m.body.digest) (read_by as_pre_prepare o) ≡ digest_of_some o
 digest_read c view number None is = refl
@@ -223,36 +202,36 @@ digest_read c view number (Some m) is =
     let x = proposes c view number m (is m refl) m.message.body refl in
     ap (λ b. option_map (λ m. m.body.digest) (as_pre_prepare m.message b)) x.is ∙ sym (ap digest_in x.is)
 
-pub digest_is : (c : Configuration) (hash : List ℕ → List ℕ) (l : Log) (view number : ℕ) (s : Slot) → IsConfiguration c → Represents c l view number s → digest_here s ≡ option_map (λ m. m.body.digest) (proposal_in (setup c hash) l view number)
-digest_is c hash l view number s k h = sym (ap (option_map (λ m. m.body.digest)) (proposal_is c hash l view number s k h) ∙ digest_read c view number s.pre_prepare h.is.pre_prepare)
+pub digest_is : (c : Configuration) (l : Log) (view number : ℕ) (s : Slot) → IsConfiguration c → Represents c l view number s → digest_here s ≡ option_map (λ m. m.body.digest) (proposal_in c l view number)
+digest_is c l view number s k h = sym (ap (option_map (λ m. m.body.digest)) (proposal_is c l view number s k h) ∙ digest_read c view number s.pre_prepare h.is.pre_prepare)
 
 equal_itself : (xs : List ℕ) → bytes_eq xs xs ≡ true
 equal_itself xs = (bytes_eq-Decides xs xs).1 refl
 
 -- ---- certified and committed
 
-is_certified_at : (c : Configuration) (hash : List ℕ → List ℕ) (l : Log) (view number : ℕ) (s : Slot) (digest : List ℕ) → IsConfiguration c → Represents c l view number s
+is_certified_at : (c : Configuration) (l : Log) (view number : ℕ) (s : Slot) (digest : List ℕ) → IsConfiguration c → Represents c l view number s
     → voted of_pre_prepare l.pre_prepares (fields view number digest) (view % replicas_for c.f) ≡ true
-    → is_certified_in (setup c hash) l (fields view number digest) ≡ certified (setup_of c) (λ i. true) (voted_for digest s.prepares) view
-is_certified_at c hash l view number s digest k h proposed =
+    → is_certified_in c l (fields view number digest) ≡ certified c (λ i. true) (voted_for digest s.prepares) view
+is_certified_at c l view number s digest k h proposed =
     let p = view % replicas_for c.f in
     ap (λ b. b && nat_le (2 * c.f) (count (λ i. not (i == p) && voted of_prepare l.prepares (fields view number digest) i) (replicas_for c.f))) proposed
     ∙ ap (nat_le (2 * c.f)) (same_count (λ i. not (i == p) && voted of_prepare l.prepares (fields view number digest) i) (λ i. not (i == p) && voted_for digest s.prepares i) (replicas_for c.f)
     (λ i lt. ap (λ b. not (i == p) && b) (prepared_by c l view number s digest h i (omega (arith, lt, k.max_faulty)))))
 
-quorum_at : (c : Configuration) (hash : List ℕ → List ℕ) (l : Log) (view number : ℕ) (s : Slot) (digest : List ℕ) → IsConfiguration c → Represents c l view number s
-    → has_quorum (setup c hash) (voted of_commit l.commits (fields view number digest)) ≡ has_quorum (setup_of c) (voted_for digest s.commits)
-quorum_at c hash l view number s digest k h =
+quorum_at : (c : Configuration) (l : Log) (view number : ℕ) (s : Slot) (digest : List ℕ) → IsConfiguration c → Represents c l view number s
+    → has_quorum c (voted of_commit l.commits (fields view number digest)) ≡ has_quorum c (voted_for digest s.commits)
+quorum_at c l view number s digest k h =
     ap (nat_le (2 * c.f + 1)) (same_count (voted of_commit l.commits (fields view number digest)) (voted_for digest s.commits) (replicas_for c.f)
     (λ i lt. committed_by c l view number s digest h i (omega (arith, lt, k.max_faulty))))
 
 -- what is asked of a recorded PrePrepare
-pub record Asked (c : Configuration) (hash : List ℕ → List ℕ) (l : Log) (view number : ℕ) (s : Slot) (m : CheckedMessage) : Type 0 where
+pub record Asked (c : Configuration) (l : Log) (view number : ℕ) (s : Slot) (m : CheckedMessage) : Type 0 where
   pub body : PrePrepare
   pub is : m.message.body ≡ bodies.PrePrepare body
   pub fields_are : of_pre_prepare body ≡ fields view number body.digest.0
-  pub certified_is : is_certified_in (setup c hash) l (of_pre_prepare body) ≡ is_certified_for c view s (Some body.digest)
-  pub quorum_is : has_quorum (setup c hash) (voted of_commit l.commits (of_pre_prepare body)) ≡ has_quorum (setup_of c) (voted_for body.digest.0 s.commits)
+  pub certified_is : is_certified_in c l (of_pre_prepare body) ≡ is_certified_for c view s (Some body.digest)
+  pub quorum_is : has_quorum c (voted of_commit l.commits (of_pre_prepare body)) ≡ has_quorum c (voted_for body.digest.0 s.commits)
 
 own_vote : (c : Configuration) (l : Log) (view number : ℕ) (s : Slot) (m : CheckedMessage) → IsConfiguration c → Represents c l view number s → s.pre_prepare ≡ Some m → (h : IsVoteAt c kinds.PrePrepare view number m) → (x : Proposes c view number m)
     → voted of_pre_prepare l.pre_prepares (fields view number x.body.digest.0) (view % replicas_for c.f) ≡ true
@@ -265,16 +244,16 @@ own_vote c l view number s m k h e is x =
     (replica_is m.message.role is.proper.role) (eq-eqb m.message.id p (proposer c view number m is)) (eq-eqb x.body.view.0 view x.view_is) (eq-eqb x.body.number.0 number x.number_is)
     ∙ equal_itself x.body.digest.0
 
-pub asked : (c : Configuration) (hash : List ℕ → List ℕ) (l : Log) (view number : ℕ) (s : Slot) (m : CheckedMessage) → IsConfiguration c → Represents c l view number s → s.pre_prepare ≡ Some m → IsVoteAt c kinds.PrePrepare view number m → Asked c hash l view number s m
-asked c hash l view number s m k h e is =
+pub asked : (c : Configuration) (l : Log) (view number : ℕ) (s : Slot) (m : CheckedMessage) → IsConfiguration c → Represents c l view number s → s.pre_prepare ≡ Some m → IsVoteAt c kinds.PrePrepare view number m → Asked c l view number s m
+asked c l view number s m k h e is =
     let x = proposes c view number m is m.message.body refl in
     let f : of_pre_prepare x.body ≡ fields view number x.body.digest.0 = λ i. record { view = x.view_is i; number = x.number_is i; digest = x.body.digest.0 } in
     record {
       body = x.body;
       is = x.is;
       fields_are = f;
-      certified_is = ap (is_certified_in (setup c hash) l) f ∙ is_certified_at c hash l view number s x.body.digest.0 k h (own_vote c l view number s m k h e is x);
-      quorum_is = ap (λ f. has_quorum (setup c hash) (voted of_commit l.commits f)) f ∙ quorum_at c hash l view number s x.body.digest.0 k h;
+      certified_is = ap (is_certified_in c l) f ∙ is_certified_at c l view number s x.body.digest.0 k h (own_vote c l view number s m k h e is x);
+      quorum_is = ap (λ f. has_quorum c (voted of_commit l.commits f)) f ∙ quorum_at c l view number s x.body.digest.0 k h;
     }
 
 -- the three questions, where the PrePrepare is this one
@@ -282,37 +261,37 @@ some_if : {X : Type 0} (b : Bool) (x : X) → is_some (if b then Some x else Non
 some_if true x = refl
 some_if false x = refl
 
-certified_with : (c : Configuration) (hash : List ℕ → List ℕ) (l : Log) (view number : ℕ) (s : Slot) → IsConfiguration c → Represents c l view number s → (o : Option CheckedMessage) → s.pre_prepare ≡ o
-    → is_some (if_certified (setup c hash) l (read_by as_pre_prepare o)) ≡ is_certified_for c view s (digest_of_some o)
-certified_with c hash l view number s k h None e = refl
-certified_with c hash l view number s k h (Some m) e =
-    let a = asked c hash l view number s m k h e (h.is.pre_prepare m e) in
-    ap (λ b. is_some (if_certified (setup c hash) l (as_pre_prepare m.message b))) a.is
-    ∙ some_if (is_certified_in (setup c hash) l (of_pre_prepare a.body)) (with_body m.message a.body)
+certified_with : (c : Configuration) (l : Log) (view number : ℕ) (s : Slot) → IsConfiguration c → Represents c l view number s → (o : Option CheckedMessage) → s.pre_prepare ≡ o
+    → is_some (if_certified c l (read_by as_pre_prepare o)) ≡ is_certified_for c view s (digest_of_some o)
+certified_with c l view number s k h None e = refl
+certified_with c l view number s k h (Some m) e =
+    let a = asked c l view number s m k h e (h.is.pre_prepare m e) in
+    ap (λ b. is_some (if_certified c l (as_pre_prepare m.message b))) a.is
+    ∙ some_if (is_certified_in c l (of_pre_prepare a.body)) (with_body m.message a.body)
     ∙ a.certified_is ∙ sym (ap (λ b. is_certified_for c view s (digest_in b)) a.is)
 
-pub certified_is : (c : Configuration) (hash : List ℕ → List ℕ) (l : Log) (view number : ℕ) (s : Slot) → IsConfiguration c → Represents c l view number s → is_certified_here c view s ≡ is_some (certified_at (setup c hash) l view number)
-certified_is c hash l view number s k h =
-    sym (ap (λ o. is_some (if_certified (setup c hash) l o)) (proposal_is c hash l view number s k h) ∙ certified_with c hash l view number s k h s.pre_prepare refl)
+pub certified_is : (c : Configuration) (l : Log) (view number : ℕ) (s : Slot) → IsConfiguration c → Represents c l view number s → is_certified_here c view s ≡ is_some (certified_at c l view number)
+certified_is c l view number s k h =
+    sym (ap (λ o. is_some (if_certified c l o)) (proposal_is c l view number s k h) ∙ certified_with c l view number s k h s.pre_prepare refl)
 
-committed_if : (c : Setup) (l : Log) (b : Bool) (m : Signed PrePrepare) → is_committed_by c l (if b then Some m else None) ≡ (b && has_quorum c (voted of_commit l.commits (of_pre_prepare m.body)))
+committed_if : (c : Configuration) (l : Log) (b : Bool) (m : Signed PrePrepare) → is_committed_by c l (if b then Some m else None) ≡ (b && has_quorum c (voted of_commit l.commits (of_pre_prepare m.body)))
 committed_if c l true m = refl
 committed_if c l false m = refl
 
-committed_with : (c : Configuration) (hash : List ℕ → List ℕ) (l : Log) (view number : ℕ) (s : Slot) → IsConfiguration c → Represents c l view number s → (o : Option CheckedMessage) → s.pre_prepare ≡ o
-    → is_committed_by (setup c hash) l (if_certified (setup c hash) l (read_by as_pre_prepare o)) ≡ is_committed_for c view s (digest_of_some o)
-committed_with c hash l view number s k h None e = refl
-committed_with c hash l view number s k h (Some m) e =
-    let a = asked c hash l view number s m k h e (h.is.pre_prepare m e) in
-    ap (λ b. is_committed_by (setup c hash) l (if_certified (setup c hash) l (as_pre_prepare m.message b))) a.is
-    ∙ committed_if (setup c hash) l (is_certified_in (setup c hash) l (of_pre_prepare a.body)) (with_body m.message a.body)
-    ∙ ap (λ b. b && has_quorum (setup c hash) (voted of_commit l.commits (of_pre_prepare a.body))) a.certified_is
+committed_with : (c : Configuration) (l : Log) (view number : ℕ) (s : Slot) → IsConfiguration c → Represents c l view number s → (o : Option CheckedMessage) → s.pre_prepare ≡ o
+    → is_committed_by c l (if_certified c l (read_by as_pre_prepare o)) ≡ is_committed_for c view s (digest_of_some o)
+committed_with c l view number s k h None e = refl
+committed_with c l view number s k h (Some m) e =
+    let a = asked c l view number s m k h e (h.is.pre_prepare m e) in
+    ap (λ b. is_committed_by c l (if_certified c l (as_pre_prepare m.message b))) a.is
+    ∙ committed_if c l (is_certified_in c l (of_pre_prepare a.body)) (with_body m.message a.body)
+    ∙ ap (λ b. b && has_quorum c (voted of_commit l.commits (of_pre_prepare a.body))) a.certified_is
     ∙ ap (λ b. is_certified_for c view s (Some a.body.digest) && b) a.quorum_is
     ∙ sym (ap (λ b. is_committed_for c view s (digest_in b)) a.is)
 
-pub committed_is : (c : Configuration) (hash : List ℕ → List ℕ) (l : Log) (view number : ℕ) (s : Slot) → IsConfiguration c → Represents c l view number s → is_committed_here c view s ≡ is_committed_at (setup c hash) l view number
-committed_is c hash l view number s k h =
-    sym (ap (λ o. is_committed_by (setup c hash) l (if_certified (setup c hash) l o)) (proposal_is c hash l view number s k h) ∙ committed_with c hash l view number s k h s.pre_prepare refl)
+pub committed_is : (c : Configuration) (l : Log) (view number : ℕ) (s : Slot) → IsConfiguration c → Represents c l view number s → is_committed_here c view s ≡ is_committed_at c l view number
+committed_is c l view number s k h =
+    sym (ap (λ o. is_committed_by c l (if_certified c l o)) (proposal_is c l view number s k h) ∙ committed_with c l view number s k h s.pre_prepare refl)
 
 -- ---- the slot that is asked for
 

@@ -21,7 +21,7 @@ use Rattle.ballots.specs.Ballots.{digest_in, is_for, least_votes, vote_at, voted
 use Rattle.quorum_log.specs.Log.{Log, backing, certificate_in, checked_certificate, if_certified, is_certified_in, as_checked}
 use Rattle.quorum_log.specs.Reading.{as_pre_prepare, as_prepare, read_by}
 use Rattle.quorum_log.specs.Slots.{IsVoteAt, certificate_for, certificate_here, certificate_with, digest_of_some, is_certified_for}
-use Rattle.quorum_log.proofs.Asking.{Asked, asked, fields, prepared_by, proposal_is, setup, unlisted}
+use Rattle.quorum_log.proofs.Asking.{Asked, asked, fields, prepared_by, proposal_is, unlisted}
 use Rattle.ballots.proofs.Counts.{same_count}
 use Rattle.quorum_log.proofs.KindReadings.{not_primary, prepare_is}
 use Rattle.ballots.proofs.Least.{append_nil, gathered_next}
@@ -83,9 +83,9 @@ one_backing c l view number s digest k h i lt true d e =
     ∙ ap (λ d. cond d (option_map (λ m. m.message) (vote_at s.prepares i)) None) e
 one_backing c l view number s digest k h i lt false d e = ap (λ d. cond d (option_map (λ m. m.message) (vote_at s.prepares i)) None) e
 
-backing_is : (c : Configuration) (hash : List ℕ → List ℕ) (l : Log) (view number : ℕ) (s : Slot) (digest : List ℕ) → IsConfiguration c → Represents c l view number s
-    → map (as_message bodies.Prepare) (backing (setup c hash) l (fields view number digest)) ≡ least_votes (2 * c.f) digest s.prepares
-backing_is c hash l view number s digest k h =
+backing_is : (c : Configuration) (l : Log) (view number : ℕ) (s : Slot) (digest : List ℕ) → IsConfiguration c → Represents c l view number s
+    → map (as_message bodies.Prepare) (backing c l (fields view number digest)) ≡ least_votes (2 * c.f) digest s.prepares
+backing_is c l view number s digest k h =
     let test : ℕ → Bool = λ i. not (i == view % replicas_for c.f) && voted of_prepare l.prepares (fields view number digest) i in
     let sum : (10 - replicas_for c.f) + replicas_for c.f ≡ 10 = omega (arith, k.max_faulty) in
     let value : ℕ → Option (Signed Body) = λ i. option_map (λ m. m.message) (vote_at s.prepares i) in
@@ -98,31 +98,31 @@ backing_is c hash l view number s digest k h =
 
 -- ---- the certificate
 
-checked_if : (c : Configuration) (hash : List ℕ → List ℕ) (l : Log) (b : Bool) (m : Signed PrePrepare) → option_map (λ m. as_checked c (certificate_in (setup c hash) l m)) (if b then Some m else None) ≡ cond b (Some (as_checked c (certificate_in (setup c hash) l m))) None
-checked_if c hash l true m = refl
-checked_if c hash l false m = refl
+checked_if : (c : Configuration) (l : Log) (b : Bool) (m : Signed PrePrepare) → option_map (λ m. as_checked c (certificate_in c l m)) (if b then Some m else None) ≡ cond b (Some (as_checked c (certificate_in c l m))) None
+checked_if c l true m = refl
+checked_if c l false m = refl
 
-same_checked : (c : Configuration) (hash : List ℕ → List ℕ) (l : Log) (view number : ℕ) (s : Slot) (m : CheckedMessage) → IsConfiguration c → Represents c l view number s → IsVoteAt c kinds.PrePrepare view number m → (a : Asked c hash l view number s m)
-    → as_checked c (certificate_in (setup c hash) l (with_body m.message a.body)) ≡ certificate_with c s m a.body.digest
-same_checked c hash l view number s m k h is a =
-    let prepares = ap (λ f. map (as_message bodies.Prepare) (backing (setup c hash) l f)) a.fields_are ∙ backing_is c hash l view number s a.body.digest.0 k h in
+same_checked : (c : Configuration) (l : Log) (view number : ℕ) (s : Slot) (m : CheckedMessage) → IsConfiguration c → Represents c l view number s → IsVoteAt c kinds.PrePrepare view number m → (a : Asked c l view number s m)
+    → as_checked c (certificate_in c l (with_body m.message a.body)) ≡ certificate_with c s m a.body.digest
+same_checked c l view number s m k h is a =
+    let prepares = ap (λ f. map (as_message bodies.Prepare) (backing c l f)) a.fields_are ∙ backing_is c l view number s a.body.digest.0 k h in
     λ i. record {
       pre_prepare = record { config = sym is.config i; message = record { role = m.message.role; id = m.message.id; body = sym a.is i; sig = m.message.sig } };
       prepares = record { config = c; messages = prepares i };
     }
 
-certificate_of : (c : Configuration) (hash : List ℕ → List ℕ) (l : Log) (view number : ℕ) (s : Slot) → IsConfiguration c → Represents c l view number s → (o : Option CheckedMessage) → s.pre_prepare ≡ o
-    → option_map (λ m. as_checked c (certificate_in (setup c hash) l m)) (if_certified (setup c hash) l (read_by as_pre_prepare o)) ≡ cond (is_certified_for c view s (digest_of_some o)) (certificate_for c s o (digest_of_some o)) None
-certificate_of c hash l view number s k h None e = refl
-certificate_of c hash l view number s k h (Some m) e =
+certificate_of : (c : Configuration) (l : Log) (view number : ℕ) (s : Slot) → IsConfiguration c → Represents c l view number s → (o : Option CheckedMessage) → s.pre_prepare ≡ o
+    → option_map (λ m. as_checked c (certificate_in c l m)) (if_certified c l (read_by as_pre_prepare o)) ≡ cond (is_certified_for c view s (digest_of_some o)) (certificate_for c s o (digest_of_some o)) None
+certificate_of c l view number s k h None e = refl
+certificate_of c l view number s k h (Some m) e =
     let is = h.is.pre_prepare m e in
-    let a = asked c hash l view number s m k h e is in
-    ap (λ b. option_map (λ m. as_checked c (certificate_in (setup c hash) l m)) (if_certified (setup c hash) l (as_pre_prepare m.message b))) a.is
-    ∙ checked_if c hash l (is_certified_in (setup c hash) l (of_pre_prepare a.body)) (with_body m.message a.body)
-    ∙ ap (λ b. cond b (Some (as_checked c (certificate_in (setup c hash) l (with_body m.message a.body)))) None) a.certified_is
-    ∙ ap (λ x. cond (is_certified_for c view s (Some a.body.digest)) (Some x) None) (same_checked c hash l view number s m k h is a)
+    let a = asked c l view number s m k h e is in
+    ap (λ b. option_map (λ m. as_checked c (certificate_in c l m)) (if_certified c l (as_pre_prepare m.message b))) a.is
+    ∙ checked_if c l (is_certified_in c l (of_pre_prepare a.body)) (with_body m.message a.body)
+    ∙ ap (λ b. cond b (Some (as_checked c (certificate_in c l (with_body m.message a.body)))) None) a.certified_is
+    ∙ ap (λ x. cond (is_certified_for c view s (Some a.body.digest)) (Some x) None) (same_checked c l view number s m k h is a)
     ∙ sym (ap (λ b. cond (is_certified_for c view s (digest_in b)) (certificate_for c s (Some m) (digest_in b)) None) a.is)
 
-pub certificate_is : (c : Configuration) (hash : List ℕ → List ℕ) (l : Log) (view number : ℕ) (s : Slot) → IsConfiguration c → Represents c l view number s → certificate_here c view s ≡ checked_certificate (setup c hash) l view number
-certificate_is c hash l view number s k h =
-    sym (ap (λ o. option_map (λ m. as_checked c (certificate_in (setup c hash) l m)) (if_certified (setup c hash) l o)) (proposal_is c hash l view number s k h) ∙ certificate_of c hash l view number s k h s.pre_prepare refl)
+pub certificate_is : (c : Configuration) (l : Log) (view number : ℕ) (s : Slot) → IsConfiguration c → Represents c l view number s → certificate_here c view s ≡ checked_certificate c l view number
+certificate_is c l view number s k h =
+    sym (ap (λ o. option_map (λ m. as_checked c (certificate_in c l m)) (if_certified c l o)) (proposal_is c l view number s k h) ∙ certificate_of c l view number s k h s.pre_prepare refl)

@@ -5,18 +5,18 @@ use Rattle.std.specs.Ordering.{nat_cmp, eq_by_cmp, is_eq}
 use Rattle.std.specs.Cmp.Lexicographic.{slice_cmp}
 use Rattle.std.specs.Option.{unwrap_or}
 use Rattle.std.specs.BTreeMap as tree
-use Rattle.std.proofs.lemmas.Bool.{cases_Bool, cases_eq, cases_lt}
+use Rattle.std.proofs.lemmas.Bool.{cases_Bool, cases_eq, cases_lt, lt-ltb, le-ltb}
 use Rattle.seal.specs.declared.vote.VoteKind.{VoteKind}
 use Rattle.seal.specs.declared.vote.VoteKind.TheVariants.{PrePrepare, Prepare, Commit}
 use Rattle.pbft_model.specs.Tables.{Key}
 use Rattle.quorum_log.specs.declared.view_slots.ViewSlots.{ViewSlots}
 use Rattle.quorum_log.specs.declared.slot.Slot.{Slot}
-use Rattle.quorum_log.specs.Slots.{empty_slot}
-use Rattle.quorum_log.specs.Windows.{is_among, slots_at, slot_of, vote_by, vote_at_key, keys_by_signer, keys_by_view, keys_by_number, Covers}
+use Rattle.quorum_log.specs.Slots.{empty_slot, IsSlotAt}
+use Rattle.quorum_log.specs.Windows.{slots_at, slot_of, vote_by, vote_at_key, keys_by_signer, keys_by_view, keys_by_number}
+use Rattle.ballots.specs.ByKey.{is_among, Covers}
 use Rattle.ballots.proofs.Ballots.{nobody}
-use Rattle.quorum_log.proofs.Tables.{ties, is_equal, is_read_off}
+use Rattle.ballots.proofs.Tables.{among_append, ties, is_equal, is_read_off}
 use Rattle.quorum_log.proofs.Slots.{slot_none}
-use Rattle.quorum_log.specs.Slots.{IsSlotAt}
 use Rattle.quorum_log.specs.Log.{start}
 use Rattle.quorum_log.specs.Reading.{read_by, table_of, log_in, AreKept, as_pre_prepare, as_prepare, as_commit}
 use Rattle.host_types.specs.Configuration.{Configuration}
@@ -25,7 +25,6 @@ use Rattle.pbft_model.specs.Words.{Signed}
 use Rattle.seal.specs.Opening.{CheckedMessage}
 use Rattle.std.specs.Map.{keys_of, lookup}
 use Rattle.std.specs.FinMap.{nat_cmp-IsAntisymmetric}
-use Rattle.std.proofs.lemmas.Bool.{lt-ltb, le-ltb}
 
 pub left_false : (a b : Bool) → (a || b) ≡ false → a ≡ false
 left_false true b e = absurd cc
@@ -34,13 +33,6 @@ left_false false b e = refl
 pub right_false : (a b : Bool) → (a || b) ≡ false → b ≡ false
 right_false true b e = absurd cc
 right_false false b e = e
-
-pub among_append : (q : Key) (ks others : List Key) → is_among q (ks ++ others) ≡ (is_among q ks || is_among q others)
-among_append q [] others = refl
-among_append q (k ∷ ks) others = step (eq_by_cmp (slice_cmp nat_cmp) q k) (among_append q ks others) where
-  step : (b : Bool) → is_among q (ks ++ others) ≡ (is_among q ks || is_among q others) → (b || is_among q (ks ++ others)) ≡ ((b || is_among q ks) || is_among q others)
-  step true e = refl
-  step false e = e
 
 not_among_left : (q : Key) (ks others : List Key) → is_among q (ks ++ others) ≡ false → is_among q ks ≡ false
 not_among_left q ks others e = left_false (is_among q ks) (is_among q others) (sym (among_append q ks others) ∙ e)

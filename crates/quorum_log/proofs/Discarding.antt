@@ -17,7 +17,7 @@ use Rattle.quorum_log.specs.Log.{Log, KeptLog, start, discarded}
 use Rattle.quorum_log.specs.Reading.{read_by, table_of, log_in, AreKept, as_pre_prepare, as_prepare, as_commit}
 use Rattle.quorum_log.proofs.Covering.{covers_table, no_vote, slot_kept, empty_log}
 use Rattle.quorum_log.proofs.Slots.{slot_none}
-use Rattle.quorum_log.proofs.Tables.{kept_table}
+use Rattle.ballots.proofs.Tables.{kept_table}
 
 pub kept_is : (c d : Configuration) (l m : Log) → c ≡ d → l ≡ m → ◌≡◌ {A = KeptLog} (record { config = c; log = l }) (record { config = d; log = m })
 kept_is c d l m e f = λ i. record { config = e i; log = f i }

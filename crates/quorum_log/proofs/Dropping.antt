@@ -7,7 +7,7 @@ use Rattle.std.specs.Map.{lookup}
 use Rattle.std.specs.FinMap.{nat_cmp-IsAntisymmetric}
 use Rattle.std.proofs.lemmas.Map.Entries.{lookup-filter-keys}
 use Rattle.quorum_log.specs.declared.slot.Slot.{Slot}
-use Rattle.quorum_log.proofs.Tables.{is_equal}
+use Rattle.ballots.proofs.Tables.{is_equal}
 
 pub found_kept : (view : ℕ) (keeps : Bool) (v : ℕ) (old new : tree.BTreeMap ℕ Slot) → new.entries ≡ filter (λ e. nat_lt view e.0 || ((e.0 == view) && keeps)) old.entries
     → tree.get nat_cmp new v ≡ cond (nat_lt view v || ((v == view) && keeps)) (tree.get nat_cmp old v) None

@@ -30,7 +30,7 @@ use Rattle.quorum_log.proofs.Accepting.{apart_keys, not_tied, number_of, signer_
 use Rattle.quorum_log.proofs.Covering.{covers_table, no_vote}
 use Rattle.quorum_log.proofs.EnteringSlots.{none_past}
 use Rattle.quorum_log.proofs.Slots.{slot_none}
-use Rattle.quorum_log.proofs.Tables.{at_add, by, found, kept_table, same_key, ties}
+use Rattle.ballots.proofs.Tables.{at_add, by, found, kept_table, same_key, ties}
 use Rattle.quorum_log.proofs.Windows.{beyond}
 
 -- ---- the slots

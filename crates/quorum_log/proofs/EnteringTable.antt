@@ -23,7 +23,7 @@ use Rattle.quorum_log.specs.Slots.{empty_slot}
 use Rattle.quorum_log.specs.Windows.{if_by, keys_by_number, slot_of, vote_at_key, vote_by}
 use Rattle.quorum_log.proofs.Covering.{covers_table}
 use Rattle.quorum_log.proofs.KindReadings.{voter_small}
-use Rattle.quorum_log.proofs.Tables.{by, is_read_off, sorted_add, sorted_by}
+use Rattle.ballots.proofs.Tables.{by, is_read_off, sorted_add, sorted_by}
 use Rattle.quorum_log.proofs.EnteringLog.{Given, Table_before, Where, inside, outside, listed, other, added_one, as_many, before_at, before_free, both_above, commit_entered, element_at, equal_other, given_is, inside_slot, listed_key, map_length, none_either, numbered, offered_at_number, other_key, prepare_entered, proposal_at, proposal_entered, proposal_vote, read_if, read_listed, stays_table, top_of, where_is, with_others}
 
 -- ---- where the list has one

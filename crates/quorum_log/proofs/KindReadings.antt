@@ -17,10 +17,10 @@ use Rattle.seal.specs.declared.vote.Vote.{Vote}
 use Rattle.seal.specs.declared.vote.VoteKind.{VoteKind}
 use Rattle.seal.specs.declared.vote.VoteKind.TheVariants.{PrePrepare, Prepare, Commit}
 use Rattle.quorum_log.specs.declared.slot.Slot.{Slot}
-use Rattle.ballots.specs.Ballots.{digest_in, is_digest}
+use Rattle.ballots.specs.Ballots.{digest_in, is_digest, is_for_other, first_of}
 use Rattle.quorum_log.specs.Log.{is_other}
 use Rattle.quorum_log.specs.Reading.{as_pre_prepare, as_prepare, as_commit, read_by}
-use Rattle.quorum_log.specs.Slots.{IsVoteAt, IsSlotAt, is_for_other, met_by, first_of, with_vote}
+use Rattle.quorum_log.specs.Slots.{IsVoteAt, IsSlotAt, met_by, with_vote}
 use Rattle.quorum_log.specs.Windows.{if_by, vote_by}
 use Rattle.quorum_log.proofs.Recording.{AfterFirst}
 
@@ -41,13 +41,7 @@ signer_is id (bodies.Prepare b) v e = the_same (ap signer_in e) where
 signer_is id (bodies.Commit b) v e = the_same (ap signer_in e) where
   the_same : Some id ≡ Some v.signer.0 → v.signer.0 ≡ id
   the_same e = cc
-signer_is id (bodies.Request b) v e = absurd cc
-signer_is id (bodies.Reply b) v e = absurd cc
-signer_is id (bodies.Checkpoint b) v e = absurd cc
-signer_is id (bodies.ViewChange b) v e = absurd cc
-signer_is id (bodies.NewView b) v e = absurd cc
-signer_is id (bodies.Fetch b) v e = absurd cc
-signer_is id (bodies.Snapshot b) v e = absurd cc
+signer_is id _ v e = absurd cc
 
 -- What a vote of its kind reads as: it has a reading, and that one's digest is the vote's.
 record ReadsAs {B : Type 0} (of : List ℕ → Option (Signed B) → Bool) (body : Body) (o : Option (Signed B)) : Type 0 where
@@ -66,37 +60,19 @@ pre_prepare_reads : (m : Signed Body) (body : Body) (v : Vote) → vote_in m.id 
 pre_prepare_reads m (bodies.PrePrepare b) v e f = record { reads = refl; other = λ digest. refl }
 pre_prepare_reads m (bodies.Prepare b) v e f = wrong v Prepare PrePrepare (ap kind_of e) f (λ e. absurd cc)
 pre_prepare_reads m (bodies.Commit b) v e f = wrong v Commit PrePrepare (ap kind_of e) f (λ e. absurd cc)
-pre_prepare_reads m (bodies.Request b) v e f = absurd cc
-pre_prepare_reads m (bodies.Reply b) v e f = absurd cc
-pre_prepare_reads m (bodies.Checkpoint b) v e f = absurd cc
-pre_prepare_reads m (bodies.ViewChange b) v e f = absurd cc
-pre_prepare_reads m (bodies.NewView b) v e f = absurd cc
-pre_prepare_reads m (bodies.Fetch b) v e f = absurd cc
-pre_prepare_reads m (bodies.Snapshot b) v e f = absurd cc
+pre_prepare_reads m _ v e f = absurd cc
 
 prepare_reads : (m : Signed Body) (body : Body) (v : Vote) → vote_in m.id body ≡ Some v → v.kind ≡ Prepare → ReadsAs (is_other of_prepare) body (as_prepare m body)
 prepare_reads m (bodies.Prepare b) v e f = record { reads = refl; other = λ digest. refl }
 prepare_reads m (bodies.PrePrepare b) v e f = wrong v PrePrepare Prepare (ap kind_of e) f (λ e. absurd cc)
 prepare_reads m (bodies.Commit b) v e f = wrong v Commit Prepare (ap kind_of e) f (λ e. absurd cc)
-prepare_reads m (bodies.Request b) v e f = absurd cc
-prepare_reads m (bodies.Reply b) v e f = absurd cc
-prepare_reads m (bodies.Checkpoint b) v e f = absurd cc
-prepare_reads m (bodies.ViewChange b) v e f = absurd cc
-prepare_reads m (bodies.NewView b) v e f = absurd cc
-prepare_reads m (bodies.Fetch b) v e f = absurd cc
-prepare_reads m (bodies.Snapshot b) v e f = absurd cc
+prepare_reads m _ v e f = absurd cc
 
 commit_reads : (m : Signed Body) (body : Body) (v : Vote) → vote_in m.id body ≡ Some v → v.kind ≡ Commit → ReadsAs (is_other of_commit) body (as_commit m body)
 commit_reads m (bodies.Commit b) v e f = record { reads = refl; other = λ digest. refl }
 commit_reads m (bodies.PrePrepare b) v e f = wrong v PrePrepare Commit (ap kind_of e) f (λ e. absurd cc)
 commit_reads m (bodies.Prepare b) v e f = wrong v Prepare Commit (ap kind_of e) f (λ e. absurd cc)
-commit_reads m (bodies.Request b) v e f = absurd cc
-commit_reads m (bodies.Reply b) v e f = absurd cc
-commit_reads m (bodies.Checkpoint b) v e f = absurd cc
-commit_reads m (bodies.ViewChange b) v e f = absurd cc
-commit_reads m (bodies.NewView b) v e f = absurd cc
-commit_reads m (bodies.Fetch b) v e f = absurd cc
-commit_reads m (bodies.Snapshot b) v e f = absurd cc
+commit_reads m _ v e f = absurd cc
 
 -- the same of a recorded vote, if there is one
 pub record ReadsAll {B : Type 0} (pick : Signed Body → Body → Option (Signed B)) (of : List ℕ → Option (Signed B) → Bool) (own : Option CheckedMessage) : Type 0 where
@@ -187,10 +163,4 @@ pub prepare_is : (c : Configuration) (view number : ℕ) (m : CheckedMessage) �
 prepare_is c view number m h (bodies.Prepare b) e = λ i. Some (record { role = m.message.role; id = m.message.id; body = sym e i; sig = m.message.sig })
 prepare_is c view number m h (bodies.PrePrepare b) e = wrong h.vote PrePrepare Prepare (ap kind_of (ap (vote_in m.message.id) (sym e) ∙ h.is)) h.of_kind (λ e. absurd cc)
 prepare_is c view number m h (bodies.Commit b) e = wrong h.vote Commit Prepare (ap kind_of (ap (vote_in m.message.id) (sym e) ∙ h.is)) h.of_kind (λ e. absurd cc)
-prepare_is c view number m h (bodies.Request b) e = absurd (none_vote (ap (vote_in m.message.id) (sym e) ∙ h.is))
-prepare_is c view number m h (bodies.Reply b) e = absurd (none_vote (ap (vote_in m.message.id) (sym e) ∙ h.is))
-prepare_is c view number m h (bodies.Checkpoint b) e = absurd (none_vote (ap (vote_in m.message.id) (sym e) ∙ h.is))
-prepare_is c view number m h (bodies.ViewChange b) e = absurd (none_vote (ap (vote_in m.message.id) (sym e) ∙ h.is))
-prepare_is c view number m h (bodies.NewView b) e = absurd (none_vote (ap (vote_in m.message.id) (sym e) ∙ h.is))
-prepare_is c view number m h (bodies.Fetch b) e = absurd (none_vote (ap (vote_in m.message.id) (sym e) ∙ h.is))
-prepare_is c view number m h (bodies.Snapshot b) e = absurd (none_vote (ap (vote_in m.message.id) (sym e) ∙ h.is))
+prepare_is c view number m h _ e = absurd (none_vote (ap (vote_in m.message.id) (sym e) ∙ h.is))

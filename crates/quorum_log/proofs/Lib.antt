@@ -1,6 +1,5 @@
 pub mod Slots
 pub mod Windows
-pub mod Tables
 pub mod Covering
 pub mod Discarding
 pub mod Recording
@@ -15,3 +14,5 @@ pub mod EnteringLog
 pub mod EnteringTable
 pub mod Naming
 pub mod Standing
+pub use Rattle.ballots.proofs.Least
+pub use Rattle.ballots.proofs.Tables

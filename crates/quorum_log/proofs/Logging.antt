@@ -20,14 +20,15 @@ use Rattle.quorum_log.specs.declared.fault.LogFault.TheVariants as faults
 use Rattle.quorum_log.specs.declared.view_slots.ViewSlots.{ViewSlots}
 use Rattle.quorum_log.specs.Log.{KeptLog, accepted, vote_fault, is_other, is_within, IsRefusedFor}
 use Rattle.quorum_log.specs.Reading.{AreKept, as_pre_prepare, as_prepare, as_commit, read_by, table_of, log_in, position_fault}
-use Rattle.quorum_log.specs.Slots.{IsVoteAt, IsSlotAt, IsRefusal, empty_slot, is_for_other, met_by, with_vote}
+use Rattle.quorum_log.specs.Slots.{IsVoteAt, IsSlotAt, IsRefusal, empty_slot, met_by, with_vote}
+use Rattle.ballots.specs.Ballots.{is_for_other}
 use Rattle.quorum_log.specs.Windows.{HasSlotAt, HaveSameWindows, slots_at, slot_of, vote_by, vote_at_key, keys_by_number}
 use Rattle.quorum_log.proofs.Accepting.{slot_here, slot_was, slot_apart, vote_key_at, table_of_other, same_table_of, table_with}
 use Rattle.quorum_log.proofs.Covering.{covers_table}
 use Rattle.quorum_log.proofs.KindReadings.{read_pre_prepare, read_prepare, read_commit, pre_prepare_with, met_pre_prepare}
 use Rattle.quorum_log.proofs.Recording.{prepare_with, commit_with}
 use Rattle.quorum_log.proofs.Slots.{slot_after}
-use Rattle.quorum_log.proofs.Tables.{found}
+use Rattle.ballots.proofs.Tables.{found}
 
 -- ---- the vote of a body
 
@@ -145,13 +146,7 @@ by_body c view floor low m v numbers news h id r (bodies.Prepare b) e is =
     let r = of_body (IsRecorded c low m numbers news) _ v is r in prepare_recorded c view floor low m b numbers news h r.0 e r.1 id r.2
 by_body c view floor low m v numbers news h id r (bodies.Commit b) e is =
     let r = of_body (IsRecorded c low m numbers news) _ v is r in commit_recorded c view floor low m b numbers news h r.0 e r.1 id r.2
-by_body c view floor low m v numbers news h id r (bodies.Request b) e is = absurd cc
-by_body c view floor low m v numbers news h id r (bodies.Reply b) e is = absurd cc
-by_body c view floor low m v numbers news h id r (bodies.Checkpoint b) e is = absurd cc
-by_body c view floor low m v numbers news h id r (bodies.ViewChange b) e is = absurd cc
-by_body c view floor low m v numbers news h id r (bodies.NewView b) e is = absurd cc
-by_body c view floor low m v numbers news h id r (bodies.Fetch b) e is = absurd cc
-by_body c view floor low m v numbers news h id r (bodies.Snapshot b) e is = absurd cc
+by_body c view floor low m v numbers news h id r _ e is = absurd cc
 
 pub recorded_log : (c : Configuration) (view : ℕ) (floor : Option SeqNo) (low : ℕ) (m : CheckedMessage) (v : Vote) (numbers news : List ViewSlots) → AreKept c low numbers → m.message.id < 10 → IsVoteAt c v.kind v.view.0 v.number.0 m → low < v.number.0 → Records v m low numbers news
     → vote_of m.message ≡ Some v → log_in view floor low news ≡ accepted (log_in view floor low numbers) m.message m.message.body
@@ -216,13 +211,7 @@ fault_by_body c view floor low m v numbers h id at (bodies.Commit b) e is =
     ∙ (read_commit c b.view.0 b.number.0 own (λ x f. (kept.commits m.message.id x f).0)).other b.digest.0 in
     three (nat_lt b.view.0 view) (is_within c l b.view.0 b.number.0) _
     ∙ ap (either_fault (position_fault c l w)) other ∙ ap (λ v. either_fault (position_fault c l v) (met_in low numbers m v)) (vote_is w v is)
-fault_by_body c view floor low m v numbers h id at (bodies.Request b) e is = absurd cc
-fault_by_body c view floor low m v numbers h id at (bodies.Reply b) e is = absurd cc
-fault_by_body c view floor low m v numbers h id at (bodies.Checkpoint b) e is = absurd cc
-fault_by_body c view floor low m v numbers h id at (bodies.ViewChange b) e is = absurd cc
-fault_by_body c view floor low m v numbers h id at (bodies.NewView b) e is = absurd cc
-fault_by_body c view floor low m v numbers h id at (bodies.Fetch b) e is = absurd cc
-fault_by_body c view floor low m v numbers h id at (bodies.Snapshot b) e is = absurd cc
+fault_by_body c view floor low m v numbers h id at _ e is = absurd cc
 
 pub fault_is : (c : Configuration) (view : ℕ) (floor : Option SeqNo) (low : ℕ) (m : CheckedMessage) (v : Vote) (numbers : List ViewSlots) → AreKept c low numbers → m.message.id < 10 → IsVoteAt c v.kind v.view.0 v.number.0 m → vote_of m.message ≡ Some v
     → vote_fault c (log_in view floor low numbers) m.message m.message.body ≡ either_fault (position_fault c (log_in view floor low numbers) v) (met_in low numbers m v)

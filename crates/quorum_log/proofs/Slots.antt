@@ -1,10 +1,9 @@
 -- What is recorded for one number in one view, after one more vote.
 use Rattle.std.proofs.Common.{◌≡◌, ◌≢◌, ℕ, Bool, true, false, cond, List, Option, Some, None, refl, sym, ap, subst, ◌∙◌, ◌⊎◌, inl, inr}
-use Rattle.std.specs.Prelude.{is_some, length, replicate}
+use Rattle.std.specs.Prelude.{is_some, length, replicate, Result, Ok, Err, IfErr}
 use Rattle.std.proofs.lemmas.Bool.{cases_eq, cases_lt}
 use Rattle.std.proofs.lemmas.List.{get_or-set_other, length-set}
 use Rattle.std.specs.Option.{unwrap_or}
-use Rattle.std.specs.Prelude.{Result, Ok, Err, IfErr}
 use Rattle.std.specs.Result.{IsErrAnd}
 use Rattle.quorum_log.specs.declared.fault.LogFault.{LogFault}
 use Rattle.quorum_log.specs.declared.fault.LogFault.TheVariants.{Memory}
@@ -13,8 +12,8 @@ use Rattle.seal.specs.Opening.{CheckedMessage}
 use Rattle.seal.specs.declared.vote.VoteKind.{VoteKind}
 use Rattle.seal.specs.declared.vote.VoteKind.TheVariants.{PrePrepare, Prepare, Commit}
 use Rattle.quorum_log.specs.declared.slot.Slot.{Slot}
-use Rattle.ballots.specs.Ballots.{Ballot, vote_at, recorded}
-use Rattle.quorum_log.specs.Slots.{IsVoteAt, AreVotesAt, IsSlotAt, IsRefusal, met_by, is_for_other, first_of, with_vote, empty_slot}
+use Rattle.ballots.specs.Ballots.{Ballot, vote_at, recorded, is_for_other, first_of}
+use Rattle.quorum_log.specs.Slots.{IsVoteAt, AreVotesAt, IsSlotAt, IsRefusal, met_by, with_vote, empty_slot}
 use Rattle.ballots.proofs.Ballots.{nobody, own_vote}
 
 pub no_other : (digest : List ℕ) (kind : VoteKind) (signer : ℕ) → is_for_other digest (met_by kind signer empty_slot) ≡ false

@@ -31,7 +31,7 @@ use Rattle.quorum_log.proofs.Asking.{Proposes, proposes}
 use Rattle.quorum_log.proofs.Covering.{covers_table, either_none, left_false, right_false, no_vote}
 use Rattle.quorum_log.proofs.KindReadings.{voter_small}
 use Rattle.quorum_log.proofs.Logging.{read_at}
-use Rattle.quorum_log.proofs.Tables.{by, found, same_key, is_equal, sorted_by, ties}
+use Rattle.ballots.proofs.Tables.{by, found, same_key, is_equal, sorted_by, ties}
 use Rattle.quorum_log.proofs.Windows.{beyond}
 
 -- ---- the entries of a table

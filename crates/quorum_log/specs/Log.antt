@@ -7,7 +7,7 @@ use Rattle.pbft_model.specs.Words.{Signed, PrePrepare, Prepare, Commit, Certific
 use Rattle.pbft_model.specs.Acts.{is_of_entered, with_body}
 use Rattle.pbft_model.specs.Certificates.{certified, has_quorum, is_by, voted, Fields, of_pre_prepare, of_prepare, of_commit}
 use Rattle.pbft_model.specs.Core.{Core, floor_in, if_passes, has_position}
-use Rattle.pbft_model.specs.Setup.{Setup, gathered, is_least, primary, replicas}
+use Rattle.pbft_model.specs.Setup.{gathered, is_least, primary, replicas}
 use Rattle.pbft_model.specs.Tables.{Key, Table, at, add_if, keep, vote_key, first_in, is_above}
 use Rattle.std.specs.Option.{option_map}
 use Rattle.std.specs.List.{filter_map}
@@ -71,25 +71,13 @@ abbrev pub vote_fault : Configuration → Log → Signed Body → Body → Optio
 vote_fault c l m (bodies.PrePrepare b) = fault_in of_pre_prepare l.pre_prepares c l (with_body m b)
 vote_fault c l m (bodies.Prepare b) = fault_in of_prepare l.prepares c l (with_body m b)
 vote_fault c l m (bodies.Commit b) = fault_in of_commit l.commits c l (with_body m b)
-vote_fault c l m (bodies.Request b) = None
-vote_fault c l m (bodies.Reply b) = None
-vote_fault c l m (bodies.Checkpoint b) = None
-vote_fault c l m (bodies.ViewChange b) = None
-vote_fault c l m (bodies.NewView b) = None
-vote_fault c l m (bodies.Fetch b) = None
-vote_fault c l m (bodies.Snapshot b) = None
+vote_fault c l m _ = None
 
 abbrev pub accepted : Log → Signed Body → Body → Log
 accepted l m (bodies.PrePrepare b) = record l { pre_prepares = added of_pre_prepare (with_body m b) l.pre_prepares }
 accepted l m (bodies.Prepare b) = record l { prepares = added of_prepare (with_body m b) l.prepares }
 accepted l m (bodies.Commit b) = record l { commits = added of_commit (with_body m b) l.commits }
-accepted l m (bodies.Request b) = l
-accepted l m (bodies.Reply b) = l
-accepted l m (bodies.Checkpoint b) = l
-accepted l m (bodies.ViewChange b) = l
-accepted l m (bodies.NewView b) = l
-accepted l m (bodies.Fetch b) = l
-accepted l m (bodies.Snapshot b) = l
+accepted l m _ = l
 
 -- A vote is refused for this fault; where it has none, only for lack of memory.
 abbrev pub IsRefusedFor : Option LogFault → LogFault → Type 0
@@ -117,15 +105,7 @@ AreProposals view number (m ∷ ms) = IsProposal view number m × AreProposals v
 
 abbrev pub as_pre_prepare : Signed Body → Body → Option (Signed PrePrepare)
 as_pre_prepare m (bodies.PrePrepare b) = Some (with_body m b)
-as_pre_prepare m (bodies.Prepare b) = None
-as_pre_prepare m (bodies.Commit b) = None
-as_pre_prepare m (bodies.Request b) = None
-as_pre_prepare m (bodies.Reply b) = None
-as_pre_prepare m (bodies.Checkpoint b) = None
-as_pre_prepare m (bodies.ViewChange b) = None
-as_pre_prepare m (bodies.NewView b) = None
-as_pre_prepare m (bodies.Fetch b) = None
-as_pre_prepare m (bodies.Snapshot b) = None
+as_pre_prepare m _ = None
 
 -- the PrePrepares among messages
 abbrev pub pre_prepares_in : List (Signed Body) → List (Signed PrePrepare)
@@ -180,33 +160,33 @@ pub record AreBetweenMarks (k : KeptLog) : Type 0 where
   pub commits : (key : Key) → IsSome (at k.log.commits key) → IsBetweenMarks k (first_in key)
 
 -- the PrePrepare of the view's primary for a number
-abbrev pub proposal_in : Setup → Log → ℕ → ℕ → Option (Signed PrePrepare)
+abbrev pub proposal_in : Configuration → Log → ℕ → ℕ → Option (Signed PrePrepare)
 proposal_in c l view number =
     if_passes (is_by (primary c view) (has_position view number)) (at l.pre_prepares (vote_key number view (primary c view)))
 
-abbrev pub is_certified_in : Setup → Log → Fields → Bool
+abbrev pub is_certified_in : Configuration → Log → Fields → Bool
 is_certified_in c l x = certified c (voted of_pre_prepare l.pre_prepares x) (voted of_prepare l.prepares x) x.view
 
-abbrev pub if_certified : Setup → Log → Option (Signed PrePrepare) → Option (Signed PrePrepare)
+abbrev pub if_certified : Configuration → Log → Option (Signed PrePrepare) → Option (Signed PrePrepare)
 if_certified c l o = if_passes (λ m. is_certified_in c l (of_pre_prepare m.body)) o
 
-abbrev pub certified_at : Setup → Log → ℕ → ℕ → Option (Signed PrePrepare)
+abbrev pub certified_at : Configuration → Log → ℕ → ℕ → Option (Signed PrePrepare)
 certified_at c l view number = if_certified c l (proposal_in c l view number)
 
-abbrev pub is_committed_by : Setup → Log → Option (Signed PrePrepare) → Bool
+abbrev pub is_committed_by : Configuration → Log → Option (Signed PrePrepare) → Bool
 is_committed_by c l None = false
 is_committed_by c l (Some m) = has_quorum c (voted of_commit l.commits (of_pre_prepare m.body))
 
 -- certified, and a quorum has committed
-abbrev pub is_committed_at : Setup → Log → ℕ → ℕ → Bool
+abbrev pub is_committed_at : Configuration → Log → ℕ → ℕ → Bool
 is_committed_at c l view number = is_committed_by c l (certified_at c l view number)
 
 -- the Prepares of a certificate: those of 2f backups of least signers that match
-abbrev pub backing : Setup → Log → Fields → List (Signed Prepare)
+abbrev pub backing : Configuration → Log → Fields → List (Signed Prepare)
 backing c l x =
-    gathered (is_least (2 * c.config.f) (λ i. not (i == primary c x.view) && voted of_prepare l.prepares x i)) (λ i. at l.prepares (vote_key x.number x.view i)) (replicas c)
+    gathered (is_least (2 * c.f) (λ i. not (i == primary c x.view) && voted of_prepare l.prepares x i)) (λ i. at l.prepares (vote_key x.number x.view i)) (replicas c)
 
-abbrev pub certificate_in : Setup → Log → Signed PrePrepare → Certificate
+abbrev pub certificate_in : Configuration → Log → Signed PrePrepare → Certificate
 certificate_in c l m = record { pre_prepare = m; prepares = backing c l (of_pre_prepare m.body) }
 
 -- as checked messages
@@ -216,5 +196,5 @@ as_checked config x = record {
   prepares = record { config = config; messages = map (as_message bodies.Prepare) x.prepares };
 }
 
-abbrev pub checked_certificate : Setup → Log → ℕ → ℕ → Option CheckedCertificate
-checked_certificate c l view number = option_map (λ m. as_checked c.config (certificate_in c l m)) (certified_at c l view number)
+abbrev pub checked_certificate : Configuration → Log → ℕ → ℕ → Option CheckedCertificate
+checked_certificate c l view number = option_map (λ m. as_checked c (certificate_in c l m)) (certified_at c l view number)

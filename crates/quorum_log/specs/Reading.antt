@@ -18,31 +18,16 @@ use Rattle.quorum_log.specs.declared.view_slots.ViewSlots.{ViewSlots}
 pub use Rattle.quorum_log.specs.Log.{as_pre_prepare}
 use Rattle.quorum_log.specs.Log.{Log, is_within}
 use Rattle.quorum_log.specs.Slots.{IsSlotAt}
-use Rattle.quorum_log.specs.Windows.{slot_of, table_by, vote_at_key, keys_by_number}
+use Rattle.quorum_log.specs.Windows.{slot_of, vote_at_key, keys_by_number}
+use Rattle.ballots.specs.ByKey.{table_by}
 
 abbrev pub as_prepare : Signed Body → Body → Option (Signed Prepare)
 as_prepare m (bodies.Prepare b) = Some (with_body m b)
-as_prepare m (bodies.PrePrepare b) = None
-as_prepare m (bodies.Commit b) = None
-as_prepare m (bodies.Request b) = None
-as_prepare m (bodies.Reply b) = None
-as_prepare m (bodies.Checkpoint b) = None
-as_prepare m (bodies.ViewChange b) = None
-as_prepare m (bodies.NewView b) = None
-as_prepare m (bodies.Fetch b) = None
-as_prepare m (bodies.Snapshot b) = None
+as_prepare m _ = None
 
 abbrev pub as_commit : Signed Body → Body → Option (Signed Commit)
 as_commit m (bodies.Commit b) = Some (with_body m b)
-as_commit m (bodies.PrePrepare b) = None
-as_commit m (bodies.Prepare b) = None
-as_commit m (bodies.Request b) = None
-as_commit m (bodies.Reply b) = None
-as_commit m (bodies.Checkpoint b) = None
-as_commit m (bodies.ViewChange b) = None
-as_commit m (bodies.NewView b) = None
-as_commit m (bodies.Fetch b) = None
-as_commit m (bodies.Snapshot b) = None
+as_commit m _ = None
 
 -- a vote as a message of its kind
 abbrev pub read_by : {B : Type 0} → (Signed Body → Body → Option (Signed B)) → Option CheckedMessage → Option (Signed B)

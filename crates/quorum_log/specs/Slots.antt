@@ -1,5 +1,5 @@
 -- Internal: what is recorded for one number in one view.
-use Rattle.std.specs.Prelude.{◌≡◌, ℕ, ◌*◌, ◌&&◌, ◌==◌, Bool, true, false, not, cond, List, Option, Some, None, is_some, length, replicate, unwrap_or}
+use Rattle.std.specs.Prelude.{◌≡◌, ℕ, ◌*◌, ◌&&◌, ◌==◌, Bool, true, false, cond, List, Option, Some, None, length, replicate, unwrap_or}
 use Rattle.std.specs.Option.{option_map}
 use Rattle.std.specs.Ordering.{nat_cmp}
 use Rattle.std.specs.BTreeMap as tree
@@ -15,9 +15,8 @@ use Rattle.quorum_log.specs.declared.slot.Slot.{Slot}
 use Rattle.host_types.specs.declared.Digest.{Digest}
 use Rattle.host_types.specs.declared.SeqNo.{SeqNo}
 use Rattle.pbft_model.specs.Certificates.{certified, has_quorum}
-use Rattle.pbft_model.specs.Setup.{Setup}
 use Rattle.quorum_log.specs.declared.certificate.CheckedCertificate.{CheckedCertificate}
-use Rattle.ballots.specs.Ballots.{Ballot, vote_at, recorded, is_digest, is_for, digest_in, voted_for, least_votes}
+use Rattle.ballots.specs.Ballots.{Ballot, vote_at, is_digest, digest_in, first_of, voted_for, least_votes, with_first}
 
 -- A message of the configuration that is a vote of this kind at this number of this view.
 pub record IsVoteAt (c : Configuration) (kind : VoteKind) (view number : ℕ) (m : CheckedMessage) : Type 0 where
@@ -45,19 +44,6 @@ abbrev pub met_by : VoteKind → ℕ → Slot → Option CheckedMessage
 met_by PrePrepare signer s = s.pre_prepare
 met_by Prepare signer s = vote_at s.prepares signer
 met_by Commit signer s = vote_at s.commits signer
-
--- there is a vote, for another digest
-abbrev pub is_for_other : List ℕ → Option CheckedMessage → Bool
-is_for_other digest None = false
-is_for_other digest (Some m) = not (is_for digest (Some m))
-
--- the first counts
-abbrev pub first_of : CheckedMessage → Option CheckedMessage → Option CheckedMessage
-first_of m None = Some m
-first_of m (Some first) = Some first
-
-abbrev pub with_first : CheckedMessage → Ballot → Ballot
-with_first m votes = cond (is_some (vote_at votes m.message.id)) votes (recorded votes m)
 
 abbrev pub with_vote : VoteKind → CheckedMessage → Slot → Slot
 with_vote PrePrepare m s = record s { pre_prepare = first_of m s.pre_prepare }
@@ -93,20 +79,16 @@ number_of_some (Some m) = option_map (λ v. v.number) (vote_of m.message)
 abbrev pub number_here : Slot → Option SeqNo
 number_here s = number_of_some s.pre_prepare
 
--- The counts don't depend on the hash function.
-abbrev pub setup_of : Configuration → Setup
-setup_of c = record { config = c; hash = λ bytes. bytes }
-
 abbrev pub is_certified_for : Configuration → ℕ → Slot → Option Digest → Bool
 is_certified_for c view s None = false
-is_certified_for c view s (Some digest) = certified (setup_of c) (λ i. true) (voted_for digest.0 s.prepares) view
+is_certified_for c view s (Some digest) = certified c (λ i. true) (voted_for digest.0 s.prepares) view
 
 abbrev pub is_certified_here : Configuration → ℕ → Slot → Bool
 is_certified_here c view s = is_certified_for c view s (digest_here s)
 
 abbrev pub is_committed_for : Configuration → ℕ → Slot → Option Digest → Bool
 is_committed_for c view s None = false
-is_committed_for c view s (Some digest) = is_certified_for c view s (Some digest) && has_quorum (setup_of c) (voted_for digest.0 s.commits)
+is_committed_for c view s (Some digest) = is_certified_for c view s (Some digest) && has_quorum c (voted_for digest.0 s.commits)
 
 abbrev pub is_committed_here : Configuration → ℕ → Slot → Bool
 is_committed_here c view s = is_committed_for c view s (digest_here s)

@@ -1,14 +1,12 @@
 -- Internal: what is recorded between the water marks.
 use Rattle.std.proofs.Common.{zero, suc, ◌≢◌, ◌⊎◌}
-use Rattle.std.specs.Prelude.{◌≡◌, ℕ, ◌+◌, ◌-◌, ◌==◌, ◌&&◌, ◌||◌, Bool, false, nat_lt, nat_le, ◌<◌, ◌≤◌, length, cond, List, [], ◌∷◌, ◌++◌, Option, Some, None, MatchBool, MatchOption, true}
-use Rattle.std.specs.Ordering.{nat_cmp, eq_by_cmp}
-use Rattle.std.specs.Cmp.Lexicographic.{slice_cmp}
+use Rattle.std.specs.Prelude.{◌≡◌, ℕ, ◌+◌, ◌-◌, ◌==◌, ◌&&◌, Bool, false, nat_lt, nat_le, ◌<◌, ◌≤◌, length, cond, List, [], ◌∷◌, ◌++◌, Option, Some, None, MatchBool, MatchOption, true}
 use Rattle.std.specs.BTreeMap as tree
 use Rattle.seal.specs.Opening.{CheckedMessage}
 use Rattle.seal.specs.declared.vote.VoteKind.{VoteKind}
 use Rattle.seal.specs.declared.vote.VoteKind.TheVariants.{PrePrepare, Prepare, Commit}
 use Rattle.ballots.specs.Ballots.{vote_at}
-use Rattle.pbft_model.specs.Tables.{Key, Table, with_entry}
+use Rattle.pbft_model.specs.Tables.{Key}
 use Rattle.quorum_log.specs.declared.view_slots.ViewSlots.{ViewSlots}
 use Rattle.quorum_log.specs.declared.slot.Slot.{Slot}
 use Rattle.host_types.specs.declared.SeqNo.{SeqNo}
@@ -53,25 +51,6 @@ pub record IsLastAt (view : ℕ) (numbers : List ViewSlots) (number : SeqNo) : T
 
 abbrev pub IsLastNumber : ℕ → List ViewSlots → Option SeqNo → Type 0
 IsLastNumber view numbers answer = MatchOption answer ((i : ℕ) → number_here (slots_at numbers i view) ≡ None) (IsLastAt view numbers)
-
--- ---- tables read off
-
-abbrev pub and_entry : {X : Type 0} → Key → Option X → Table X → Table X
-and_entry k None table = table
-and_entry k (Some x) table = with_entry table k x
-
-abbrev pub is_among : Key → List Key → Bool
-is_among q [] = false
-is_among q (k ∷ ks) = eq_by_cmp (slice_cmp nat_cmp) q k || is_among q ks
-
--- the table with these keys, where they have a value
-abbrev pub table_by : {X : Type 0} → (Key → Option X) → List Key → Table X
-table_by value [] = []
-table_by value (k ∷ ks) = and_entry k (value k) (table_by value ks)
-
--- only these keys have a value
-abbrev pub Covers : {X : Type 0} → (Key → Option X) → List Key → Type 0
-Covers value ks = (q : Key) → is_among q ks ≡ false → value q ≡ None
 
 -- ---- the tables of a log
 

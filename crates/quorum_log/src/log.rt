@@ -129,7 +129,7 @@ impl QuorumLog {
 
     /// The digest that the view's primary proposes for a number. It takes no memory.
     pub fn pre_prepare(&self, view: View, number: SeqNo) -> Option<Digest>
-        ensures { (hash : List ℕ → List ℕ) → result ≡ option_map (λ m. m.body.digest) (proposal_in (record { config = self.now.config; hash = hash }) self.now.log view.0 number.0) }
+        ensures { result ≡ option_map (λ m. m.body.digest) (proposal_in self.now.config self.now.log view.0 number.0) }
     {
         match self.slot(view, number) {
             Some(slot) => slot.digest(),
@@ -166,7 +166,7 @@ impl QuorumLog {
     /// Whether a number is certified in a view: its primary proposes a digest, and 2f backups agree with it
     /// (Castro and Liskov 1999, section 4.2). That the request is there is not asked. It takes no memory.
     pub fn prepared(&self, view: View, number: SeqNo) -> bool
-        ensures { (hash : List ℕ → List ℕ) → result ≡ is_some (certified_at (record { config = self.now.config; hash = hash }) self.now.log view.0 number.0) }
+        ensures { result ≡ is_some (certified_at self.now.config self.now.log view.0 number.0) }
     {
         match self.slot(view, number) {
             Some(slot) => slot.is_certified(&self.config, view),
@@ -177,7 +177,7 @@ impl QuorumLog {
     /// Whether a number is certified in a view, and a quorum of replicas, 2f + 1, has committed. It takes no
     /// memory.
     pub fn committed(&self, view: View, number: SeqNo) -> bool
-        ensures { (hash : List ℕ → List ℕ) → result ≡ is_committed_at (record { config = self.now.config; hash = hash }) self.now.log view.0 number.0 }
+        ensures { result ≡ is_committed_at self.now.config self.now.log view.0 number.0 }
     {
         match self.slot(view, number) {
             Some(slot) => slot.is_committed(&self.config, view),
@@ -192,7 +192,7 @@ impl QuorumLog {
         view: View,
         number: SeqNo,
     ) -> Result<Option<CheckedCertificate>, LogFault>
-        ensures certificate { IfOk result (λ o. (hash : List ℕ → List ℕ) → o ≡ checked_certificate (record { config = self.now.config; hash = hash }) self.now.log view.0 number.0) }
+        ensures certificate { IfOk result (λ o. o ≡ checked_certificate self.now.config self.now.log view.0 number.0) }
         ensures fault { IfErr result (λ fault. fault ≡ Memory) }
     {
         match self.slot(view, number) {

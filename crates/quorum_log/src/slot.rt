@@ -3,8 +3,8 @@
 ghost use Rattle.std.specs.Prelude.{◌≡◌, ℕ, ◌<◌, List, false, IfErr, IfOk, OnOk, OnErr, IsSome, true};
 ghost use Rattle.quorum_log.specs.declared.fault.LogFault.TheVariants.{OtherDigest};
 ghost use Rattle.host_types.specs.Configuration.{Configuration};
-ghost use Rattle.ballots.specs.Ballots.{AreListed, AreUnder, digest_in, is_digest, vote_at};
-ghost use Rattle.quorum_log.specs.Slots.{certificate_here, empty_slot, IsRefusal, digest_here, first_of, is_certified_here, is_committed_here, is_for_other, met_by, number_here, with_first, with_vote};
+ghost use Rattle.ballots.specs.Ballots.{AreListed, AreUnder, digest_in, is_digest, vote_at, first_of, is_for_other, with_first};
+ghost use Rattle.quorum_log.specs.Slots.{certificate_here, empty_slot, IsRefusal, digest_here, is_certified_here, is_committed_here, met_by, number_here, with_vote};
 
 use crate::certificate::CheckedCertificate;
 use crate::fault::LogFault;

@@ -5,9 +5,9 @@ ghost use Rattle.std.specs.List.{list_any};
 ghost use Rattle.std.specs.Option.{option_copied};
 ghost use Rattle.std.specs.Ordering.{nat_cmp};
 ghost use Rattle.std.specs.BTreeMap as tree;
-ghost use Rattle.ballots.specs.Ballots.{digest_in};
+ghost use Rattle.ballots.specs.Ballots.{digest_in, is_for_other};
 ghost use Rattle.quorum_log.specs.Entering.{IsProper, IsReady, entered_slot};
-ghost use Rattle.quorum_log.specs.Slots.{HasSlot, HaveSameSlots, IsRefusal, digest_here, empty_slot, is_for_other, is_named, met_by, number_here, slot_in, with_vote};
+ghost use Rattle.quorum_log.specs.Slots.{HasSlot, HaveSameSlots, IsRefusal, digest_here, empty_slot, is_named, met_by, number_here, slot_in, with_vote};
 
 use crate::fault::LogFault;
 use crate::slot::Slot;

@@ -6,8 +6,8 @@ ghost use Rattle.std.specs.List.{list_any};
 ghost use Rattle.std.specs.Option.{option_copied};
 ghost use Rattle.std.specs.Ordering.{nat_cmp};
 ghost use Rattle.std.specs.BTreeMap as tree;
-ghost use Rattle.ballots.specs.Ballots.{digest_in};
-ghost use Rattle.quorum_log.specs.Slots.{IsRefusal, empty_slot, is_for_other, is_named, met_by, slot_in, with_vote};
+ghost use Rattle.ballots.specs.Ballots.{digest_in, is_for_other};
+ghost use Rattle.quorum_log.specs.Slots.{IsRefusal, empty_slot, is_named, met_by, slot_in, with_vote};
 ghost use Rattle.quorum_log.specs.Entering.{AreEntered, ArePrepared, AreProper, offered_for};
 ghost use Rattle.quorum_log.specs.Windows.{HasSlotAt, HaveSameWindows, IsCleared, IsLastNumber, IsNamedSomewhere, index_in, slots_at};
 

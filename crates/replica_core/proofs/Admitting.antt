@@ -6,14 +6,13 @@ use Rattle.pbft_codec.specs.declared.body.Body.{Body}
 use Rattle.pbft_codec.specs.declared.body.Body.TheVariants as bodies
 use Rattle.seal.specs.Parts.{as_message}
 use Rattle.seal.specs.Votes.{vote_in, vote_of}
-use Rattle.view_change.specs.Setups.{setup_of}
+use Rattle.pbft_model.specs.Setup.{setup_of, Setup}
 use Rattle.pbft_model.specs.Validity.{floor_of}
 use Rattle.replica_core.specs.declared.halt.Halt.{Halt}
 use Rattle.replica_core.specs.Halts.{unless_memory}
 use Rattle.replica_core.specs.Replicas.{AreOne, KeptReplica, Parts, basis_in, core_in, kept_in}
 use Rattle.std.proofs.lemmas.Bool.{false≢true, cases_lt, lt-leb, lt-ltb, le-leb, le-ltb}
 use Rattle.pbft_model.specs.Words.{Signed, Checkpoint, Commit, PrePrepare, Prepare, ViewChange}
-use Rattle.pbft_model.specs.Setup.{Setup}
 use Rattle.pbft_model.specs.Tables.{Key, Table, at, add_if, vote_key, with_entry, checkpoint_key}
 use Rattle.pbft_model.specs.Certificates.{Fields, of_commit, of_pre_prepare, of_prepare}
 use Rattle.pbft_model.specs.Core.{Core, floor_in, is_admitted, is_inside}
@@ -21,9 +20,9 @@ use Rattle.pbft_model.specs.Acts.{add_checkpoint, recorded, with_body}
 use Rattle.checkpoints.specs.declared.fault.CheckpointFault.{CheckpointFault}
 use Rattle.checkpoints.specs.declared.fault.CheckpointFault.TheVariants.{Old, DigestDiffers}
 use Rattle.checkpoints.specs.Kept.{KeptCheckpoints, checkpoint_in, has_other_digest, note_fault}
-use Rattle.quorum_log.specs.declared.fault.LogFault.{LogFault}
-use Rattle.quorum_log.specs.declared.fault.LogFault.TheVariants.{OutsideMarks, OtherDigest, WrongView, Memory}
-use Rattle.quorum_log.specs.Log.{IsRefusedFor, KeptLog, Log, accepted, added, fault_in, is_other, is_under_floor, is_within, log_of, vote_fault}
+use Rattle.view_change.specs.LogFault.{LogFault}
+use Rattle.view_change.specs.LogFault.TheVariants.{OutsideMarks, OtherDigest, WrongView, Memory}
+use Rattle.view_change.specs.Log.{IsRefusedFor, KeptLog, Log, accepted, added, fault_in, is_other, is_under_floor, is_within, log_of, vote_fault}
 
 -- ---- what is admitted
 
@@ -151,13 +150,7 @@ module _ (c : Configuration) (me : ℕ) (p : Parts) (one : AreOne c me p) where
       ap With is
       ∙ ap (λ (t : Table (Signed Commit)). record (kept_in c me p) { core = record (core_in p) { commits = t } }) (vote_added of_commit (setup_of c) (core_in p) (with_body m b) p.log.log.commits (sym (moved of_commit p.log.log.commits (with_body m b)) ∙ none))
       ∙ ap (λ (x : KeptReplica). Recorded x m (bodies.Commit b)) e
-  vote_recorded k m (bodies.Request b) new e some none is = absurd (false≢true some)
-  vote_recorded k m (bodies.Reply b) new e some none is = absurd (false≢true some)
-  vote_recorded k m (bodies.Checkpoint b) new e some none is = absurd (false≢true some)
-  vote_recorded k m (bodies.ViewChange b) new e some none is = absurd (false≢true some)
-  vote_recorded k m (bodies.NewView b) new e some none is = absurd (false≢true some)
-  vote_recorded k m (bodies.Fetch b) new e some none is = absurd (false≢true some)
-  vote_recorded k m (bodies.Snapshot b) new e some none is = absurd (false≢true some)
+  vote_recorded k m _ new e some none is = absurd (false≢true some)
 
   pub vote_dropped : (k : KeptReplica) (m : Signed Body) (body : Body) (new : KeptLog) (fault : LogFault) → kept_in c me p ≡ k → IsSome (vote_in m.id body) → vote_fault p.log.config p.log.log m body ≡ Some fault
       → new ≡ p.log → With new ≡ Recorded k m body
@@ -176,13 +169,7 @@ module _ (c : Configuration) (me : ℕ) (p : Parts) (one : AreOne c me p) where
       ∙ ap (λ (t : Table (Signed Commit)). record (kept_in c me p) { core = record (core_in p) { commits = t } })
       (sym (vote_refused of_commit (setup_of c) (core_in p) (with_body m b) p.log.log.commits fault (sym (moved of_commit p.log.log.commits (with_body m b)) ∙ why)))
       ∙ ap (λ (x : KeptReplica). Recorded x m (bodies.Commit b)) e
-  vote_dropped k m (bodies.Request b) new fault e some why is = absurd (false≢true some)
-  vote_dropped k m (bodies.Reply b) new fault e some why is = absurd (false≢true some)
-  vote_dropped k m (bodies.Checkpoint b) new fault e some why is = absurd (false≢true some)
-  vote_dropped k m (bodies.ViewChange b) new fault e some why is = absurd (false≢true some)
-  vote_dropped k m (bodies.NewView b) new fault e some why is = absurd (false≢true some)
-  vote_dropped k m (bodies.Fetch b) new fault e some why is = absurd (false≢true some)
-  vote_dropped k m (bodies.Snapshot b) new fault e some why is = absurd (false≢true some)
+  vote_dropped k m _ new fault e some why is = absurd (false≢true some)
 
   -- ---- Checkpoints
 
@@ -201,15 +188,7 @@ module _ (c : Configuration) (me : ℕ) (p : Parts) (one : AreOne c me p) where
       → ((x : Signed Checkpoint) → m ≡ as_message bodies.Checkpoint x → OnOk r (new ≡ record p.table { checkpoints = add_checkpoint p.table.low x p.table.checkpoints }))
       → OnOk r (WithTable new ≡ Recorded k m body)
   checkpoint_taken k m (bodies.Checkpoint b) new r e is some noted = on_ok r (λ h. ap WithTable h ∙ low_same k m b e) (noted (with_body m b) (as_kind bodies.Checkpoint m b is))
-  checkpoint_taken k m (bodies.Request b) new r e is some noted = absurd (false≢true some)
-  checkpoint_taken k m (bodies.PrePrepare b) new r e is some noted = absurd (false≢true some)
-  checkpoint_taken k m (bodies.Prepare b) new r e is some noted = absurd (false≢true some)
-  checkpoint_taken k m (bodies.Commit b) new r e is some noted = absurd (false≢true some)
-  checkpoint_taken k m (bodies.Reply b) new r e is some noted = absurd (false≢true some)
-  checkpoint_taken k m (bodies.ViewChange b) new r e is some noted = absurd (false≢true some)
-  checkpoint_taken k m (bodies.NewView b) new r e is some noted = absurd (false≢true some)
-  checkpoint_taken k m (bodies.Fetch b) new r e is some noted = absurd (false≢true some)
-  checkpoint_taken k m (bodies.Snapshot b) new r e is some noted = absurd (false≢true some)
+  checkpoint_taken k m _ new r e is some noted = absurd (false≢true some)
 
   pub taken_in : (k : KeptReplica) (m : Signed Body) (new : KeptLog) (r : Result (Unit {0}) LogFault) (s : Result (Unit {0}) Halt) → kept_in c me p ≡ k → IsSome (vote_of m) → s ≡ unless_memory r
       → OnOk r (vote_fault p.log.config p.log.log m m.body ≡ None) → OnOk r (new ≡ record p.log { log = accepted p.log.log m m.body })

@@ -18,13 +18,12 @@ use Rattle.pbft_model.specs.Certificates.{is_stable}
 use Rattle.pbft_model.specs.Core.{Core}
 use Rattle.pbft_model.specs.Duties.{Do, due_enter, due_install, enter_by, install_from, install_read, on_taken, when}
 use Rattle.pbft_model.specs.Sequential.{Service}
-use Rattle.pbft_model.specs.Setup.{Setup}
+use Rattle.pbft_model.specs.Setup.{Setup, setup_of}
 use Rattle.pbft_model.specs.Validity.{are_for_view, first_fault, have_certificates, have_order, have_proofs, is_valid_new_view, new_view_fault}
 use Rattle.seal.specs.Opening.{CheckedMessage, IsChecked}
 use Rattle.seal.specs.Signers.{key_of as listed_key, may_sign}
-use Rattle.checkpoints.specs.Kept.{IsStableExactly, by_sha256}
+use Rattle.checkpoints.specs.Kept.{IsStableExactly}
 use Rattle.view_change.specs.Faults.{answer}
-use Rattle.view_change.specs.Setups.{setup_of}
 use Rattle.replica_core.specs.Replicas.{AreOne, KeptReplica, Parts, core_in, kept_in}
 
 -- ---- a Fetch
@@ -76,9 +75,9 @@ enter_faulty c s m n taken is awaited invalid =
 
 -- ---- a Snapshot
 
-unstable : (c : Setup) (s : Core) (m : Signed Body) (b : Snapshot) → s.taken ≡ Some m → m.body ≡ bodies.Snapshot b → is_stable c s.checkpoints b.number.0 (c.hash b.state) ≡ false → due_install c s ≡ None
+unstable : (c : Setup) (s : Core) (m : Signed Body) (b : Snapshot) → s.taken ≡ Some m → m.body ≡ bodies.Snapshot b → is_stable c.config s.checkpoints b.number.0 (c.hash b.state) ≡ false → due_install c s ≡ None
 unstable c s m b taken is other = ap (on_taken (install_from c s)) taken ∙ ap (install_from c s m) is ∙ cases s.reading where
-  never : (x : Bool) (state : Service) → when (x && is_stable c s.checkpoints b.number.0 (c.hash b.state)) (Do (Install b.number.0 b.state state)) ≡ None
+  never : (x : Bool) (state : Service) → when (x && is_stable c.config s.checkpoints b.number.0 (c.hash b.state)) (Do (Install b.number.0 b.state state)) ≡ None
   never true state = ap (λ (t : Bool). when t (Do (Install b.number.0 b.state state))) other
   never false state = refl
 
@@ -109,6 +108,6 @@ pub none_stable : (c : Configuration) (me : ℕ) (p : Parts) → AreOne c me p �
 none_stable c me p one k m b o e taken is above exact none =
     ap (λ (x : KeptReplica). due_install (setup_of x.config) x.core) (sym e)
     ∙ unstable (setup_of c) (core_in p) m b (ap (λ (x : KeptReplica). x.core.taken) e ∙ taken) is
-    (not_true _ (λ t. let said : Digest = record { 0 = sha256 b.state } in none_some said (sym none ∙ (exact said over).0 (ap (λ (x : Configuration). is_stable (by_sha256 x) p.table.checkpoints b.number.0 (sha256 b.state)) one.table ∙ t)))) where
+    (not_true _ (λ t. let said : Digest = record { 0 = sha256 b.state } in none_some said (sym none ∙ (exact said over).0 (ap (λ (x : Configuration). is_stable x p.table.checkpoints b.number.0 (sha256 b.state)) one.table ∙ t)))) where
       over : p.table.low < b.number.0
       over = let same : p.service.number ≡ k.core.executed = ap (λ (x : KeptReplica). x.core.executed) e in omega (arith, above, same, one.low, one.reached)

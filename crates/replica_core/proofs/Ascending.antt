@@ -14,7 +14,7 @@ use Rattle.pbft_codec.specs.declared.body.Body.TheVariants as bodies
 use Rattle.pbft_codec.specs.declared.body.fetch.Fetch.TheVariants as fetches
 use Rattle.pbft_codec.specs.Limits.{AscendFrom}
 use Rattle.pbft_model.specs.Words.{Body, Certificate, NewView, PrePrepare, Signed, SigningState}
-use Rattle.pbft_model.specs.Setup.{Setup, count, gathered, is_least, number_limit, numbers_from, primary, quorum, replicas, span}
+use Rattle.pbft_model.specs.Setup.{Setup, count, gathered, is_least, number_limit, numbers_from, primary, quorum, replicas, span, setup_of}
 use Rattle.pbft_model.specs.Tables.{Key, Table, at, checkpoint_key, entries_in, is_above, keep, number_key, vote_key, with_entry}
 use Rattle.pbft_model.specs.Certificates.{Fields, certified, checkpointed, is_certificate, is_checkpoint_of, of_pre_prepare, of_prepare, same_fields, some_by, voted, voted_among}
 use Rattle.pbft_model.specs.Validity.{ascend_within, has_certificates, has_order, has_proof, has_view, is_proof}
@@ -26,7 +26,6 @@ use Rattle.pbft_model.proofs.Stages.{by_is}
 use Rattle.pbft_model.proofs.Made.{view_change_made}
 use Rattle.pbft_model.proofs.Sound.{IsSoundCore, sound_at}
 use Rattle.view_change.specs.Sealable.{HasShortList, HasShortLists}
-use Rattle.view_change.specs.Setups.{setup_of}
 use Rattle.replica_core.specs.Replicas.{AreOne, KeptReplica, Parts, kept_in}
 use Rattle.replica_core.specs.Settling.{IsReached}
 
@@ -63,16 +62,16 @@ some_id {B} i test (Some p) m t e = ap (λ (x : Signed B). x.id) (sym (same_Some
 certificate_ascends : (c : Setup) (s : Core) (m : Signed PrePrepare) → AscendFrom 0 (certificate_of c s m).prepares
 certificate_ascends c s m =
     let x : Fields = of_pre_prepare m.body in
-    gathered_ascends (is_least (2 * c.config.f) (is_matching c s x)) (λ i. at s.prepares (vote_key m.body.number.0 m.body.view.0 i)) (replicas c) (λ i p t e.
+    gathered_ascends (is_least (2 * c.config.f) (is_matching c s x)) (λ i. at s.prepares (vote_key m.body.number.0 m.body.view.0 i)) (replicas c.config) (λ i p t e.
     let least = and_parts (is_matching c s x i) (nat_lt (count (is_matching c s x) i) (2 * c.config.f)) t in
-    let matching = and_parts (not (i == primary c x.view)) (voted of_prepare s.prepares x i) least.0 in
+    let matching = and_parts (not (i == primary c.config x.view)) (voted of_prepare s.prepares x i) least.0 in
     some_id i (λ b. same_fields (of_prepare b) x) (at s.prepares (vote_key x.number x.view i)) p matching.1 e)
 
 proof_ascends : (c : Setup) (s : Core) (number : ℕ) (digest : List ℕ) → AscendFrom 0 (proof_of c s number digest)
 proof_ascends c s number digest =
     let test = checkpointed s.checkpoints number digest in
-    gathered_ascends (is_least (quorum c) test) (λ i. at s.checkpoints (checkpoint_key number i)) (replicas c) (λ i m t e.
-    let least = and_parts (test i) (nat_lt (count test i) (quorum c)) t in
+    gathered_ascends (is_least (quorum c.config) test) (λ i. at s.checkpoints (checkpoint_key number i)) (replicas c.config) (λ i m t e.
+    let least = and_parts (test i) (nat_lt (count test i) (quorum c.config)) t in
     some_id i (is_checkpoint_of number digest) (at s.checkpoints (checkpoint_key number i)) m least.0 e)
 
 -- ---- the values of a table
@@ -136,25 +135,15 @@ module _ (c : Setup) where
 
   recorded_ascends : (s : Core) (m : Signed Body) (b : Body) → Ascends s → Ascends (recorded c s m b)
   recorded_ascends s m (bodies.Request b) h = h
-  recorded_ascends s m (bodies.PrePrepare b) h = h
-  recorded_ascends s m (bodies.Prepare b) h = h
-  recorded_ascends s m (bodies.Commit b) h = h
-  recorded_ascends s m (bodies.Reply b) h = h
-  recorded_ascends s m (bodies.Checkpoint b) h = h
-  recorded_ascends s m (bodies.ViewChange b) h = h
-  recorded_ascends s m (bodies.NewView b) h = h
-  recorded_ascends s m (bodies.Fetch b) h = h
-  recorded_ascends s m (bodies.Snapshot b) h = h
+  recorded_ascends s m _ h = h
 
   after_ascends : (s : Core) (a : Act) → Ascends s → Ascends (after c s a)
   after_ascends s (Take m r) h = recorded_ascends s m m.body h
-  after_ascends s Timeout h = h
   after_ascends s (Send to m) h = said_ascends s m m.body h
-  after_ascends s (Relay to m) h = h
   after_ascends s (Enter m) h = entered_ascends s m.body h
   after_ascends s (Rise n d) h = (proof_ascends c s n d, keep_values HasOrder (is_above n) s.kept h.1)
-  after_ascends s (Execute n d t o) h = h
   after_ascends s (Install n b t) h = (proof_ascends c s n (c.hash b), keep_values HasOrder (is_above n) s.kept h.1)
+  after_ascends s _ h = h
 
   ascends_at : (signer : SigningState) (acts : List Act) → Ascends (core_after c signer acts)
   ascends_at signer [] = (tt, tt)
@@ -173,20 +162,20 @@ order_few first last (x ∷ xs) e le =
     let rest = order_few (number + 1) last xs b.1 (omega arith) in
     omega arith
 
-certificates_short : (c : Setup) (t : Table Certificate) → c.config.f ≤ 3 → list_all (is_certificate c) (entries_in t) ≡ true → Values HasOrder t → AllByRecursion HasShortList (entries_in t)
+certificates_short : (c : Setup) (t : Table Certificate) → c.config.f ≤ 3 → list_all (is_certificate c.config) (entries_in t) ≡ true → Values HasOrder t → AllByRecursion HasShortList (entries_in t)
 certificates_short c [] few e h = tt
 certificates_short c (d ∷ t) few e h =
     let x = d.1 in
     let fields = of_pre_prepare x.pre_prepare.body in
-    let a = and_parts (is_certificate c x) (list_all (is_certificate c) (entries_in t)) e in
-    let b = and_parts (certified c (voted_among of_pre_prepare (x.pre_prepare ∷ []) fields) (voted_among of_prepare x.prepares fields) fields.view) (length x.prepares == 2 * c.config.f) a.0 in
+    let a = and_parts (is_certificate c.config x) (list_all (is_certificate c.config) (entries_in t)) e in
+    let b = and_parts (certified c.config (voted_among of_pre_prepare (x.pre_prepare ∷ []) fields) (voted_among of_prepare x.prepares fields) fields.view) (length x.prepares == 2 * c.config.f) a.0 in
     let many = eqb-true (length x.prepares) (2 * c.config.f) b.1 in
     ((omega arith, h.0), certificates_short c t few a.1 h.1)
 
 proof_short : (c : Setup) (s : Core) → c.config.f ≤ 3 → (is_proof c s.low s.proof || (s.low == 0 && length s.proof == 0)) ≡ true → length s.proof ≤ 10
 proof_short c s few e = elim (or_cases (is_proof c s.low s.proof) (s.low == 0 && length s.proof == 0) e) [
   | inl proof ↦
-      let many = eqb-true (length s.proof) (quorum c) ((and_parts (length s.proof == quorum c) _ proof).0) in
+      let many = eqb-true (length s.proof) (quorum c.config) ((and_parts (length s.proof == quorum c.config) _ proof).0) in
       omega arith
   | inr none ↦
       let many = eqb-true (length s.proof) 0 ((and_parts (s.low == 0) (length s.proof == 0) none).1) in
@@ -203,7 +192,7 @@ short_lists c me s view legal low higher reached =
     let d = and_parts (has_certificates (setup_of c) v) (has_order (setup_of c) v) b.1 in
     let few : c.f ≤ 3 = legal.max_faulty in
     let interval : c.k ≤ 8 = legal.max_interval in
-    let order : (s.low + 1) + length v.certificates ≤ (s.low + span (setup_of c)) + 1 = order_few (s.low + 1) (s.low + span (setup_of c)) v.certificates d.1 (omega arith) in
+    let order : (s.low + 1) + length v.certificates ≤ (s.low + span c) + 1 = order_few (s.low + 1) (s.low + span c) v.certificates d.1 (omega arith) in
     record {
       low = omega (arith, low);
       few_checkpoints = proof_short (setup_of c) s few sound.4;

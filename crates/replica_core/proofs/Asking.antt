@@ -130,7 +130,7 @@ module _ (c : Setup) (me : ℕ) (s : Core) (configuration : IsConfiguration c.co
   pub rises_to_reached : (number : SeqNo) (digest : Digest) → IsDue c me s (Some (duties.Rise number digest)) → number.0 ≤ s.executed
   rises_to_reached number digest d = (allowed_act (Rise number.0 digest.0) d.0).reached
 
-  pub rises_to_stable : (number : SeqNo) (digest : Digest) → IsDue c me s (Some (duties.Rise number digest)) → is_stable c s.checkpoints number.0 digest.0 ≡ true
+  pub rises_to_stable : (number : SeqNo) (digest : Digest) → IsDue c me s (Some (duties.Rise number digest)) → is_stable c.config s.checkpoints number.0 digest.0 ≡ true
   rises_to_stable number digest d = (allowed_act (Rise number.0 digest.0) d.0).stable
 
   pub proposes : (number : SeqNo) (digest : Digest) → IsDue c me s (Some (duties.Propose number digest))
@@ -159,14 +159,14 @@ module _ (c : Setup) (me : ℕ) (s : Core) (configuration : IsConfiguration c.co
   pub prepares_low : AreNumbered s → (number : SeqNo) (digest : Digest) → IsDue c me s (Some (duties.Prepare number digest)) → number.0 < number_limit
   prepares_low numbered number digest d =
       let says = (allowed_act (Send All (own_message s me (bodies.Prepare (record { view = record { 0 = s.view }; number = number; digest = digest })))) d.0).says in
-      voted_low numbered (of_prepare (record { view = record { 0 = s.view }; number = number; digest = digest })) (primary c s.view) says.proposed
+      voted_low numbered (of_prepare (record { view = record { 0 = s.view }; number = number; digest = digest })) (primary c.config s.view) says.proposed
 
   pub commits_low : AreNumbered s → (number : SeqNo) (digest : Digest) → IsDue c me s (Some (duties.Commit number digest)) → number.0 < number_limit
   commits_low numbered number digest d =
       let says = (allowed_act (Send All (own_message s me (bodies.Commit (record { view = record { 0 = s.view }; number = number; digest = digest })))) d.0).says in
       let x = of_commit (record { view = record { 0 = s.view }; number = number; digest = digest }) in
       let certified = (and_parts (is_certified c s x) (is_known c s x.digest) says.prepared).0 in
-      voted_low numbered x (primary c x.view) ((and_parts (voted of_pre_prepare s.pre_prepares x (primary c x.view)) _ certified).0)
+      voted_low numbered x (primary c.config x.view) ((and_parts (voted of_pre_prepare s.pre_prepares x (primary c.config x.view)) _ certified).0)
 
   pub executes_due : (number : SeqNo) (digest : Digest) → IsDue c me s (Some (duties.Execute number digest))
       → (number.0 ≡ s.executed + 1) × IsSome (due_execute c s) × (due c me s ≡ Some (Executing number.0 digest.0))
@@ -181,8 +181,8 @@ module _ (c : Setup) (me : ℕ) (s : Core) (configuration : IsConfiguration c.co
   pub executes_low : AreNumbered s → (number : SeqNo) (digest : Digest) → IsDue c me s (Some (duties.Execute number digest)) → number.0 < number_limit
   executes_low numbered number digest d =
       let is = executes_due number digest d in
-      let key = vote_key (s.executed + 1) s.view (primary c s.view) in
-      let there = some_here s.active (s.executed + 1) (λ m. is_committed c s (of_pre_prepare m.body)) (is_by (primary c s.view) (has_position s.view (s.executed + 1))) (at s.pre_prepares key) is.1 in
+      let key = vote_key (s.executed + 1) s.view (primary c.config s.view) in
+      let there = some_here s.active (s.executed + 1) (λ m. is_committed c s (of_pre_prepare m.body)) (is_by (primary c.config s.view) (has_position s.view (s.executed + 1))) (at s.pre_prepares key) is.1 in
       let low : s.executed + 1 < number_limit = numbered key there in
       let same = is.0 in
       omega (arith, low, same)

@@ -22,7 +22,7 @@ use Rattle.pbft_model.specs.Ending.{left_to_do}
 use Rattle.pbft_model.specs.Rows as model
 use Rattle.pbft_model.specs.Rows.{Executed, Follows as Reacts, FollowsWithout, Fulfils, HasLeaves, Lacks, RepliesAlone, done_of, leaves_for, outputs_of, result_of}
 use Rattle.pbft_model.specs.Sequential.{IsSound, Outcome, Service, encoded}
-use Rattle.pbft_model.specs.Setup.{Setup, signer_after, view_limit}
+use Rattle.pbft_model.specs.Setup.{Setup, signer_after, view_limit, setup_of}
 use Rattle.pbft_model.specs.Tables.{Table, number_key, with_entry}
 use Rattle.pbft_model.specs.Together.{AreExecutions, Execution, IsExecution, act_of}
 use Rattle.pbft_model.specs.Words.{Reply}
@@ -43,7 +43,6 @@ use Rattle.replica_core.proofs.Committing.{AreAll, executes_alone, execute_due, 
 use Rattle.replica_core.proofs.Fulfilling.{no_more}
 use Rattle.replica_core.proofs.Growing.{after_more, no_acts}
 use Rattle.replica_core.proofs.Performing.{step_keeps, step_owed_of}
-use Rattle.view_change.specs.Setups.{setup_of}
 
 -- ---- an execution leaves the next one due, or its reply and then that
 
@@ -337,9 +336,7 @@ module _ (k t : KeptReplica) (many : ℕ) (d : Digest) (ds : List Digest) (o : O
   lacking : (reply : Reply) → RepliesAlone (setup_of r.at.config) r.at.me r.at.core reply → (halt : Halt) → IsShortOf (ahead (state_after split.x.service split.xs) r.at) 1 halt → IsHaltedAt (setup_of r.at.config) r.at.me r.at.core halt
   lacking reply alone halts.Exhausted short = subst (λ (o : Option Duty). Lacks r.at.core o model.Exhausted) (sym alone.first) short
   lacking reply alone halts.Memory short = tt
-  lacking reply alone halts.Worn short = absurd short
-  lacking reply alone halts.JournalFull short = absurd short
-  lacking reply alone halts.AlreadyHalted short = absurd short
+  lacking reply alone _ short = absurd short
 
   pub stopped : (halt : Halt) → IsSome t.core.reply_due × IsShortOf t 1 halt → HaltsAfter k halt
   stopped halt (some, short) = halts_there halt (cases r.at.core.reply_due refl) where

@@ -10,15 +10,14 @@ use Rattle.host_types.specs.declared.SeqNo.{SeqNo}
 use Rattle.pbft_codec.specs.declared.body.Body.TheVariants as bodies
 use Rattle.pbft_codec.specs.declared.body.fetch.Fetch.TheVariants as fetches
 use Rattle.pbft_model.specs.Words.{PrePrepare, Signed}
-use Rattle.pbft_model.specs.Setup.{Setup, is_replica, primary}
+use Rattle.pbft_model.specs.Setup.{Setup, is_replica, primary, setup_of}
 use Rattle.pbft_model.specs.Core.{Core, if_passes, is_known, has_position, pre_prepare_at}
 use Rattle.pbft_model.specs.Certificates.{is_by}
 use Rattle.pbft_model.specs.Acts.{All}
 use Rattle.pbft_model.specs.Duties as model
 use Rattle.pbft_model.specs.Duties.{agree, among, ask_for, is_lacking, prepare_for, say}
 use Rattle.pbft_model.specs.Tables.{at, vote_key}
-use Rattle.quorum_log.specs.Log.{proposal_in}
-use Rattle.view_change.specs.Setups.{setup_of}
+use Rattle.view_change.specs.Log.{proposal_in}
 use Rattle.replica_core.specs.Meanings.{Means}
 use Rattle.replica_core.specs.Replicas.{AreOne, KeptReplica, Parts, kept_in}
 use Rattle.replica_core.specs.declared.duties.Duty.TheVariants as duties
@@ -64,8 +63,8 @@ positioned c s view number = record {
 } where
   parts : (m : Pre) → pre_prepare_at c s view number ≡ Some m → ((m.body.view.0 == view) ≡ true) × ((m.body.number.0 == number) ≡ true)
   parts m e =
-      let all = both_true (is_replica m.role) ((m.id == primary c view) && has_position view number m.body) (passed (is_by (primary c view) (has_position view number)) (at s.pre_prepares (vote_key number view (primary c view))) m e) in
-      both_true (m.body.view.0 == view) (m.body.number.0 == number) (both_true (m.id == primary c view) (has_position view number m.body) all.1).1
+      let all = both_true (is_replica m.role) ((m.id == primary c.config view) && has_position view number m.body) (passed (is_by (primary c.config view) (has_position view number)) (at s.pre_prepares (vote_key number view (primary c.config view))) m e) in
+      both_true (m.body.view.0 == view) (m.body.number.0 == number) (both_true (m.id == primary c.config view) (has_position view number m.body) all.1).1
 
 module _ (c : Setup) (me : ℕ) (s : Core) where
   -- ---- a Prepare
@@ -152,9 +151,9 @@ module _ (c : Setup) (me : ℕ) (s : Core) where
 
 -- what its log says of a number
 pub proposal : (c : Configuration) (me : ℕ) (p : Parts) → AreOne c me p → (k : KeptReplica) (view number : ℕ) (o : Option Digest) → kept_in c me p ≡ k → view ≡ k.core.view
-    → o ≡ digest_in (proposal_in (setup_of p.log.config) p.log.log view number) → digest_in (pre_prepare_at (setup_of k.config) k.core k.core.view number) ≡ o
+    → o ≡ digest_in (proposal_in p.log.config p.log.log view number) → digest_in (pre_prepare_at (setup_of k.config) k.core k.core.view number) ≡ o
 proposal c me p one k view number o e own is =
     let own_view : view ≡ p.log.log.view = own ∙ ap (λ (x : KeptReplica). x.core.view) (sym e) in
-    sym (is ∙ ap (λ (x : ℕ). digest_in (proposal_in (setup_of p.log.config) p.log.log x number)) own_view
-    ∙ ap (λ (x : Configuration). digest_in (proposal_in (setup_of x) p.log.log p.log.log.view number)) one.log
+    sym (is ∙ ap (λ (x : ℕ). digest_in (proposal_in p.log.config p.log.log x number)) own_view
+    ∙ ap (λ (x : Configuration). digest_in (proposal_in x p.log.log p.log.log.view number)) one.log
     ∙ ap (λ (x : KeptReplica). digest_in (pre_prepare_at (setup_of x.config) x.core x.core.view number)) e)

@@ -12,7 +12,7 @@ use Rattle.replica_core.specs.Settling.{Advances, Comes, HaltsAfter, IsAfter, Is
 use Rattle.replica_core.specs.declared.halt.Halt.{Halt}
 use Rattle.replica_core.proofs.Asking.{allowed, low_number}
 use Rattle.replica_core.proofs.Growing.{after_more, continues, joined}
-use Rattle.view_change.specs.Setups.{setup_of}
+use Rattle.pbft_model.specs.Setup.{setup_of}
 
 -- a replica that was reached continues to one that is
 pub still_reached : (k t : KeptReplica) (acts : List Act) → IsReached (setup_of k.config) k.me k.core → IsAfter k acts t → IsReached (setup_of t.config) t.me t.core

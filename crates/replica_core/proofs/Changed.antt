@@ -10,7 +10,7 @@ use Rattle.pbft_codec.specs.declared.body.Body.TheVariants as bodies
 use Rattle.pbft_codec.specs.declared.signed.Role.TheVariants as roles
 use Rattle.pbft_model.specs.Acts.{All, acted, left_for, with_body}
 use Rattle.pbft_model.specs.Rules.{own_message, view_change_of}
-use Rattle.pbft_model.specs.Setup.{signature_by}
+use Rattle.pbft_model.specs.Setup.{signature_by, setup_of}
 use Rattle.pbft_model.specs.Tables.{add_if, change_key}
 use Rattle.pbft_model.specs.Words.{Signed, ViewChange}
 use Rattle.seal.specs.Opening.{CheckedMessage, sealed_message}
@@ -19,7 +19,6 @@ use Rattle.replica_core.specs.Replicas.{AreOne, KeptReplica, Parts, kept_in}
 use Rattle.replica_stores.specs.Stores.{KeptChanges}
 use Rattle.replica_core.specs.OwnViewChange.{own_view_change}
 use Rattle.replica_core.proofs.Fulfilling.{no_more}
-use Rattle.view_change.specs.Setups.{setup_of}
 
 -- an own message that takes no leaf before its own is what the signer makes
 own_is : (k : KeptReplica) (v : ViewChange) → sealed_message k.core.signer roles.Replica k.me (bodies.ViewChange v) ≡ own_message k.core k.me (bodies.ViewChange v)

@@ -33,7 +33,7 @@ module _ (c : Setup) (s : Core) where
   there : (x : Fields) → x.view ≡ s.view → is_committed c s x ≡ true
       → (m : Signed PrePrepare) × (if_passes (λ p. is_committed c s (of_pre_prepare p.body)) (pre_prepare_at c s s.view x.number) ≡ Some m) × (of_pre_prepare m.body ≡ x)
   there x view e =
-      let a = and_parts (is_prepared c s x) (has_quorum c (voted of_commit s.commits x)) e in
+      let a = and_parts (is_prepared c s x) (has_quorum c.config (voted of_commit s.commits x)) e in
       let b = and_parts (is_certified c s x) (is_known c s x.digest) a.0 in
       let w = prepared_from c s x view b.0 b.1 in
       let found = passed (λ p. is_prepared c s (of_pre_prepare p.body)) (pre_prepare_at c s s.view x.number) w.0 w.1 in
@@ -57,11 +57,11 @@ module _ (c : Setup) (s : Core) where
   named (Some m) d e = (m, refl, same_Some m.body.digest d e)
 
   located : (number : ℕ) (m : Signed PrePrepare) → if_passes (λ p. is_committed c s (of_pre_prepare p.body)) (pre_prepare_at c s s.view number) ≡ Some m
-      → (is_committed c s (record { view = s.view; number = number; digest = m.body.digest.0 }) ≡ true) × (at s.pre_prepares (vote_key number s.view (primary c s.view)) ≡ Some m)
+      → (is_committed c s (record { view = s.view; number = number; digest = m.body.digest.0 }) ≡ true) × (at s.pre_prepares (vote_key number s.view (primary c.config s.view)) ≡ Some m)
   located number m e =
       let p = passed (λ p. is_committed c s (of_pre_prepare p.body)) (pre_prepare_at c s s.view number) m e in
-      let q = passed (is_by (primary c s.view) (has_position s.view number)) (at s.pre_prepares (vote_key number s.view (primary c s.view))) m p.0 in
-      let b = by_is (primary c s.view) (has_position s.view number) m q.1 in
+      let q = passed (is_by (primary c.config s.view) (has_position s.view number)) (at s.pre_prepares (vote_key number s.view (primary c.config s.view))) m p.0 in
+      let b = by_is (primary c.config s.view) (has_position s.view number) m q.1 in
       let v = and_parts (m.body.view.0 == s.view) (m.body.number.0 == number) b.2 in
       let view : m.body.view.0 ≡ s.view = eqb-true m.body.view.0 s.view v.0 in
       let at_number : m.body.number.0 ≡ number = eqb-true m.body.number.0 number v.1 in
@@ -74,7 +74,7 @@ module _ (c : Setup) (s : Core) where
   found numbered number d e =
       let w = named (if_passes (λ m. is_committed c s (of_pre_prepare m.body)) (pre_prepare_at c s s.view number)) d (sym e) in
       let l = located number w.0 w.1 in
-      (subst (λ (x : Digest). is_committed c s (At number x.0) ≡ true) w.2 l.0, numbered (vote_key number s.view (primary c s.view)) (ap is_some l.1))
+      (subst (λ (x : Digest). is_committed c s (At number x.0) ≡ true) w.2 l.0, numbered (vote_key number s.view (primary c.config s.view)) (ap is_some l.1))
 
   -- where none is found, none is committed
   pub none_found : (number : ℕ) → None ≡ option_map (λ m. m.body.digest) (if_passes (λ m. is_committed c s (of_pre_prepare m.body)) (pre_prepare_at c s s.view number))

@@ -15,14 +15,13 @@ use Rattle.pbft_model.specs.Duties.{Do, Duty, Executing, WornOut, due, due_open,
 use Rattle.pbft_model.specs.Rows as model
 use Rattle.pbft_model.specs.Rows.{Fulfils, HasLeaves, Lacks, done_of, leaves_for, outputs_of}
 use Rattle.pbft_model.specs.Rules.{new_view_of, own_message}
-use Rattle.pbft_model.specs.Setup.{signer_after}
+use Rattle.pbft_model.specs.Setup.{signer_after, setup_of}
 use Rattle.pbft_model.proofs.Leaves.{signer_by}
 use Rattle.replica_core.specs.declared.halt.Halt.{Halt}
 use Rattle.replica_core.specs.declared.halt.Halt.TheVariants as halts
 use Rattle.replica_core.specs.Doing.{Does, Executes, Fulfilled, IsShortOf, Performs, Says}
 use Rattle.replica_core.specs.Replicas.{KeptReplica}
 use Rattle.replica_core.specs.Settling.{Advances, IsHaltedAt}
-use Rattle.view_change.specs.Setups.{setup_of}
 use Rattle.replica_core.proofs.Fulfilling.{no_more}
 use Rattle.replica_stores.proofs.Results.{on_ok}
 

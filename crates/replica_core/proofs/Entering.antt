@@ -9,21 +9,20 @@ use Rattle.pbft_codec.specs.declared.body.Body.{Body}
 use Rattle.pbft_codec.specs.declared.body.Body.TheVariants as bodies
 use Rattle.pbft_codec.specs.Limits.{EachBody, IsSequenceNumber, NewViewWellFormed, ViewChangeWellFormed}
 use Rattle.pbft_model.specs.Words.{Signed, NewView, PrePrepare, ViewChange}
-use Rattle.pbft_model.specs.Setup.{Setup, number_limit, numbers_from, primary}
+use Rattle.pbft_model.specs.Setup.{Setup, number_limit, numbers_from, primary, setup_of}
 use Rattle.pbft_model.specs.Tables.{Table, keep, vote_key, add_if}
 use Rattle.pbft_model.specs.Certificates.{Fields, is_by, of_pre_prepare, same_fields}
 use Rattle.pbft_model.specs.Validity.{are_for_view, are_given, bodies_in, floor_of, given, given_digest, has_order, have_certificates, have_order, have_proofs, is_valid_new_view, top_of}
 use Rattle.pbft_model.specs.Core.{Core, is_admitted}
 use Rattle.pbft_model.specs.Acts.{add_pre_prepares, entered, is_of_entered, left_for, left_if_above, opened_by, with_list}
 use Rattle.pbft_model.proofs.Stages.{by_is}
-use Rattle.quorum_log.specs.Log as logs
-use Rattle.quorum_log.specs.Log.{AreProposals, KeptLog, Log, is_within, log_of, opened, pre_prepares_in, with_all}
+use Rattle.view_change.specs.Log as logs
+use Rattle.view_change.specs.Log.{AreProposals, KeptLog, Log, is_within, log_of, opened, pre_prepares_in, with_all}
 use Rattle.seal.specs.Opening.{CheckedMessage}
 use Rattle.seal.specs.Parts.{as_message}
 use Rattle.replica_core.specs.Replicas.{AreOne, KeptReplica, Parts, basis_in, changes_in, core_in, kept_in}
 use Rattle.replica_stores.specs.Stores.{KeptSent, only_states_asked}
 use Rattle.replica_core.proofs.Admitting.{admitted_is}
-use Rattle.view_change.specs.Setups.{setup_of}
 
 abbrev Pre : Type 0
 Pre = Signed PrePrepare
@@ -64,8 +63,8 @@ valid_list c n valid =
     let a = and_parts (are_for_view n) (have_proofs c n && (have_certificates c n && have_order c n)) valid in
     let b = and_parts (have_proofs c n) (have_certificates c n && have_order c n) a.1 in
     let d = and_parts (have_certificates c n) (have_order c n) b.1 in
-    let e = and_parts (list_all (has_order c) (bodies_in n.changes)) (are_given (primary c n.view.0) (given c n.view.0 n.changes) n.pre_prepares) d.1 in
-    listed (primary c n.view.0) n.view.0 (floor_of n.changes + 1) (top_of n.changes - floor_of n.changes) (given_digest c n.changes) n.pre_prepares e.1
+    let e = and_parts (list_all (has_order c) (bodies_in n.changes)) (are_given (primary c.config n.view.0) (given c n.view.0 n.changes) n.pre_prepares) d.1 in
+    listed (primary c.config n.view.0) n.view.0 (floor_of n.changes + 1) (top_of n.changes - floor_of n.changes) (given_digest c n.changes) n.pre_prepares e.1
 
 pub are_proposals : (c : Setup) (n : NewView) (floor : ℕ) (ms : List (Signed Body)) → is_valid_new_view c n ≡ true → floor ≡ floor_of n.changes → ms ≡ messages_of n.pre_prepares → AreProposals n.view.0 (floor + 1) ms
 are_proposals c n floor ms valid e is =
@@ -106,12 +105,12 @@ are_small c n floor ms valid formed e is =
     let a = and_parts (are_for_view n) (have_proofs c n && (have_certificates c n && have_order c n)) valid in
     let b = and_parts (have_proofs c n) (have_certificates c n && have_order c n) a.1 in
     let d = and_parts (have_certificates c n) (have_order c n) b.1 in
-    let g = and_parts (list_all (has_order c) (bodies_in n.changes)) (are_given (primary c n.view.0) (given c n.view.0 n.changes) n.pre_prepares) d.1 in
+    let g = and_parts (list_all (has_order c) (bodies_in n.changes)) (are_given (primary c.config n.view.0) (given c n.view.0 n.changes) n.pre_prepares) d.1 in
     let l = valid_list c n valid in
     let long = l.long in
     let low = floor_small n.changes formed.changes in
     let many = ap (λ (xs : List (Signed Body)). length xs) is ∙ long_mapped n.pre_prepares in
-    let fits = room (primary c n.view.0) n.view.0 (floor_of n.changes + 1) (top_of n.changes - floor_of n.changes) (given_digest c n.changes) n.pre_prepares g.1 formed.numbers (omega (arith, low)) in
+    let fits = room (primary c.config n.view.0) n.view.0 (floor_of n.changes + 1) (top_of n.changes - floor_of n.changes) (given_digest c n.changes) n.pre_prepares g.1 formed.numbers (omega (arith, low)) in
     omega (arith, long, many, fits, e)
 
 -- ---- what is recorded of them

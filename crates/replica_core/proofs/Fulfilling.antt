@@ -8,7 +8,7 @@ use Rattle.lms_tree.specs.SigningState.{SigningState}
 use Rattle.pbft_codec.specs.declared.body.Body.{Body}
 use Rattle.pbft_codec.specs.declared.body.Body.TheVariants as bodies
 use Rattle.pbft_model.specs.Words.{Signed, NewView}
-use Rattle.pbft_model.specs.Setup.{Setup}
+use Rattle.pbft_model.specs.Setup.{Setup, setup_of}
 use Rattle.pbft_model.specs.Acts.{Enter, acted, entered, is_awaited, with_body}
 use Rattle.pbft_model.specs.Core.{Core}
 use Rattle.pbft_model.specs.Duties.{Do, Duty, due_enter, enter_by, on_taken, when}
@@ -20,7 +20,6 @@ use Rattle.replica_core.specs.Replicas.{AreOne, KeptReplica, Parts, kept_in}
 use Rattle.pbft_model.specs.Rows.{Fulfils}
 use Rattle.replica_core.proofs.Entering.{same_new_view}
 use Rattle.replica_stores.proofs.Results.{on_ok}
-use Rattle.view_change.specs.Setups.{setup_of}
 
 pub no_more : {X : Type 0} (xs : List X) → xs ≡ xs ++ []
 no_more [] = refl
@@ -45,15 +44,7 @@ due_by c s m (bodies.NewView n) e some = parts (is_awaited s n.view.0) (is_valid
   parts true true is here = record { entry = n; is = e; valid = is; duty = refl }
   parts true false is here = absurd (false≢true here)
   parts false b is here = absurd (false≢true here)
-due_by c s m (bodies.Request b) e some = absurd (false≢true some)
-due_by c s m (bodies.PrePrepare b) e some = absurd (false≢true some)
-due_by c s m (bodies.Prepare b) e some = absurd (false≢true some)
-due_by c s m (bodies.Commit b) e some = absurd (false≢true some)
-due_by c s m (bodies.Reply b) e some = absurd (false≢true some)
-due_by c s m (bodies.Checkpoint b) e some = absurd (false≢true some)
-due_by c s m (bodies.ViewChange b) e some = absurd (false≢true some)
-due_by c s m (bodies.Fetch b) e some = absurd (false≢true some)
-due_by c s m (bodies.Snapshot b) e some = absurd (false≢true some)
+due_by c s m _ e some = absurd (false≢true some)
 
 module _ (c : Configuration) (me : ℕ) (p : Parts) (one : AreOne c me p) (k : KeptReplica) (x : CheckedMessage) (e : kept_in c me p ≡ k) (is : p.step.taken ≡ Some x) (some : IsSome (due_enter (setup_of k.config) k.core)) where
   taken_is : k.core.taken ≡ Some x.message

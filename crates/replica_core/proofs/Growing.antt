@@ -5,11 +5,10 @@ use Rattle.pbft_model.specs.Acts.{Act, after}
 use Rattle.pbft_model.specs.Core.{Core}
 use Rattle.pbft_model.specs.Duties.{due}
 use Rattle.pbft_model.specs.Rows.{Follows, Fulfils, all_done, all_leaves, all_outputs, done_of, outputs_of}
-use Rattle.pbft_model.specs.Setup.{Setup}
+use Rattle.pbft_model.specs.Setup.{Setup, setup_of}
 use Rattle.pbft_model.proofs.Rowed.{due_allowed}
 use Rattle.replica_core.specs.Replicas.{KeptReplica}
 use Rattle.replica_core.specs.Settling.{IsAfter, IsReached}
-use Rattle.view_change.specs.Setups.{setup_of}
 
 module _ (c : Setup) (me : ℕ) where
   -- two stretches are one

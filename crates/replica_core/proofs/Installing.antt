@@ -17,10 +17,9 @@ use Rattle.pbft_model.specs.Duties.{Do, Duty, due_install, install_from, install
 use Rattle.pbft_model.specs.Rows as rows
 use Rattle.pbft_model.specs.Rules.{IsStateAt}
 use Rattle.pbft_model.specs.Sequential.{Service}
-use Rattle.pbft_model.specs.Setup.{Setup}
+use Rattle.pbft_model.specs.Setup.{Setup, setup_of}
 use Rattle.pbft_model.specs.Tables.{number_key, with_entry}
 use Rattle.pbft_model.specs.Words.{Signed, Snapshot}
-use Rattle.view_change.specs.Setups.{setup_of}
 use Rattle.replica_core.specs.Doing.{Does, Fulfilled}
 use Rattle.replica_core.specs.Replicas.{AreOne, KeptReplica, Parts, kept_in}
 
@@ -29,7 +28,7 @@ pub record IsToInstall (c : Setup) (s : Core) (b : Snapshot) : Type 0 where
   pub state : Service
   pub reading : s.reading ≡ Some state
   pub above : s.executed < b.number.0
-  pub stable : is_stable c s.checkpoints b.number.0 (c.hash b.state) ≡ true
+  pub stable : is_stable c.config s.checkpoints b.number.0 (c.hash b.state) ≡ true
   pub due : due_install c s ≡ Some (Do (Install b.number.0 b.state state))
 
 some_when : (test : Bool) (duty : Duty) → IsSome (when test duty) → test ≡ true
@@ -44,10 +43,10 @@ to_install c s m b taken is some = cases s.reading refl where
   cases : (o : Option Service) → s.reading ≡ o → IsToInstall c s b
   cases None e = absurd (false≢true (subst (λ (x : Option Duty). IsSome x) (due_is ∙ ap (install_read c s b) e) some))
   cases (Some state) e =
-      let test = nat_lt s.executed b.number.0 && is_stable c s.checkpoints b.number.0 (c.hash b.state) in
+      let test = nat_lt s.executed b.number.0 && is_stable c.config s.checkpoints b.number.0 (c.hash b.state) in
       let duty = Do (Install b.number.0 b.state state) in
       let passes : test ≡ true = some_when test duty (subst (λ (x : Option Duty). IsSome x) (due_is ∙ ap (install_read c s b) e) some) in
-      let parts = and_parts (nat_lt s.executed b.number.0) (is_stable c s.checkpoints b.number.0 (c.hash b.state)) passes in
+      let parts = and_parts (nat_lt s.executed b.number.0) (is_stable c.config s.checkpoints b.number.0 (c.hash b.state)) passes in
       record {
         state = state;
         reading = e;
@@ -154,10 +153,10 @@ module _ (k : KeptReplica) (b : Snapshot) (digest bytes : List ℕ) (ready : IsR
       pub is_reached : b.number.0 ≤ k3.core.executed
       is_reached = subst (λ (x : KeptReplica). b.number.0 ≤ x.core.executed) (sym three) (omega arith)
 
-      pub stays_stable : digest ≡ sha256 b.state → is_stable (setup_of k3.config) k3.core.checkpoints b.number.0 digest ≡ true
+      pub stays_stable : digest ≡ sha256 b.state → is_stable k3.config k3.core.checkpoints b.number.0 digest ≡ true
       stays_stable is =
-          subst (λ (x : KeptReplica). is_stable (setup_of x.config) x.core.checkpoints b.number.0 digest ≡ true) (sym three)
-          (ap (λ (d : List ℕ). is_stable (setup_of k.config) k.core.checkpoints b.number.0 d) is ∙ ready.to.stable)
+          subst (λ (x : KeptReplica). is_stable x.config x.core.checkpoints b.number.0 digest ≡ true) (sym three)
+          (ap (λ (d : List ℕ). is_stable k.config k.core.checkpoints b.number.0 d) is ∙ ready.to.stable)
 
       pub installs : digest ≡ sha256 b.state → (t : KeptReplica) → t ≡ risen k3 → Fulfilled k (due_install (setup_of k.config) k.core) t
       installs is t e4 = installed t is (e4 ∙ ap risen three)

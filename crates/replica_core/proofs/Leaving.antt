@@ -6,16 +6,15 @@ use Rattle.std.proofs.lemmas.Option.{same_Some}
 use Rattle.host_types.specs.Configuration.{Configuration}
 use Rattle.host_types.specs.declared.Digest.{Digest}
 use Rattle.pbft_model.specs.Words.{Certificate, Signed, PrePrepare}
-use Rattle.pbft_model.specs.Setup.{numbers_from, span}
+use Rattle.pbft_model.specs.Setup.{numbers_from, span, setup_of}
 use Rattle.pbft_model.specs.Certificates.{of_pre_prepare}
 use Rattle.pbft_model.specs.Core.{Core, certificate_of, if_passes, is_certified, is_known, kept_on_leaving, is_prepared, pre_prepare_at, prepared_at, with_certificate, with_certificates}
 use Rattle.pbft_model.specs.Tables.{first_in, keep, number_key, with_entry}
 use Rattle.pbft_model.specs.Acts.{left_for}
-use Rattle.quorum_log.specs.declared.certificate.CheckedCertificate.{CheckedCertificate}
-use Rattle.quorum_log.specs.Log.{KeptLog, checked_certificate, left, as_checked}
+use Rattle.view_change.specs.CheckedCertificate.{CheckedCertificate}
+use Rattle.view_change.specs.Log.{KeptLog, checked_certificate, left, as_checked}
 use Rattle.replica_core.specs.Replicas.{AreOne, KeptReplica, Parts, core_in, kept_in}
 use Rattle.replica_stores.specs.Stores.{KeptCertificates, KeptChanges, KeptSent, only_states_asked}
-use Rattle.view_change.specs.Setups.{setup_of}
 
 abbrev Pre : Type 0
 Pre = Signed PrePrepare
@@ -73,7 +72,7 @@ nothing_kept k number e =
 
 -- with the certificates of the numbers from the one after so many on
 abbrev pub KeptFrom : KeptReplica → ℕ → KeptReplica
-KeptFrom k i = record k { core = record k.core { kept = with_certificates (setup_of k.config) k.core (numbers_from (k.core.low + 1 + i) (span (setup_of k.config) - i)) k.core.kept } }
+KeptFrom k i = record k { core = record k.core { kept = with_certificates (setup_of k.config) k.core (numbers_from (k.core.low + 1 + i) (span k.config - i)) k.core.kept } }
 
 abbrev KeptOf : KeptReplica → List ℕ → KeptReplica
 KeptOf k ns = record k { core = record k.core { kept = with_certificates (setup_of k.config) k.core ns k.core.kept } }
@@ -81,15 +80,15 @@ KeptOf k ns = record k { core = record k.core { kept = with_certificates (setup_
 numbers_alike : (a b m n : ℕ) → a ≡ b → m ≡ n → numbers_from a m ≡ numbers_from b n
 numbers_alike a b m n e f = λ i. numbers_from (e i) (f i)
 
-pub from_last : (k : KeptReplica) (n : ℕ) → n ≡ span (setup_of k.config) → k ≡ KeptFrom k n
-from_last k n e = ap (KeptOf k) (numbers_alike (k.core.low + 1 + n) (k.core.low + 1 + n) 0 (span (setup_of k.config) - n) refl (omega (arith, e)))
+pub from_last : (k : KeptReplica) (n : ℕ) → n ≡ span k.config → k ≡ KeptFrom k n
+from_last k n e = ap (KeptOf k) (numbers_alike (k.core.low + 1 + n) (k.core.low + 1 + n) 0 (span k.config - n) refl (omega (arith, e)))
 
-pub from_first : (k : KeptReplica) (n : ℕ) → n ≡ 0 → KeptFrom k n ≡ KeptOf k (numbers_from (k.core.low + 1) (span (setup_of k.config)))
-from_first k n e = ap (KeptOf k) (numbers_alike (k.core.low + 1 + n) (k.core.low + 1) (span (setup_of k.config) - n) (span (setup_of k.config)) (omega (arith, e)) (omega (arith, e)))
+pub from_first : (k : KeptReplica) (n : ℕ) → n ≡ 0 → KeptFrom k n ≡ KeptOf k (numbers_from (k.core.low + 1) (span k.config))
+from_first k n e = ap (KeptOf k) (numbers_alike (k.core.low + 1 + n) (k.core.low + 1) (span k.config - n) (span k.config) (omega (arith, e)) (omega (arith, e)))
 
-pub from_next : (k : KeptReplica) (i number : ℕ) → 0 < i → i ≤ span (setup_of k.config) → number ≡ k.core.low + 1 + (i - 1) → KeepsAt (KeptFrom k i) number ≡ KeptFrom k (i - 1)
+pub from_next : (k : KeptReplica) (i number : ℕ) → 0 < i → i ≤ span k.config → number ≡ k.core.low + 1 + (i - 1) → KeepsAt (KeptFrom k i) number ≡ KeptFrom k (i - 1)
 from_next k i number some within is =
-    let m = span (setup_of k.config) in
+    let m = span k.config in
     ap (λ (n : ℕ). KeepsAt (KeptFrom k i) n) is
     ∙ ap (λ (ns : List ℕ). KeepsAt (KeptOf k ns) (k.core.low + 1 + (i - 1))) (numbers_alike (k.core.low + 1 + i) (k.core.low + 1 + (i - 1) + 1) (m - i) (m - i) (omega (arith, some)) refl)
     ∙ ap (λ (n : ℕ). KeptOf k (numbers_from (k.core.low + 1 + (i - 1)) n)) (suc_is (m - i) (m - (i - 1)) (omega (arith, some, within))) where
@@ -122,10 +121,10 @@ module _ (c : Configuration) (me : ℕ) (p : Parts) (one : AreOne c me p) where
   abbrev proposal : ℕ → Option Pre
   proposal number = pre_prepare_at (setup_of c) (core_in p) p.log.log.view number
 
-  checked_is : (k : KeptReplica) (view number : ℕ) (o : Option CheckedCertificate) → kept_in c me p ≡ k → view ≡ k.core.view → o ≡ checked_certificate (setup_of p.log.config) p.log.log view number → o ≡ CheckedAt c (core_in p) (proposal number)
+  checked_is : (k : KeptReplica) (view number : ℕ) (o : Option CheckedCertificate) → kept_in c me p ≡ k → view ≡ k.core.view → o ≡ checked_certificate p.log.config p.log.log view number → o ≡ CheckedAt c (core_in p) (proposal number)
   checked_is k view number o e own is =
-      is ∙ ap (λ (x : ℕ). checked_certificate (setup_of p.log.config) p.log.log x number) (own ∙ ap (λ (x : KeptReplica). x.core.view) (sym e))
-      ∙ ap (λ (x : Configuration). checked_certificate (setup_of x) p.log.log p.log.log.view number) one.log
+      is ∙ ap (λ (x : ℕ). checked_certificate p.log.config p.log.log x number) (own ∙ ap (λ (x : KeptReplica). x.core.view) (sym e))
+      ∙ ap (λ (x : Configuration). checked_certificate x p.log.log p.log.log.view number) one.log
 
   digest_is : (k : KeptReplica) (number : ℕ) (d : Option Digest) → kept_in c me p ≡ k → d ≡ digest_in (Prepared k number) → d ≡ digest_in (PreparedIn c (core_in p) (proposal number))
   digest_is k number d e is = is ∙ ap (λ (x : KeptReplica). digest_in (Prepared x number)) (sym e)
@@ -134,7 +133,7 @@ module _ (c : Configuration) (me : ℕ) (p : Parts) (one : AreOne c me p) where
   Its number x = IsItsCertificate c (core_in p) (PreparedIn c (core_in p) (proposal number)) x
 
   pub its : (k : KeptReplica) (view number : ℕ) (d : Option Digest) (x : CheckedCertificate) → kept_in c me p ≡ k → d ≡ digest_in (Prepared k number) → is_some d ≡ true → view ≡ k.core.view
-      → Some x ≡ checked_certificate (setup_of p.log.config) p.log.log view number → Its number x
+      → Some x ≡ checked_certificate p.log.config p.log.log view number → Its number x
   its k view number d x e prepared some own is =
       its_certificate c (core_in p) (proposal number) d x (digest_is k number d e prepared) some (checked_is k view number (Some x) e own is)
 
@@ -158,7 +157,7 @@ module _ (c : Configuration) (me : ℕ) (p : Parts) (one : AreOne c me p) where
       ∙ ap (λ (z : KeptReplica). KeepsAt z number) e
 
   pub keeps_nothing : (k : KeptReplica) (view number : ℕ) (d : Option Digest) {A : Type 0} → kept_in c me p ≡ k → d ≡ digest_in (Prepared k number) → is_some d ≡ true → view ≡ k.core.view
-      → None ≡ checked_certificate (setup_of p.log.config) p.log.log view number → A
+      → None ≡ checked_certificate p.log.config p.log.log view number → A
   keeps_nothing k view number d e prepared some own is =
       absurd (no_certificate c (core_in p) (proposal number) d (digest_is k number d e prepared) some (checked_is k view number None e own is))
 

@@ -7,9 +7,9 @@ use Rattle.pbft_codec.specs.declared.body.Body.TheVariants as bodies
 use Rattle.pbft_model.specs.Core.{Core, start_of}
 use Rattle.pbft_model.specs.Tables.{first_in, is_above, keep}
 use Rattle.pbft_model.specs.Words.{Checkpoint, Signed}
-use Rattle.pbft_model.specs.Worked.{fresh}
+use Rattle.pbft_model.specs.Setup.{fresh, setup_of}
 use Rattle.seal.specs.Parts.{as_message}
-use Rattle.checkpoints.specs.Kept.{KeptCheckpoints, by_sha256, discarded, proof_at, proof_for, proof_list, stable_at, stable_digest}
+use Rattle.checkpoints.specs.Kept.{KeptCheckpoints, discarded, proof_at, proof_for, proof_list, stable_at, stable_digest}
 use Rattle.checkpoints.proofs.Cores.{proof_is}
 use Rattle.checkpoints.proofs.Proving.{above_mark}
 use Rattle.checkpoints.proofs.Stable.{is_stable_one}
@@ -18,15 +18,15 @@ use Rattle.view_change.proofs.StableProofs.{stable_proof}
 
 -- a core with these Checkpoints
 abbrev core_with : KeptCheckpoints → Core
-core_with k = record (start_of (by_sha256 k.config) (fresh [] [])) { checkpoints = k.checkpoints }
+core_with k = record (start_of (setup_of k.config) (fresh [] [])) { checkpoints = k.checkpoints }
 
 pub proof_fits : (k : KeptCheckpoints) (number : ℕ) (digest : Digest) → k.low < number → stable_at k number ≡ Some digest → IsStableBy k.config number (proof_list k number).messages
 proof_fits k number digest above is =
-    let c = by_sha256 k.config in
-    let found : stable_digest c k.checkpoints number ≡ Some digest = sym (above_mark k number above) ∙ is in
-    let stable = is_stable_one c k.checkpoints number digest found in
-    let here : proof_at k number ≡ proof_for c k.checkpoints number (stable_digest c k.checkpoints number)
-    = cond-false (number == k.low) k.proof (proof_for c k.checkpoints number (stable_digest c k.checkpoints number)) (ne_eqb number k.low (λ e. absurd (omega (arith, e, above)))) in
+    let c = setup_of k.config in
+    let found : stable_digest k.config k.checkpoints number ≡ Some digest = sym (above_mark k number above) ∙ is in
+    let stable = is_stable_one k.config k.checkpoints number digest found in
+    let here : proof_at k number ≡ proof_for k.config k.checkpoints number (stable_digest k.config k.checkpoints number)
+    = cond-false (number == k.low) k.proof (proof_for k.config k.checkpoints number (stable_digest k.config k.checkpoints number)) (ne_eqb number k.low (λ e. absurd (omega (arith, e, above)))) in
     subst (λ (ms : List (Signed Checkpoint)). IsStableBy k.config number (map (as_message bodies.Checkpoint) ms)) (sym (here ∙ proof_is c (core_with k) number digest stable)) (stable_proof c (core_with k) number digest.0 stable)
 
 -- the same with the mark at the number
@@ -43,5 +43,5 @@ proof_kept k number above =
     ap (λ (x : KeptCheckpoints). proof_list x number) (cond-true (nat_lt k.low number) (raised number k) k (lt-ltb k.low number above))
     ∙ (λ i. record { config = k.config; messages = map (as_message bodies.Checkpoint) (there i) }) where
       there : proof_at (raised number k) number ≡ proof_at k number
-      there = let c = by_sha256 k.config in let later = keep (is_above number) k.checkpoints in
-          cond-true (number == number) (proof_at k number) (proof_for c later number (stable_digest c later number)) (eq-eqb number number refl)
+      there = let later = keep (is_above number) k.checkpoints in
+          cond-true (number == number) (proof_at k number) (proof_for k.config later number (stable_digest k.config later number)) (eq-eqb number number refl)

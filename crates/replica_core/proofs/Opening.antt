@@ -12,7 +12,7 @@ use Rattle.pbft_codec.specs.declared.body.Body.TheVariants as bodies
 use Rattle.pbft_codec.specs.declared.signed.Role.TheVariants as roles
 use Rattle.pbft_codec.specs.Limits.{CertificateWellFormed, EachBody, ViewChangeWellFormed}
 use Rattle.pbft_model.specs.Words.{Certificate, NewView, PrePrepare, Signed, SigningState, ViewChange}
-use Rattle.pbft_model.specs.Setup.{Setup, count, is_least, number_limit, numbers_from, primary, quorum, replicas, signature_by, signed_by, signer_after}
+use Rattle.pbft_model.specs.Setup.{Setup, count, is_least, number_limit, numbers_from, primary, quorum, replicas, signature_by, signed_by, signer_after, setup_of}
 use Rattle.pbft_model.specs.Acts.{All, acted, add_pre_prepare, add_pre_prepares, entered, left_for, opened_by, said, signed_once_more, with_list}
 use Rattle.pbft_model.specs.Certificates.{Fields, has_quorum, of_pre_prepare}
 use Rattle.pbft_model.specs.Core.{Core}
@@ -31,7 +31,6 @@ use Rattle.view_change.specs.declared.opening.Opening.{Opening}
 use Rattle.view_change.specs.Opening.{IsOpeningOf}
 use Rattle.view_change.specs.Made.{IsNewViewOf}
 use Rattle.view_change.specs.Sealable.{HasFewMessages, IsSealable}
-use Rattle.view_change.specs.Setups.{setup_of}
 use Rattle.replica_core.specs.Doing.{Says}
 use Rattle.replica_core.specs.Opens.{AreGiven, IsProposal, IsToOpen, after_leaves, chosen_by, given_to, opening_message, opening_of, signed_by_all, with_opening}
 use Rattle.replica_core.specs.Replicas.{AreOne, KeptReplica, Parts, core_in, kept_in}
@@ -129,20 +128,20 @@ to_open k due reached =
     let me = k.me in
     let s = k.core in
     let sound : IsSoundCore c s = subst (IsSoundCore c) reached.here (sound_at c me reached.signer reached.acts reached.history) in
-    let test : (not s.active && (leads c me s && (wants_view s me && has_quorum c (wants_view s)))) ≡ true
-    = is_when (not s.active && (leads c me s && (wants_view s me && has_quorum c (wants_view s)))) (say me s All (bodies.NewView (new_view_of c me s))) due in
-    let a = and_parts (not s.active) (leads c me s && (wants_view s me && has_quorum c (wants_view s))) test in
-    let b = and_parts (leads c me s) (wants_view s me && has_quorum c (wants_view s)) a.1 in
-    let d = and_parts (wants_view s me) (has_quorum c (wants_view s)) b.1 in
+    let test : (not s.active && (leads c me s && (wants_view s me && has_quorum c.config (wants_view s)))) ≡ true
+    = is_when (not s.active && (leads c me s && (wants_view s me && has_quorum c.config (wants_view s)))) (say me s All (bodies.NewView (new_view_of c me s))) due in
+    let a = and_parts (not s.active) (leads c me s && (wants_view s me && has_quorum c.config (wants_view s))) test in
+    let b = and_parts (leads c me s) (wants_view s me && has_quorum c.config (wants_view s)) a.1 in
+    let d = and_parts (wants_view s me) (has_quorum c.config (wants_view s)) b.1 in
     record {
       leads = b.0;
       valid = new_view_made c me s b.0 d.0 d.1 sound.2;
-      ascend = gathered_ascends (is_chosen c me s) (change_of s) (replicas c) (λ i m t e. some_id i (λ v. v.view.0 == s.view) (change_of s i) m (chosen_wants c me s i d.0 t) e);
+      ascend = gathered_ascends (is_chosen c me s) (change_of s) (replicas c.config) (λ i m t e. some_id i (λ v. v.view.0 == s.view) (change_of s i) m (chosen_wants c me s i d.0 t) e);
     }
 
 -- what makes the NewView valid
 record HasParts (c : Setup) (n : NewView) : Type 0 where
-  many : length n.changes ≡ quorum c
+  many : length n.changes ≡ quorum c.config
   order : list_all (has_order c) (bodies_in n.changes) ≡ true
 
 parts_of : (c : Setup) (n : NewView) → is_valid_new_view c n ≡ true → HasParts c n
@@ -150,10 +149,10 @@ parts_of c n valid =
     let a = and_parts (are_for_view n) (have_proofs c n && (have_certificates c n && have_order c n)) valid in
     let b = and_parts (have_proofs c n) (have_certificates c n && have_order c n) a.1 in
     let d = and_parts (have_certificates c n) (have_order c n) b.1 in
-    let g = and_parts (list_all (has_order c) (bodies_in n.changes)) (are_given (primary c n.view.0) (given c n.view.0 n.changes) n.pre_prepares) d.1 in
-    let h = and_parts (list_all (has_proof c) (bodies_in n.changes)) (length n.changes == quorum c && has_quorum c (changed_by n.changes)) b.0 in
-    let m = and_parts (length n.changes == quorum c) (has_quorum c (changed_by n.changes)) h.1 in
-    record { many = eqb-true (length n.changes) (quorum c) m.0; order = g.0 }
+    let g = and_parts (list_all (has_order c) (bodies_in n.changes)) (are_given (primary c.config n.view.0) (given c n.view.0 n.changes) n.pre_prepares) d.1 in
+    let h = and_parts (list_all (has_proof c) (bodies_in n.changes)) (length n.changes == quorum c.config && has_quorum c.config (changed_by n.changes)) b.0 in
+    let m = and_parts (length n.changes == quorum c.config) (has_quorum c.config (changed_by n.changes)) h.1 in
+    record { many = eqb-true (length n.changes) (quorum c.config) m.0; order = g.0 }
 
 -- ---- what they give
 

@@ -84,13 +84,13 @@ one_more s duty index number none is here k lt = cases (cases_lt k index) where
   cases (inl below) = none k below
   cases (inr above) = let same : s.low + 1 + k ≡ number = omega (arith, is, above, lt) in ap duty same ∙ here
 
-pub found_inside : (c : Setup) (me : ℕ) (s : Core) (duty : ℕ → Due) (index number : ℕ) (d : Duty) → NoneYet s duty index → index < span c → number ≡ s.low + 1 + index
+pub found_inside : (c : Setup) (me : ℕ) (s : Core) (duty : ℕ → Due) (index number : ℕ) (d : Duty) → NoneYet s duty index → index < span c.config → number ≡ s.low + 1 + index
     → Means c me s (duty number) (Some d) → Means c me s (first_for duty (inside c s)) (Some d)
 found_inside c me s duty index number d none below is m =
-    same_due c me s _ _ (Some d) (first_at duty (s.low + 1) (span c) index below none (subst (λ (n : ℕ). IsSome (duty n)) is m.1) ∙ ap duty (sym is)) m
+    same_due c me s _ _ (Some d) (first_at duty (s.low + 1) (span c.config) index below none (subst (λ (n : ℕ). IsSome (duty n)) is m.1) ∙ ap duty (sym is)) m
 
-pub none_inside : (c : Setup) (s : Core) (duty : ℕ → Due) (many : ℕ) → NoneYet s duty many → many ≡ span c → first_for duty (inside c s) ≡ None
-none_inside c s duty many none is = none_at duty (s.low + 1) (span c) (subst (NoneYet s duty) is none)
+pub none_inside : (c : Setup) (s : Core) (duty : ℕ → Due) (many : ℕ) → NoneYet s duty many → many ≡ span c.config → first_for duty (inside c s) ≡ None
+none_inside c s duty many none is = none_at duty (s.low + 1) (span c.config) (subst (NoneYet s duty) is none)
 
 -- ---- in the view
 

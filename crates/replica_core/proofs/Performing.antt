@@ -13,7 +13,7 @@ use Rattle.pbft_model.specs.Rows.{result_of}
 use Rattle.pbft_model.specs.Sequential.{IsSound, IsStep, Outcome, Service, encoded}
 use Rattle.pbft_model.specs.Tables.{number_key, with_entry}
 use Rattle.pbft_model.specs.Words.{Reply}
-use Rattle.view_change.specs.Setups.{setup_of}
+use Rattle.pbft_model.specs.Setup.{setup_of}
 use Rattle.replica_core.specs.Doing.{Executes, reported}
 use Rattle.replica_core.specs.Replicas.{KeptReplica}
 

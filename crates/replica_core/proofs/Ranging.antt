@@ -60,19 +60,13 @@ all_added low (m ∷ ms) t new h =
     all_added low ms (add_checkpoint low m t) (λ x is. new x (inr is)) (added_low (nat_lt low m.body.number.0) (checkpoint_key m.body.number.0 m.id) m t (new m (inl refl)) h)
 
 recorded_low : (c : Setup) (s : Core) (m : Signed Body) (b : Body) → BodyWellFormed b → AreLow (entries_in s.checkpoints) → AreLow (entries_in (recorded c s m b).checkpoints)
-recorded_low c s m (bodies.Request b) fits h = h
-recorded_low c s m (bodies.PrePrepare b) fits h = h
-recorded_low c s m (bodies.Prepare b) fits h = h
-recorded_low c s m (bodies.Commit b) fits h = h
-recorded_low c s m (bodies.Reply b) fits h = h
 recorded_low c s m (bodies.Checkpoint b) fits h = added_low (nat_lt s.low b.number.0) (checkpoint_key b.number.0 m.id) (with_body m b) s.checkpoints fits h
 recorded_low c s m (bodies.ViewChange b) fits h =
     all_added s.low (cond (is_valid c b) b.checkpoints []) s.checkpoints (where_true (is_valid c b) b.checkpoints (each_low b.checkpoints fits.numbers)) h
 recorded_low c s m (bodies.NewView b) fits h =
     all_added s.low (cond (is_valid_new_view c b) (flat_map (λ (v : Signed ViewChange). v.body.checkpoints) b.changes) []) s.checkpoints
     (where_true (is_valid_new_view c b) (flat_map (λ (v : Signed ViewChange). v.body.checkpoints) b.changes) (changes_low b.changes fits.changes)) h
-recorded_low c s m (bodies.Fetch b) fits h = h
-recorded_low c s m (bodies.Snapshot b) fits h = h
+recorded_low c s m _ fits h = h
 
 left_checkpoints : (c : Setup) (s : Core) (view : ℕ) → (left_if_above c s view).checkpoints ≡ s.checkpoints
 left_checkpoints c s view = cases (nat_lt s.view view) where
@@ -131,29 +125,14 @@ left_snapshots c s view = cases (nat_lt s.view view) where
   cases false = refl
 
 pub said_snapshots : (c : Setup) (s : Core) (m : Signed Body) (b : Body) → (said c s m b).snapshots ≡ s.snapshots
-said_snapshots c s m (bodies.Request b) = refl
-said_snapshots c s m (bodies.PrePrepare b) = refl
-said_snapshots c s m (bodies.Prepare b) = refl
-said_snapshots c s m (bodies.Commit b) = refl
-said_snapshots c s m (bodies.Reply b) = refl
-said_snapshots c s m (bodies.Checkpoint b) = refl
-said_snapshots c s m (bodies.ViewChange b) = refl
 said_snapshots c s m (bodies.NewView b) = left_snapshots c s b.view.0
 said_snapshots c s m (bodies.Fetch (fetches.Request d)) = refl
 said_snapshots c s m (bodies.Fetch (fetches.State n)) = refl
-said_snapshots c s m (bodies.Snapshot b) = refl
+said_snapshots c s m _ = refl
 
 pub recorded_snapshots : (c : Setup) (s : Core) (m : Signed Body) (b : Body) → (recorded c s m b).snapshots ≡ s.snapshots
 recorded_snapshots c s m (bodies.Request b) = refl
-recorded_snapshots c s m (bodies.PrePrepare b) = refl
-recorded_snapshots c s m (bodies.Prepare b) = refl
-recorded_snapshots c s m (bodies.Commit b) = refl
-recorded_snapshots c s m (bodies.Reply b) = refl
-recorded_snapshots c s m (bodies.Checkpoint b) = refl
-recorded_snapshots c s m (bodies.ViewChange b) = refl
-recorded_snapshots c s m (bodies.NewView b) = refl
-recorded_snapshots c s m (bodies.Fetch b) = refl
-recorded_snapshots c s m (bodies.Snapshot b) = refl
+recorded_snapshots c s m _ = refl
 
 -- ---- histories
 

@@ -10,11 +10,10 @@ use Rattle.pbft_model.specs.Rows as model
 use Rattle.pbft_model.specs.Rows.{Begins, Follows, IsLawfulFrom, IsNext, all_done, all_outputs}
 use Rattle.pbft_model.specs.Rules.{IsReading}
 use Rattle.pbft_model.specs.Sequential.{Service}
-use Rattle.pbft_model.specs.Setup.{Setup}
+use Rattle.pbft_model.specs.Setup.{Setup, setup_of}
 use Rattle.pbft_model.specs.Words.{Body, Signed, SigningState}
 use Rattle.pbft_model.proofs.Rowed.{begun, journal_is_history}
 use Rattle.seal.specs.Opening.{CheckedMessage, IsChecked}
-use Rattle.view_change.specs.Setups.{setup_of}
 use Rattle.replica_core.specs.Answering.{Gives, HasBegun, IsAtRest, IsKept, IsRowOf, IsSound, IsWhole}
 use Rattle.replica_core.specs.Replicas.{KeptReplica}
 use Rattle.replica_core.specs.Settling.{HaltsAfter, IsAfter, IsReached, Settles}

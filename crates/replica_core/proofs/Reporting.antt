@@ -8,9 +8,9 @@ use Rattle.host_types.specs.declared.View.{View}
 use Rattle.pbft_codec.specs.declared.body.Body.TheVariants as bodies
 use Rattle.pbft_model.specs.Words.{Certificate, Checkpoint, Signed}
 use Rattle.pbft_model.specs.Tables.{entries_in}
-use Rattle.checkpoints.specs.Kept.{by_sha256, proof_at, proof_for, proof_list, stable_digest}
-use Rattle.quorum_log.specs.declared.certificate.CheckedCertificate.{CheckedCertificate}
-use Rattle.quorum_log.specs.Log.{as_checked}
+use Rattle.checkpoints.specs.Kept.{proof_at, proof_for, proof_list, stable_digest}
+use Rattle.view_change.specs.CheckedCertificate.{CheckedCertificate}
+use Rattle.view_change.specs.Log.{as_checked}
 use Rattle.seal.specs.Lists.{CheckedMessages}
 use Rattle.seal.specs.Parts.{as_message}
 use Rattle.view_change.specs.Made.{IsCertificateOf, IsMadeOf, OneForOne}
@@ -32,7 +32,7 @@ module _ (c : Configuration) (me : ℕ) (p : Parts) (one : AreOne c me p) (k : K
   at_mark = low_is ∙ sym (ap (λ (t : KeptReplica). t.core.low) e) ∙ sym one.low
 
   proof_kept : proof_at p.table low.0 ≡ p.table.proof
-  proof_kept = ap (λ (b : Bool). cond b p.table.proof (proof_for (by_sha256 p.table.config) p.table.checkpoints low.0 (stable_digest (by_sha256 p.table.config) p.table.checkpoints low.0))) (eq-eqb low.0 p.table.low at_mark)
+  proof_kept = ap (λ (b : Bool). cond b p.table.proof (proof_for p.table.config p.table.checkpoints low.0 (stable_digest p.table.config p.table.checkpoints low.0))) (eq-eqb low.0 p.table.low at_mark)
 
   pub made_of : (view : View) → IsMadeOf view low proof certificates (own_view_change k.core view)
   made_of view = record {

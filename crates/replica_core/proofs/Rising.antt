@@ -8,24 +8,23 @@ use Rattle.host_types.specs.declared.Digest.{Digest}
 use Rattle.pbft_model.specs.Acts.{discarded_to, still_held}
 use Rattle.pbft_model.specs.Certificates.{Fields, is_stable}
 use Rattle.pbft_model.specs.Core.{proof_of}
-use Rattle.pbft_model.specs.Setup.{number_limit}
+use Rattle.pbft_model.specs.Setup.{number_limit, setup_of}
 use Rattle.pbft_model.specs.Tables.{entries_in, first_in, is_above, keep}
 use Rattle.pbft_model.specs.Validity.{floor_of}
 use Rattle.pbft_model.specs.Words.{Checkpoint, Signed}
-use Rattle.checkpoints.specs.Kept.{KeptCheckpoints, by_sha256, discarded as table_discarded, proof_at, proof_for, stable_digest}
+use Rattle.checkpoints.specs.Kept.{KeptCheckpoints, discarded as table_discarded, proof_at, proof_for, stable_digest}
 use Rattle.checkpoints.proofs.Stable.{stable_is}
-use Rattle.quorum_log.specs.Log.{KeptLog, Log, discarded as log_discarded}
-use Rattle.view_change.specs.Setups.{setup_of}
+use Rattle.view_change.specs.Log.{KeptLog, Log, discarded as log_discarded}
 use Rattle.replica_core.specs.Replicas.{AreOne, KeptReplica, Parts, basis_in, core_in, kept_in}
 use Rattle.replica_stores.specs.Stores.{KeptCertificates, KeptRequests, KeptSent, sent_above}
 
 -- ---- the parts
 
-proof_is : (k : KeptCheckpoints) (number : ℕ) (digest : Digest) → k.low < number → is_stable (by_sha256 k.config) k.checkpoints number digest.0 ≡ true
-    → proof_at k number ≡ proof_for (by_sha256 k.config) k.checkpoints number (Some digest)
+proof_is : (k : KeptCheckpoints) (number : ℕ) (digest : Digest) → k.low < number → is_stable k.config k.checkpoints number digest.0 ≡ true
+    → proof_at k number ≡ proof_for k.config k.checkpoints number (Some digest)
 proof_is k number digest above stable =
-    cond-false (number == k.low) k.proof (proof_for (by_sha256 k.config) k.checkpoints number (stable_digest (by_sha256 k.config) k.checkpoints number)) (ne_eqb number k.low (λ e. absurd (omega (arith, e, above))))
-    ∙ ap (proof_for (by_sha256 k.config) k.checkpoints number) (stable_is (by_sha256 k.config) k.checkpoints number digest stable)
+    cond-false (number == k.low) k.proof (proof_for k.config k.checkpoints number (stable_digest k.config k.checkpoints number)) (ne_eqb number k.low (λ e. absurd (omega (arith, e, above))))
+    ∙ ap (proof_for k.config k.checkpoints number) (stable_is k.config k.checkpoints number digest stable)
 
 abbrev raised_table : KeptCheckpoints → ℕ → List (Signed Checkpoint) → KeptCheckpoints
 raised_table k number proof = record k {
@@ -35,8 +34,8 @@ raised_table k number proof = record k {
   snapshots = keep (λ key. nat_le number (first_in key)) k.snapshots;
 }
 
-table_is : (k : KeptCheckpoints) (number : ℕ) (digest : Digest) → k.low < number → is_stable (by_sha256 k.config) k.checkpoints number digest.0 ≡ true
-    → table_discarded number k ≡ raised_table k number (proof_for (by_sha256 k.config) k.checkpoints number (Some digest))
+table_is : (k : KeptCheckpoints) (number : ℕ) (digest : Digest) → k.low < number → is_stable k.config k.checkpoints number digest.0 ≡ true
+    → table_discarded number k ≡ raised_table k number (proof_for k.config k.checkpoints number (Some digest))
 table_is k number digest above stable =
     cond-true (nat_lt k.low number) (raised_table k number (proof_at k number)) k (lt-ltb k.low number above) ∙ ap (raised_table k number) (proof_is k number digest above stable)
 
@@ -84,21 +83,21 @@ module _ (c : Configuration) (me : ℕ) (p : Parts) (one : AreOne c me p) (k : K
       requests_to ∙ ap (λ (l : KeptLog). record p.requests { held = still_held (setup_of p.requests.config) p.service (entries_in l.log.pre_prepares) p.requests.held }) log_now
       ∙ ap (λ (d : Configuration). record p.requests { held = still_held (setup_of d) p.service (entries_in (keep (is_above number) p.log.log.pre_prepares)) p.requests.held }) one.requests
 
-  stable_now : is_stable (setup_of k.config) k.core.checkpoints number digest.0 ≡ true → is_stable (setup_of c) p.table.checkpoints number digest.0 ≡ true
-  stable_now stable = ap (λ (x : KeptReplica). is_stable (setup_of x.config) x.core.checkpoints number digest.0) is ∙ stable
+  stable_now : is_stable k.config k.core.checkpoints number digest.0 ≡ true → is_stable c p.table.checkpoints number digest.0 ≡ true
+  stable_now stable = ap (λ (x : KeptReplica). is_stable x.config x.core.checkpoints number digest.0) is ∙ stable
 
-  table_now : is_stable (setup_of c) p.table.checkpoints number digest.0 ≡ true → table ≡ raised_table p.table number (proof_of (setup_of c) (core_in p) number digest.0)
+  table_now : is_stable c p.table.checkpoints number digest.0 ≡ true → table ≡ raised_table p.table number (proof_of (setup_of c) (core_in p) number digest.0)
   table_now stable =
-      table_to ∙ table_is p.table number digest above_table (ap (λ (d : Configuration). is_stable (by_sha256 d) p.table.checkpoints number digest.0) one.table ∙ stable)
-      ∙ ap (λ (d : Configuration). raised_table p.table number (proof_for (by_sha256 d) p.table.checkpoints number (Some digest))) one.table
+      table_to ∙ table_is p.table number digest above_table (ap (λ (d : Configuration). is_stable d p.table.checkpoints number digest.0) one.table ∙ stable)
+      ∙ ap (λ (d : Configuration). raised_table p.table number (proof_for d p.table.checkpoints number (Some digest))) one.table
 
-  pub risen : is_stable (setup_of k.config) k.core.checkpoints number digest.0 ≡ true
+  pub risen : is_stable k.config k.core.checkpoints number digest.0 ≡ true
       → kept_in c me (with_parts log table kept requests sent) ≡ record k { core = discarded_to (setup_of k.config) k.core number (proof_of (setup_of k.config) k.core number digest.0) }
   risen stable =
       (λ i. kept_in c me (with_parts (log_now i) (table_now (stable_now stable) i) (kept_to i) (requests_now i) (sent_to i)))
       ∙ ap (λ (x : KeptReplica). record x { core = discarded_to (setup_of x.config) x.core number (proof_of (setup_of x.config) x.core number digest.0) }) is
 
-  pub still_one : is_stable (setup_of k.config) k.core.checkpoints number digest.0 ≡ true → number ≤ k.core.executed → AreOne c me (with_parts log table kept requests sent)
+  pub still_one : is_stable k.config k.core.checkpoints number digest.0 ≡ true → number ≤ k.core.executed → AreOne c me (with_parts log table kept requests sent)
   still_one stable reached = record {
     legal = one.legal;
     replica = one.replica;

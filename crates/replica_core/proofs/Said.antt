@@ -7,12 +7,11 @@ use Rattle.pbft_codec.specs.declared.signed.Role.TheVariants as roles
 use Rattle.lms_tree.specs.Keys.{after_signing}
 use Rattle.seal.specs.Opening.{CheckedMessage, sealed_message}
 use Rattle.pbft_model.specs.Words.{Checkpoint, Commit, PrePrepare, Prepare, ReplyBody, Signed, SigningState, Snapshot}
-use Rattle.pbft_model.specs.Setup.{signature_by}
+use Rattle.pbft_model.specs.Setup.{signature_by, setup_of}
 use Rattle.pbft_model.specs.Certificates.{of_pre_prepare}
 use Rattle.pbft_model.specs.Core.{Core}
 use Rattle.pbft_model.specs.Acts.{Destination, Send, acted, leaves_of, recorded, said, signed_once_more}
 use Rattle.pbft_model.specs.Rules.{leaves_before, own_message}
-use Rattle.view_change.specs.Setups.{setup_of}
 use Rattle.replica_core.specs.Doing.{Does, Says}
 use Rattle.replica_core.specs.Replicas.{KeptReplica}
 

@@ -7,10 +7,9 @@ use Rattle.service_model.proofs.Injective.{same_state}
 use Rattle.service_model.specs.Decoding.{Encodes}
 use Rattle.pbft_model.specs.Words.{Snapshot}
 use Rattle.pbft_model.specs.Sequential.{Service}
-use Rattle.pbft_model.specs.Setup.{Setup}
+use Rattle.pbft_model.specs.Setup.{Setup, setup_of}
 use Rattle.pbft_model.specs.Rules.{IsReadingOf}
 use Rattle.replica_core.specs.Replicas.{KeptReplica}
-use Rattle.view_change.specs.Setups.{setup_of}
 
 reads : (c : Setup) (b : Snapshot) (s : Service) (o : Option Service) → Encodes c.config b.state s → o ≡ (if s.number == b.number.0 then Some s else None) → IsReadingOf c b o
 reads c b s o is e = subst (IsReadingOf c b) (sym e) (split (s.number == b.number.0) refl) where

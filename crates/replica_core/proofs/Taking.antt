@@ -8,7 +8,7 @@ use Rattle.host_types.specs.Configuration.{Configuration}
 use Rattle.pbft_codec.specs.declared.body.Body.{Body}
 use Rattle.pbft_codec.specs.declared.body.Body.TheVariants as bodies
 use Rattle.pbft_model.specs.Words.{Signed, Checkpoint, NewView, ViewChange}
-use Rattle.pbft_model.specs.Setup.{Setup}
+use Rattle.pbft_model.specs.Setup.{Setup, setup_of}
 use Rattle.pbft_model.specs.Tables.{add_if, change_key}
 use Rattle.pbft_model.specs.Validity.{first_fault, has_view, has_proof, has_certificates, has_order, are_for_view, have_proofs, have_certificates, have_order, is_valid, is_valid_new_view, view_change_fault, new_view_fault}
 use Rattle.pbft_model.specs.Acts.{add_checkpoints, is_awaited, recorded, with_body}
@@ -16,7 +16,7 @@ use Rattle.seal.specs.Parts.{as_message, checkpoints_of}
 use Rattle.checkpoints.specs.Kept.{KeptCheckpoints}
 use Rattle.view_change.specs.Faults.{answer}
 use Rattle.view_change.specs.declared.fault.ViewFault.{ViewFault}
-use Rattle.view_change.specs.Setups.{setup_of, IsViewChange, IsNewView}
+use Rattle.view_change.specs.Messages.{IsViewChange, IsNewView}
 use Rattle.replica_stores.specs.Stores.{KeptChanges}
 use Rattle.replica_core.specs.Replicas.{AreOne, KeptReplica, Parts, core_in, kept_in}
 
@@ -54,42 +54,18 @@ AreCheckpoints all = (ms : List (Signed Checkpoint)) × (all ≡ map (as_message
 
 pub in_change : (body : Body) → IsViewChange body → AreCheckpoints (checkpoints_of body)
 in_change (bodies.ViewChange v) is = (v.checkpoints, refl)
-in_change (bodies.Request b) is = absurd is
-in_change (bodies.PrePrepare b) is = absurd is
-in_change (bodies.Prepare b) is = absurd is
-in_change (bodies.Commit b) is = absurd is
-in_change (bodies.Reply b) is = absurd is
-in_change (bodies.Checkpoint b) is = absurd is
-in_change (bodies.NewView b) is = absurd is
-in_change (bodies.Fetch b) is = absurd is
-in_change (bodies.Snapshot b) is = absurd is
+in_change _ is = absurd is
 
 pub in_new_view : (body : Body) → IsNewView body → AreCheckpoints (checkpoints_of body)
 in_new_view (bodies.NewView n) is = (flat_map (λ v. v.body.checkpoints) n.changes, nested_list n.changes)
-in_new_view (bodies.Request b) is = absurd is
-in_new_view (bodies.PrePrepare b) is = absurd is
-in_new_view (bodies.Prepare b) is = absurd is
-in_new_view (bodies.Commit b) is = absurd is
-in_new_view (bodies.Reply b) is = absurd is
-in_new_view (bodies.Checkpoint b) is = absurd is
-in_new_view (bodies.ViewChange b) is = absurd is
-in_new_view (bodies.Fetch b) is = absurd is
-in_new_view (bodies.Snapshot b) is = absurd is
+in_new_view _ is = absurd is
 
 pub new_view_checkpoints : (body : Body) (n : NewView) → body ≡ bodies.NewView n → checkpoints_of body ≡ map (as_message bodies.Checkpoint) (flat_map (λ v. v.body.checkpoints) n.changes)
 new_view_checkpoints body n is = ap checkpoints_of is ∙ nested_list n.changes
 
 pub a_change : (body : Body) → IsViewChange body → (v : ViewChange) × (body ≡ bodies.ViewChange v)
 a_change (bodies.ViewChange v) is = (v, refl)
-a_change (bodies.Request b) is = absurd is
-a_change (bodies.PrePrepare b) is = absurd is
-a_change (bodies.Prepare b) is = absurd is
-a_change (bodies.Commit b) is = absurd is
-a_change (bodies.Reply b) is = absurd is
-a_change (bodies.Checkpoint b) is = absurd is
-a_change (bodies.NewView b) is = absurd is
-a_change (bodies.Fetch b) is = absurd is
-a_change (bodies.Snapshot b) is = absurd is
+a_change _ is = absurd is
 
 -- ---- a replica's
 

@@ -31,12 +31,4 @@ with_requests c me p new one same = record {
 
 pub a_request : (body : Body) → IsRequest body → (b : RequestBody) × (body ≡ bodies.Request b)
 a_request (bodies.Request b) is = (b, refl)
-a_request (bodies.PrePrepare b) is = absurd is
-a_request (bodies.Prepare b) is = absurd is
-a_request (bodies.Commit b) is = absurd is
-a_request (bodies.Reply b) is = absurd is
-a_request (bodies.Checkpoint b) is = absurd is
-a_request (bodies.ViewChange b) is = absurd is
-a_request (bodies.NewView b) is = absurd is
-a_request (bodies.Fetch b) is = absurd is
-a_request (bodies.Snapshot b) is = absurd is
+a_request _ is = absurd is

@@ -4,7 +4,7 @@ use Rattle.host_types.specs.Configuration.{Configuration}
 use Rattle.pbft_model.specs.Acts.{Act, after}
 use Rattle.pbft_model.specs.Rows as model
 use Rattle.pbft_model.specs.Rows.{Begins, IsNext}
-use Rattle.view_change.specs.Setups.{setup_of}
+use Rattle.pbft_model.specs.Setup.{setup_of}
 use Rattle.replica_core.specs.declared.halt.Halt.{Halt}
 use Rattle.replica_core.specs.declared.replica.Status.{Status}
 use Rattle.replica_core.specs.declared.row.Input.{Input}

@@ -9,10 +9,9 @@ use Rattle.pbft_model.specs.Duties.{Executing, due, due_execute}
 use Rattle.pbft_model.specs.Ending.{left_to_do}
 use Rattle.pbft_model.specs.Rows.{RepliesAlone}
 use Rattle.pbft_model.specs.Sequential.{Outcome, Service}
-use Rattle.pbft_model.specs.Setup.{Setup, view_limit}
+use Rattle.pbft_model.specs.Setup.{Setup, view_limit, setup_of}
 use Rattle.pbft_model.specs.Together.{AreExecutions, Execution}
 use Rattle.pbft_model.specs.Words.{Reply}
-use Rattle.view_change.specs.Setups.{setup_of}
 use Rattle.replica_core.specs.Replicas.{KeptReplica}
 use Rattle.replica_core.specs.Settling.{IsAfter, IsReached}
 

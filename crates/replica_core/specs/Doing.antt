@@ -12,7 +12,7 @@ use Rattle.pbft_model.specs.Words.{Body, Reply}
 use Rattle.replica_core.specs.declared.halt.Halt.{Halt}
 use Rattle.replica_core.specs.declared.halt.Halt.TheVariants as halts
 use Rattle.replica_core.specs.Replicas.{KeptReplica}
-use Rattle.view_change.specs.Setups.{setup_of}
+use Rattle.pbft_model.specs.Setup.{setup_of}
 
 -- The replica has done this act, but for the note that something was done.
 pub record Does (k : KeptReplica) (a : Act) (t : KeptReplica) : Type 0 where
@@ -31,9 +31,7 @@ Says k to body t = Does k (Send to (own_message k.core k.me body)) t
 abbrev pub IsShortOf : KeptReplica → ℕ → Halt → Type 0
 IsShortOf k leaves halts.Exhausted = leaf_count k.core.signer < k.core.signer.next_leaf + leaves
 IsShortOf k leaves halts.Memory = Unit {0}
-IsShortOf k leaves halts.Worn = ⊥
-IsShortOf k leaves halts.JournalFull = ⊥
-IsShortOf k leaves halts.AlreadyHalted = ⊥
+IsShortOf k leaves _ = ⊥
 
 -- the replica after an act
 abbrev pub act_done : KeptReplica → Act → KeptReplica

@@ -9,10 +9,9 @@ use Rattle.pbft_model.specs.Duties as model
 use Rattle.pbft_model.specs.Duties.{Do, Executing, WornOut, ask_for, change_to, due, due_answer, due_checkpoint, due_commit, due_enter, due_execute, due_install, due_on_timeout, due_open, due_prepare, due_propose, due_reply, due_supply, greatest_stable, is_lacking, or_else, reply_body, say, when}
 use Rattle.pbft_model.specs.Rules.{pre_prepare_of}
 use Rattle.pbft_model.specs.Sequential.{encoded, last_reply_of}
-use Rattle.pbft_model.specs.Setup.{Setup, number_limit}
+use Rattle.pbft_model.specs.Setup.{Setup, number_limit, setup_of}
 use Rattle.pbft_model.specs.Tables.{at, entries_in, number_key}
 use Rattle.seal.specs.Parts.{as_message}
-use Rattle.view_change.specs.Setups.{setup_of}
 use Rattle.replica_core.specs.Replicas.{KeptReplica}
 use Rattle.replica_core.specs.declared.duties.Duty.{Duty}
 use Rattle.replica_core.specs.declared.duties.Duty.TheVariants as duties

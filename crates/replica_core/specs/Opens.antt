@@ -6,12 +6,11 @@ use Rattle.pbft_codec.specs.Limits.{AscendFrom}
 use Rattle.pbft_model.specs.Acts.{All}
 use Rattle.pbft_model.specs.Certificates.{Fields, of_pre_prepare}
 use Rattle.pbft_model.specs.Rules.{chosen_changes, new_view_of, own_message, pre_prepare_of, signed_list}
-use Rattle.pbft_model.specs.Setup.{number_limit, primary, signer_after}
+use Rattle.pbft_model.specs.Setup.{number_limit, primary, signer_after, setup_of}
 use Rattle.pbft_model.specs.Validity.{given, is_valid_new_view}
 use Rattle.pbft_model.specs.Words.{Body, NewView, PrePrepare, Signed}
 use Rattle.seal.specs.Lists.{CheckedMessages}
 use Rattle.seal.specs.Parts.{as_message}
-use Rattle.view_change.specs.Setups.{setup_of}
 use Rattle.replica_core.specs.Replicas.{KeptReplica}
 
 abbrev pub opening_of : KeptReplica → NewView
@@ -19,7 +18,7 @@ opening_of k = new_view_of (setup_of k.config) k.me k.core
 
 -- The replica leads its view, and its NewView is valid, signers ascending.
 pub record IsToOpen (k : KeptReplica) : Type 0 where
-  pub leads : (primary (setup_of k.config) k.core.view == k.me) ≡ true
+  pub leads : (primary k.config k.core.view == k.me) ≡ true
   pub valid : is_valid_new_view (setup_of k.config) (opening_of k) ≡ true
   pub ascend : AscendFrom 0 (opening_of k).changes
 

@@ -17,7 +17,7 @@ use Rattle.std.specs.List.{AllByRecursion}
 use Rattle.pbft_model.specs.Rows.{Output, Done}
 use Rattle.seal.specs.Opening.{CheckedMessage}
 use Rattle.seal.specs.Signers.{key_of}
-use Rattle.quorum_log.specs.Log.{KeptLog}
+use Rattle.view_change.specs.Log.{KeptLog}
 use Rattle.checkpoints.specs.Kept.{KeptCheckpoints}
 use Rattle.replica_core.specs.declared.step.Step.{Step}
 use Rattle.replica_core.specs.Facts.{done_of, output_of}
@@ -48,15 +48,7 @@ pub record Parts : Type 0 where
 
 abbrev pub changes_in : Body → List (Signed ViewChange)
 changes_in (bodies.NewView n) = n.changes
-changes_in (bodies.Request b) = []
-changes_in (bodies.PrePrepare b) = []
-changes_in (bodies.Prepare b) = []
-changes_in (bodies.Commit b) = []
-changes_in (bodies.Reply b) = []
-changes_in (bodies.Checkpoint b) = []
-changes_in (bodies.ViewChange b) = []
-changes_in (bodies.Fetch b) = []
-changes_in (bodies.Snapshot b) = []
+changes_in _ = []
 
 -- the ViewChanges of the NewView that the view was entered by
 abbrev pub basis_in : Option CheckedMessage → List (Signed ViewChange)

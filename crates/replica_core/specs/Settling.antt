@@ -8,11 +8,10 @@ use Rattle.pbft_model.specs.Ending.{left_to_do}
 use Rattle.pbft_model.specs.Histories.{IsHistory, core_after}
 use Rattle.pbft_model.specs.Rows as model
 use Rattle.pbft_model.specs.Rows.{Follows, Fulfils, HasLeaves, Lacks, all_done, all_leaves, all_outputs, done_of, leaves_for, outputs_of}
-use Rattle.pbft_model.specs.Setup.{Setup}
+use Rattle.pbft_model.specs.Setup.{Setup, setup_of}
 use Rattle.replica_core.specs.declared.halt.Halt.{Halt}
 use Rattle.replica_core.specs.declared.halt.Halt.TheVariants as halts
 use Rattle.replica_core.specs.Replicas.{KeptReplica}
-use Rattle.view_change.specs.Setups.{setup_of}
 
 -- A core that a history of the replica comes to.
 pub record IsReached (c : Setup) (me : ℕ) (s : Core) : Type 0 where

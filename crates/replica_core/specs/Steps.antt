@@ -7,9 +7,8 @@ use Rattle.pbft_model.specs.Core.{Core, start_of}
 use Rattle.pbft_model.specs.Histories.{IsHistory, core_after}
 use Rattle.pbft_model.specs.Rows as model
 use Rattle.pbft_model.specs.Rows.{HaltsBy, IsLawfulFrom, IsNext}
-use Rattle.pbft_model.specs.Setup.{Setup}
+use Rattle.pbft_model.specs.Setup.{Setup, setup_of}
 use Rattle.pbft_model.specs.Words.{SigningState}
-use Rattle.view_change.specs.Setups.{setup_of}
 use Rattle.replica_core.specs.declared.halt.Halt.{Halt}
 use Rattle.replica_core.specs.declared.halt.Halt.TheVariants as halts
 use Rattle.replica_core.specs.declared.replica.Status.{Status}

@@ -15,7 +15,7 @@ ghost use Rattle.pbft_model.specs.Tables.{at, number_key};
 ghost use Rattle.pbft_model.specs.Words.{Body, Reply, RequestBody, Signed, Snapshot};
 ghost use Rattle.seal.specs.Parts.{as_message};
 ghost use Rattle.sha2.specs.Sha256.{sha256};
-ghost use Rattle.view_change.specs.Setups.{setup_of};
+ghost use Rattle.pbft_model.specs.Setup.{setup_of};
 ghost use Rattle.replica_core.specs.declared.halt.Halt.TheVariants.{Memory};
 ghost use Rattle.replica_core.specs.Doing.{Does, Executes, Fulfilled, IsShortOf, Says, SendsOwed, reported};
 
@@ -27,8 +27,8 @@ use pbft_codec::{
     Body, Checkpoint, Commit, Fetch, PrePrepare, Prepare, ReplyBody, Snapshot, TryClone,
 };
 use replica_stores::Proposal;
-use service_core::Outcome;
 use std::alloc::Global;
+use tenant_lanes::Outcome;
 
 impl Core {
     // ---- the normal case (section 4.2)
@@ -307,7 +307,7 @@ impl Core {
     pub(crate) fn rise(&mut self, number: SeqNo, digest: Digest)
         requires above { self.old.core.low < number.0 }
         requires reached { number.0 ≤ self.old.core.executed }
-        requires stable { is_stable (setup_of self.old.config) self.old.core.checkpoints number.0 digest.0 ≡ true }
+        requires stable { is_stable self.old.config self.old.core.checkpoints number.0 digest.0 ≡ true }
         ensures { self.new ≡ record self.old { core = discarded_to (setup_of self.old.config) self.old.core number.0 (proof_of (setup_of self.old.config) self.old.core number.0 digest.0) } }
     {
         self.log.discard_to(number);

@@ -6,7 +6,7 @@ ghost use Rattle.host_types.specs.declared.Digest.{Digest};
 ghost use Rattle.pbft_model.specs.Core.{request_of};
 ghost use Rattle.service_model.specs.Steps.{Follows};
 ghost use Rattle.service_model.specs.declared.outcome.Outcome.{Outcome};
-ghost use Rattle.view_change.specs.Setups.{setup_of};
+ghost use Rattle.pbft_model.specs.Setup.{setup_of};
 ghost use Rattle.replica_core.specs.declared.halt.Halt.TheVariants.{Memory};
 ghost use Rattle.replica_core.specs.Batching.{Ends, IsBatch, IsExecuting, IsReporting, ahead};
 ghost use Rattle.replica_core.specs.Replicas.{KeptReplica};
@@ -15,9 +15,8 @@ ghost use Rattle.replica_core.specs.Settling.{Comes, HaltsAfter, IsReached};
 use crate::halt::Halt;
 use crate::kept::Core;
 use host_types::{Digest, Gate, Request, SeqNo};
-use service_core::Outcome;
 use std::thread::Threads;
-use tenant_lanes::apply_all;
+use tenant_lanes::{Outcome, apply_all};
 
 impl Core {
     /// Executes the requests that are committed at the numbers behind the last executed one, up to the

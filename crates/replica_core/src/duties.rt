@@ -2,10 +2,9 @@
 
 ghost use Rattle.std.specs.Prelude.{◌≡◌, ◌+◌, ◌<◌, Some, true};
 ghost use Rattle.std.specs.Option.{option_map};
-ghost use Rattle.pbft_model.specs.Setup.{span};
+ghost use Rattle.pbft_model.specs.Setup.{span, setup_of};
 ghost use Rattle.replica_core.specs.declared.duties.Duty.TheVariants as duties;
 ghost use Rattle.pbft_model.specs.Duties as model;
-ghost use Rattle.view_change.specs.Setups.{setup_of};
 ghost use Rattle.replica_core.specs.Meanings.{Finds, IsDue, at_once, by_taken, fetch_for, in_view};
 
 use crate::kept::{Core, digest_of};
@@ -292,7 +291,7 @@ impl Core {
 
     // The number at an index between the marks.
     fn number_at(&self, index: u64) -> SeqNo
-        requires { index < span (setup_of self.now.config) }
+        requires { index < span self.now.config }
         ensures { result.0 ≡ self.now.core.low + 1 + index }
     {
         SeqNo(self.log.low().0 + 1 + index)

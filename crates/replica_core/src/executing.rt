@@ -14,7 +14,7 @@ use crate::kept::Core;
 use crate::row::Done;
 use host_types::{Bytes, Digest, Reply, Request, SeqNo};
 use replica_stores::Owed;
-use service_core::Outcome;
+use tenant_lanes::Outcome;
 
 impl Core {
     /// Takes a request, or the null request, as the next number.

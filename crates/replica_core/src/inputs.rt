@@ -12,9 +12,9 @@ use crate::kept::Core;
 use crate::row::{Input, Row};
 use host_types::Gate;
 use seal::Checked;
-use service_core::State;
 use std::alloc::AllocError;
 use std::thread::Threads;
+use tenant_lanes::State;
 
 impl Core {
     /// Takes a message, and does what it asks for, until nothing is due. After a halt the replica is of no

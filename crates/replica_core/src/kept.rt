@@ -9,23 +9,22 @@ ghost use Rattle.pbft_model.specs.Core.{floor_in, is_committed, is_known, if_pas
 ghost use Rattle.pbft_model.specs.Certificates.{of_pre_prepare};
 ghost use Rattle.pbft_model.specs.Acts.{is_awaited};
 ghost use Rattle.pbft_model.specs.Duties.{leads};
-ghost use Rattle.pbft_model.specs.Setup.{null_digest, span};
+ghost use Rattle.pbft_model.specs.Setup.{null_digest, span, setup_of};
 ghost use Rattle.seal.specs.Signers.{key_of};
 ghost use Rattle.sha2.specs.Sha256.{sha256};
-ghost use Rattle.view_change.specs.Setups.{setup_of};
 
 use crate::step::Step;
 use checkpoints::Checkpoints;
 use host_types::{Config, Digest, ReplicaId, SeqNo, View};
 use lms_tree::Signer;
-use quorum_log::QuorumLog;
 use replica_stores::{Certificates, Changes, Requests, Sent};
 use seal::Checked;
-use service_core::State;
 use sha2::Sha256;
 use std::alloc::{AllocError, Global};
 use std::marker::Model;
 use std::sync::Arc;
+use tenant_lanes::State;
+use view_change::QuorumLog;
 
 /// What a replica keeps.
 #[derive(Drop)]
@@ -116,7 +115,7 @@ impl Core {
 
     /// How many numbers lie between the marks.
     pub(crate) fn span(&self) -> u64
-        ensures { result ≡ span (setup_of self.now.config) }
+        ensures { result ≡ span self.now.config }
     {
         2 * u64::from(self.config.k())
     }

@@ -27,3 +27,4 @@ pub use halt::Halt;
 pub use laws::checkpoints_give_valid_proofs;
 pub use replica::{Replica, Status, rows_are_lawful};
 pub use row::{Dest, Done, Input, Output, Row};
+pub use tenant_lanes::{State, StateFault};

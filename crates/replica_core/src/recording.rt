@@ -10,7 +10,8 @@ ghost use Rattle.seal.specs.Votes.{vote_of};
 ghost use Rattle.checkpoints.specs.Kept.{checkpoint_of};
 ghost use Rattle.replica_stores.specs.Stores.{IsRequest};
 ghost use Rattle.replica_core.specs.declared.halt.Halt.TheVariants.{Memory};
-ghost use Rattle.view_change.specs.Setups.{IsNewView, IsViewChange, setup_of};
+ghost use Rattle.pbft_model.specs.Setup.{setup_of};
+ghost use Rattle.view_change.specs.Messages.{IsNewView, IsViewChange};
 
 use crate::halt::{Halt, unless_memory};
 use crate::kept::Core;
@@ -18,8 +19,8 @@ use checkpoints::{CheckpointFault, Checkpoints};
 use host_types::{SeqNo, View};
 use pbft_codec::{Body, Snapshot};
 use seal::{Checked, CheckedList, nested_checkpoints};
-use service_core::{State, StateFault};
 use std::sync::Arc;
+use tenant_lanes::{State, StateFault};
 use view_change::{valid, valid_new_view};
 
 impl Core {

@@ -8,7 +8,7 @@ ghost use Rattle.lms_tree.specs.SigningState.{SigningState};
 ghost use Rattle.pbft_codec.specs.declared.signed.Role.TheVariants as roles;
 ghost use Rattle.pbft_model.specs.Core.{start_of};
 ghost use Rattle.seal.specs.Signers.{key_of};
-ghost use Rattle.view_change.specs.Setups.{setup_of};
+ghost use Rattle.pbft_model.specs.Setup.{setup_of};
 ghost use Rattle.replica_core.specs.declared.row.Input.TheVariants as inputs;
 ghost use Rattle.replica_core.specs.Facts.{RowFacts};
 ghost use Rattle.replica_core.specs.Steps.{IsAllowed, IsLawful, IsRun, ReplicaFacts, Steps, first_with, leaves_left_of, status_of};
@@ -19,11 +19,11 @@ use crate::row::Row;
 use host_types::{Config, Gate, ReplicaId, SeqNo, View};
 use lms_tree::Signer;
 use seal::Checked;
-use service_core::State;
 use std::alloc::{AllocError, Global};
 use std::marker::Model;
 use std::sync::Arc;
 use std::thread::Threads;
+use tenant_lanes::State;
 
 /// Where a replica stands after its last row; and whether it has stopped since.
 #[derive(Clone, Copy, Debug, PartialEq, Eq)]

@@ -3,7 +3,7 @@
 ghost use Rattle.std.specs.Prelude.{◌≡◌, ◌<◌, ◌^◌, Some, true, IfErr, IfOk, OnOk};
 ghost use Rattle.host_types.specs.Configuration.{IsConfiguration};
 ghost use Rattle.pbft_model.specs.Duties.{due};
-ghost use Rattle.view_change.specs.Setups.{setup_of};
+ghost use Rattle.pbft_model.specs.Setup.{setup_of};
 ghost use Rattle.replica_core.specs.Batching.{IsExecuting};
 ghost use Rattle.replica_core.specs.Doing.{Performs};
 ghost use Rattle.replica_core.specs.Meanings.{IsDue};

@@ -5,8 +5,8 @@ ghost use Rattle.std.specs.Prelude.{◌≡◌, [], false, None};
 use crate::row::{Dest, Done, Output};
 use replica_stores::Owed;
 use seal::Checked;
-use service_core::State;
 use std::alloc::{AllocError, Global};
+use tenant_lanes::State;
 
 /// What a replica keeps only while it does what one message or one timeout asks for.
 #[derive(Drop)]

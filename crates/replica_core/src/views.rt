@@ -12,7 +12,7 @@ ghost use Rattle.pbft_model.specs.Validity.{is_valid_new_view};
 ghost use Rattle.pbft_model.specs.Words.{NewView};
 ghost use Rattle.seal.specs.Opening.{sealed_message};
 ghost use Rattle.view_change.specs.Sealable.{HasShortLists, IsSealable};
-ghost use Rattle.view_change.specs.Setups.{setup_of};
+ghost use Rattle.pbft_model.specs.Setup.{setup_of};
 ghost use Rattle.replica_core.specs.declared.halt.Halt.TheVariants.{Memory};
 ghost use Rattle.replica_core.specs.Doing.{Fulfilled, IsShortOf, Says};
 ghost use Rattle.replica_core.specs.Opens.{AreGiven, IsProposal, IsToOpen, after_leaves, chosen_by, opening_message, signed_by_all, with_opening};

@@ -11,8 +11,8 @@ use Rattle.seal.specs.Signers.{key_of}
 use Rattle.pbft_model.specs.Core.{Core, start_of}
 use Rattle.pbft_model.specs.Rows.{IsLawfulFrom, IsListed, IsNext}
 use Rattle.pbft_model.specs.Rows as model
-use Rattle.pbft_model.proofs.Reporting.{one_row_more}
-use Rattle.view_change.specs.Setups.{setup_of}
+use Rattle.pbft_model.proofs.Unique.{one_row_more}
+use Rattle.pbft_model.specs.Setup.{setup_of}
 use Rattle.replica_core.specs.Facts.{RowFacts, row_of}
 use Rattle.replica_core.specs.Steps.{Goes, ReplicaFacts, Stops, StopsFrom, first_with, status_of}
 use Rattle.replica_core.specs.declared.halt.Halt.{Halt}
@@ -54,7 +54,7 @@ row_more r rows limit status row before next k running room was is_next =
     let last = k.journal.last in
     let same : before ≡ last = the_same before last (sym was ∙ k.running running) in
     let from : IsNext c r.me last (row_of row) next = subst (λ (s : Core). IsNext c r.me s (row_of row) next) same is_next in
-    let lawful = one_row_more c r.me k.journal.signer (map row_of rows) (row_of row) (start_of c k.journal.signer) last next k.journal.lawful from in
+    let lawful = one_row_more c r.me (map row_of rows) (row_of row) (start_of c k.journal.signer) last next k.journal.lawful from in
     record {
       journal = record {
         signer = k.journal.signer;
@@ -156,9 +156,7 @@ could_not : (r : ReplicaFacts) (rows : List RowFacts) (limit : ℕ) (status stat
 could_not r rows limit status status' input halts.AlreadyHalted cannot = (cannot.0, ap (λ (s : Status). at r rows limit s) cannot.1)
 could_not r rows limit status status' input halts.JournalFull cannot =
     record { running = cannot.0; full = cannot.1; replica_is = refl; halts = record { rows_are = refl; limit_is = refl; status_is = cannot.2 } }
-could_not r rows limit status status' input halts.Exhausted cannot = absurd cannot
-could_not r rows limit status status' input halts.Memory cannot = absurd cannot
-could_not r rows limit status status' input halts.Worn cannot = absurd cannot
+could_not r rows limit status status' input _ cannot = absurd cannot
 
 -- ---- what a step keeps
 

@@ -4,8 +4,7 @@ use Rattle.host_types.specs.Configuration.{Configuration}
 use Rattle.lms_tree.specs.SigningState.{SigningState}
 use Rattle.pbft_model.specs.Core.{Core}
 use Rattle.pbft_model.specs.Rows.{IsJournal, leaves_in}
-use Rattle.pbft_model.specs.Setup.{signer_after}
-use Rattle.view_change.specs.Setups.{setup_of}
+use Rattle.pbft_model.specs.Setup.{signer_after, setup_of}
 use Rattle.replica_core.specs.Facts.{RowFacts, row_of}
 use Rattle.replica_core.specs.Steps.{Goes, ReplicaFacts, Stops, first_with, status_of}
 use Rattle.replica_core.specs.declared.halt.Halt.{Halt}
@@ -110,9 +109,7 @@ pub record IsFull (j : JournalFacts) (t : JournalFacts) : Type 0 where
 abbrev pub CannotStep : ℕ → ℕ → Status → Halt → Status → Type 0
 CannotStep rows limit was halts.AlreadyHalted now = IsSome was.halted × (now ≡ was)
 CannotStep rows limit was halts.JournalFull now = (was.halted ≡ None) × (limit ≤ rows) × (now ≡ record was { halted = Some halts.JournalFull })
-CannotStep rows limit was halts.Exhausted now = ⊥
-CannotStep rows limit was halts.Memory now = ⊥
-CannotStep rows limit was halts.Worn now = ⊥
+CannotStep rows limit was _ now = ⊥
 
 -- the halt of a step that left no row
 abbrev pub IsHaltOf : Result RowFacts Unkept → Halt → Type 0

@@ -1,1 +1,11 @@
 pub mod Keeping
+pub use Rattle.replica_core.specs.Facts
+pub use Rattle.replica_core.specs.Halts
+pub use Rattle.replica_core.specs.Steps
+pub use Rattle.replica_core.specs.declared.halt.Halt
+pub use Rattle.replica_core.specs.declared.replica.Status
+pub use Rattle.replica_core.specs.declared.row.Dest
+pub use Rattle.replica_core.specs.declared.row.Done
+pub use Rattle.replica_core.specs.declared.row.Input
+pub use Rattle.replica_core.specs.declared.row.Output
+pub use Rattle.replica_core.specs.declared.row.Row

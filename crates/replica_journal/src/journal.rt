@@ -6,7 +6,7 @@ ghost use Rattle.lms_tree.specs.Keys.{IsKeyOf};
 ghost use Rattle.pbft_codec.specs.declared.signed.Role.TheVariants as roles;
 ghost use Rattle.pbft_model.specs.Rows.{IsJournal};
 ghost use Rattle.seal.specs.Signers.{key_of};
-ghost use Rattle.view_change.specs.Setups.{setup_of};
+ghost use Rattle.pbft_model.specs.Setup.{setup_of};
 ghost use Rattle.replica_core.specs.Facts.{row_of};
 ghost use Rattle.replica_core.specs.declared.halt.Halt.TheVariants as halts;
 ghost use Rattle.replica_core.specs.declared.row.Input.TheVariants as inputs;
@@ -34,7 +34,7 @@ pub struct Journal {
 
 impl Model for Journal {
     ghost use Rattle.std.specs.Coded.{codes};
-    ghost use Rattle.service_model.specs.Equality.{service_code};
+    ghost use Rattle.pbft_model.specs.Equality.{service_code};
     ghost use Rattle.replica_journal.specs.Keeping.{IsKept, JournalFacts};
 
     ghost Value = { JournalFacts };

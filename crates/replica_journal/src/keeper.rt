@@ -29,7 +29,7 @@ pub struct Keeper {
 
 impl Model for Keeper {
     ghost use Rattle.std.specs.Coded.{codes};
-    ghost use Rattle.service_model.specs.Equality.{service_code};
+    ghost use Rattle.pbft_model.specs.Equality.{service_code};
     ghost use Rattle.replica_journal.specs.Keeping.{KeeperFacts};
 
     ghost Value = { KeeperFacts };

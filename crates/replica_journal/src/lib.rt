@@ -13,4 +13,5 @@ mod unkept;
 pub use journal::Journal;
 pub use keeper::Keeper;
 pub use law::a_core_is_the_journals_replay;
+pub use replica_core::{Dest, Done, Halt, Input, Output, Replica, Row, State, StateFault, Status};
 pub use unkept::Unkept;

@@ -7,8 +7,8 @@ use Rattle.host_types.specs.Configuration.{Configuration}
 use Rattle.pbft_codec.specs.declared.body.Body.TheVariants as bodies
 use Rattle.pbft_model.specs.Tables.{number_key}
 use Rattle.pbft_model.specs.Words.{Certificate, Prepare, Signed, as_message}
-use Rattle.quorum_log.specs.declared.certificate.CheckedCertificate.{CheckedCertificate}
-use Rattle.quorum_log.specs.Log.{as_checked}
+use Rattle.view_change.specs.CheckedCertificate.{CheckedCertificate}
+use Rattle.view_change.specs.Log.{as_checked}
 use Rattle.replica_stores.specs.Certificates.{AreCheckedCertificates, as_prepare, certificate_in}
 use Rattle.replica_stores.proofs.Entries.{IsKey}
 

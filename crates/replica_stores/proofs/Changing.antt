@@ -20,7 +20,7 @@ use Rattle.pbft_model.specs.Words.{Replica, Client, Role, ViewChange, as_message
 use Rattle.seal.specs.Lists.{under}
 use Rattle.seal.specs.Opening.{CheckedMessage, IsChecked}
 use Rattle.seal.specs.Signers.{key_of as listed_key, may_sign}
-use Rattle.quorum_log.proofs.Tables.{is_equal, same_key}
+use Rattle.view_change.proofs.Tables.{is_equal, same_key}
 use Rattle.replica_stores.specs.Changes.{AreChanges, IsChange, Entry, Origin, as_change, change_in, is_wanted, key_of}
 use Rattle.replica_stores.specs.Entries.{table_of}
 use Rattle.replica_stores.proofs.Certifying.{then_equal}

@@ -12,7 +12,7 @@ use Rattle.seal.specs.Lists.{CheckedMessages, under, with_message}
 use Rattle.seal.specs.Opening.{CheckedMessage}
 use Rattle.std.specs.Option.{option_map}
 use Rattle.host_types.specs.Configuration.{Configuration}
-use Rattle.ballots.proofs.Least.{append_nil, gathered_next}
+use Rattle.view_change.proofs.Least.{append_nil, gathered_next}
 use Rattle.replica_stores.specs.Changes.{chosen_below, is_other_wanted, is_wanted}
 use Rattle.replica_stores.proofs.Lists.{map_append}
 

@@ -11,11 +11,10 @@ use Rattle.pbft_codec.specs.Encoding.{signed_text}
 use Rattle.pbft_model.specs.Acts.{add_request, still_held, with_body}
 use Rattle.pbft_model.specs.Core.{held_with, is_named, is_new, names}
 use Rattle.pbft_model.specs.Sequential.{Service}
-use Rattle.pbft_model.specs.Setup.{digest_of}
+use Rattle.pbft_model.specs.Setup.{digest_of, setup_of}
 use Rattle.pbft_model.specs.Words.{PrePrepare, RequestBody, Signed, as_message}
 use Rattle.seal.specs.Lists.{under}
 use Rattle.seal.specs.Opening.{CheckedMessage}
-use Rattle.view_change.specs.Setups.{setup_of}
 use Rattle.replica_stores.specs.Requests.{AreHeld, IsHeld, as_request, request_body, requests_in}
 use Rattle.replica_stores.specs.declared.requests.Held.{Held}
 use Rattle.replica_stores.proofs.Lists.{all_implied, filter_alike, filter_mapped, find_alike, find_in, find_mapped}

@@ -68,15 +68,15 @@ signed_by : List Entry → ℕ → Bool
 signed_by hs i = list_any (λ (p : Origin). p.1 == i) (map origin_of hs)
 
 joined : (c : Setup) (d : Configuration) (me : ℕ) (s : Core) (hs : List Entry) → AreChanges d hs
-    → join c me s (map message_of hs) ≡ option_map (change_to c me s) (cond (nat_le (c.config.f + 1) (count (λ i. list_any (λ (p : Origin). p.1 == i) (map origin_of hs)) (replicas c))) (fold lowest None (map origin_of hs)) None)
-joined c d me s [] all = nothing (nat_le (c.config.f + 1) (count (λ i. false) (replicas c))) where
+    → join c me s (map message_of hs) ≡ option_map (change_to c me s) (cond (nat_le (c.config.f + 1) (count (λ i. list_any (λ (p : Origin). p.1 == i) (map origin_of hs)) (replicas c.config))) (fold lowest None (map origin_of hs)) None)
+joined c d me s [] all = nothing (nat_le (c.config.f + 1) (count (λ i. false) (replicas c.config))) where
   nothing : (b : Bool) → None ≡ option_map (change_to c me s) (cond b None None)
   nothing true = refl
   nothing false = refl
 joined c d me s (h ∷ hs) all =
-    (λ j. when (nat_le (c.config.f + 1) (count (λ i. signers_are d (h ∷ hs) all i j) (replicas c))) (change_to c me s (least_view (map message_of hs) (all.0.view j))))
-    ∙ chosen (nat_le (c.config.f + 1) (count (λ i. list_any (λ (p : Origin). p.1 == i) (map origin_of (h ∷ hs))) (replicas c)))
-    ∙ ap (λ o. option_map (change_to c me s) (cond (nat_le (c.config.f + 1) (count (λ i. list_any (λ (p : Origin). p.1 == i) (map origin_of (h ∷ hs))) (replicas c))) o None)) (sym (least_of d hs h.0.0 all.1)) where
+    (λ j. when (nat_le (c.config.f + 1) (count (λ i. signers_are d (h ∷ hs) all i j) (replicas c.config))) (change_to c me s (least_view (map message_of hs) (all.0.view j))))
+    ∙ chosen (nat_le (c.config.f + 1) (count (λ i. list_any (λ (p : Origin). p.1 == i) (map origin_of (h ∷ hs))) (replicas c.config)))
+    ∙ ap (λ o. option_map (change_to c me s) (cond (nat_le (c.config.f + 1) (count (λ i. list_any (λ (p : Origin). p.1 == i) (map origin_of (h ∷ hs))) (replicas c.config))) o None)) (sym (least_of d hs h.0.0 all.1)) where
       chosen : (b : Bool) → when b (change_to c me s (least_view (map message_of hs) h.0.0)) ≡ option_map (change_to c me s) (cond b (Some (least_view (map message_of hs) h.0.0)) None)
       chosen true = refl
       chosen false = refl
@@ -84,18 +84,18 @@ joined c d me s (h ∷ hs) all =
 -- ---- the duty
 
 pub join_due : (c : Setup) (d : Configuration) (me : ℕ) (s : Core) (es : List Entry) → AreChanges d es → s.changes ≡ table_of key_of as_change es
-    → due_join c me s ≡ option_map (change_to c me s) (cond (nat_le (c.config.f + 1) (count (λ i. list_any (λ (p : Origin). p.1 == i) (filter (is_ahead s.view me) (map origin_of es))) (replicas c))) (fold lowest None (filter (is_ahead s.view me) (map origin_of es))) None)
+    → due_join c me s ≡ option_map (change_to c me s) (cond (nat_le (c.config.f + 1) (count (λ i. list_any (λ (p : Origin). p.1 == i) (filter (is_ahead s.view me) (map origin_of es))) (replicas c.config))) (fold lowest None (filter (is_ahead s.view me) (map origin_of es))) None)
 join_due c d me s es all e =
     ap (join c me s) (higher_are d me s es all e) ∙ joined c d me s (ahead s.view me es) (all_filtered (IsChange d) (λ e. is_ahead s.view me e.0) es all)
-    ∙ ap (λ (ps : List Origin). option_map (change_to c me s) (cond (nat_le (c.config.f + 1) (count (λ i. list_any (λ (p : Origin). p.1 == i) ps) (replicas c))) (fold lowest None ps) None)) (sym (origins_are s.view me es))
+    ∙ ap (λ (ps : List Origin). option_map (change_to c me s) (cond (nat_le (c.config.f + 1) (count (λ i. list_any (λ (p : Origin). p.1 == i) ps) (replicas c.config))) (fold lowest None ps) None)) (sym (origins_are s.view me es))
 
 pub join_is : (c : Setup) (d : Configuration) (me : ℕ) (s : Core) (es : List Entry) (view n : ℕ) (signers : ℕ → Bool) → AreChanges d es → s.changes ≡ table_of key_of as_change es → s.view ≡ view
-    → ((i : ℕ) → signers i ≡ list_any (λ (p : Origin). p.1 == i) (filter (is_ahead view me) (map origin_of es))) → n ≡ count signers (replicas c)
+    → ((i : ℕ) → signers i ≡ list_any (λ (p : Origin). p.1 == i) (filter (is_ahead view me) (map origin_of es))) → n ≡ count signers (replicas c.config)
     → due_join c me s ≡ option_map (change_to c me s) (cond (nat_le (c.config.f + 1) n) (fold lowest None (filter (is_ahead view me) (map origin_of es))) None)
 join_is c d me s es view n signers all e v h counted =
     join_due c d me s es all e
-    ∙ (λ j. option_map (change_to c me s) (cond (nat_le (c.config.f + 1) (count (λ i. list_any (λ (p : Origin). p.1 == i) (filter (is_ahead (v j) me) (map origin_of es))) (replicas c))) (fold lowest None (filter (is_ahead (v j) me) (map origin_of es))) None))
-    ∙ (λ j. option_map (change_to c me s) (cond (nat_le (c.config.f + 1) (count (λ i. sym (h i) j) (replicas c))) (fold lowest None (filter (is_ahead view me) (map origin_of es))) None))
+    ∙ (λ j. option_map (change_to c me s) (cond (nat_le (c.config.f + 1) (count (λ i. list_any (λ (p : Origin). p.1 == i) (filter (is_ahead (v j) me) (map origin_of es))) (replicas c.config))) (fold lowest None (filter (is_ahead (v j) me) (map origin_of es))) None))
+    ∙ (λ j. option_map (change_to c me s) (cond (nat_le (c.config.f + 1) (count (λ i. sym (h i) j) (replicas c.config))) (fold lowest None (filter (is_ahead view me) (map origin_of es))) None))
     ∙ (λ j. option_map (change_to c me s) (cond (nat_le (c.config.f + 1) (sym counted j)) (fold lowest None (filter (is_ahead view me) (map origin_of es))) None))
 
 pub to_view : (duty : ℕ → Duty) (r : Option View) → option_map duty (option_map (λ w. w.0) r) ≡ option_map (λ w. duty w.0) r

@@ -8,8 +8,8 @@ use Rattle.pbft_codec.specs.declared.body.Body.TheVariants as bodies
 use Rattle.pbft_model.specs.Acts.{with_body}
 use Rattle.pbft_model.specs.Tables.{Table, number_key}
 use Rattle.pbft_model.specs.Words.{Certificate, PrePrepare, Prepare, Signed}
-use Rattle.quorum_log.specs.declared.certificate.CheckedCertificate.{CheckedCertificate}
-use Rattle.quorum_log.specs.Log.{as_checked}
+use Rattle.view_change.specs.CheckedCertificate.{CheckedCertificate}
+use Rattle.view_change.specs.Log.{as_checked}
 use Rattle.replica_stores.specs.Entries.{table_of}
 
 -- A PrePrepare's body. A certificate has no message of another kind there.

@@ -5,10 +5,9 @@ use Rattle.host_types.specs.Configuration.{Configuration}
 use Rattle.pbft_codec.specs.declared.body.Body.{Body}
 use Rattle.pbft_codec.specs.declared.body.Body.TheVariants as bodies
 use Rattle.pbft_model.specs.Acts.{with_body}
-use Rattle.pbft_model.specs.Setup.{digest_of}
+use Rattle.pbft_model.specs.Setup.{digest_of, setup_of}
 use Rattle.pbft_model.specs.Words.{RequestBody, Signed}
 use Rattle.seal.specs.Opening.{CheckedMessage}
-use Rattle.view_change.specs.Setups.{setup_of}
 use Rattle.replica_stores.specs.declared.requests.Held.{Held}
 
 -- A Request's body. No message of another kind is held.

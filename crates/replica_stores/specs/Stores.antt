@@ -53,15 +53,7 @@ pub record KeptRequests : Type 0 where
 
 abbrev pub IsRequest : Body → Type 0
 IsRequest (bodies.Request b) = Unit {0}
-IsRequest (bodies.PrePrepare b) = ⊥
-IsRequest (bodies.Prepare b) = ⊥
-IsRequest (bodies.Commit b) = ⊥
-IsRequest (bodies.Reply b) = ⊥
-IsRequest (bodies.Checkpoint b) = ⊥
-IsRequest (bodies.ViewChange b) = ⊥
-IsRequest (bodies.NewView b) = ⊥
-IsRequest (bodies.Fetch b) = ⊥
-IsRequest (bodies.Snapshot b) = ⊥
+IsRequest _ = ⊥
 
 -- a PrePrepare of the view or an own proposal names the digest
 abbrev pub is_proposed_in : ℕ → List (Signed PrePrepare) → List Fields → List ℕ → Bool

@@ -4,15 +4,15 @@ ghost use Rattle.std.specs.Prelude.{◌≡◌, [], map, IfOk, OnOk, OnErr};
 ghost use Rattle.host_types.specs.Configuration.{Configuration};
 ghost use Rattle.pbft_model.specs.Tables.{entries_in, is_above, keep, number_key, with_entry};
 ghost use Rattle.pbft_model.specs.Words.{Certificate};
-ghost use Rattle.quorum_log.specs.Log.{as_checked};
+ghost use Rattle.view_change.specs.Log.{as_checked};
 ghost use Rattle.replica_stores.specs.Certificates.{AreCheckedCertificates, certificate_in, certificates_in};
 
 use host_types::{Config, SeqNo};
-use quorum_log::CheckedCertificate;
 use std::alloc::{AllocError, Global};
 use std::collections::BTreeMap;
 use std::marker::Model;
 use std::sync::Arc;
+use view_change::CheckedCertificate;
 
 /// The certificates of views that were left, by number. Contracts see them as the protocol's core keeps
 /// them.

@@ -16,7 +16,8 @@ ghost use Rattle.pbft_model.specs.Tables.{add_if, at, change_key, first_in, keep
 ghost use Rattle.pbft_model.specs.Words.{ViewChange};
 ghost use Rattle.seal.specs.Lists.{with_message};
 ghost use Rattle.seal.specs.Parts.{as_message};
-ghost use Rattle.view_change.specs.Setups.{IsViewChange, setup_of};
+ghost use Rattle.pbft_model.specs.Setup.{setup_of};
+ghost use Rattle.view_change.specs.Messages.{IsViewChange};
 ghost use Rattle.replica_stores.specs.Changes.{AreChanges, IsChange, as_change, changes_in, is_ahead, is_wanted, key_of, least_with};
 
 use host_types::{Config, ReplicaId, ReplicaSet, View};
@@ -100,7 +101,7 @@ impl Changes {
 
     /// Whether ViewChanges of a quorum for a view are kept. It takes no memory.
     pub fn has_quorum(&self, view: View) -> bool
-        ensures { (s : Core) → s.changes ≡ self.now.changes → s.view ≡ view.0 → result ≡ has_quorum (setup_of self.now.config) (wants_view s) }
+        ensures { (s : Core) → s.changes ≡ self.now.changes → s.view ≡ view.0 → result ≡ has_quorum self.now.config (wants_view s) }
     {
         let mut count = 0;
         for id in 0..self.config.replica_count() {

@@ -5,23 +5,22 @@ ghost use Rattle.std.specs.Option.{option_copied, option_map};
 ghost use Rattle.pbft_codec.specs.declared.body.Body.TheVariants as bodies;
 ghost use Rattle.pbft_model.specs.Acts.{add_request, still_held, with_body};
 ghost use Rattle.pbft_model.specs.Core.{held_with, is_new, names};
-ghost use Rattle.pbft_model.specs.Setup.{digest_of};
+ghost use Rattle.pbft_model.specs.Setup.{digest_of, setup_of};
 ghost use Rattle.pbft_model.specs.Tables.{entries_in};
 ghost use Rattle.pbft_model.specs.Words.{RequestBody};
 ghost use Rattle.seal.specs.Parts.{as_message};
-ghost use Rattle.view_change.specs.Setups.{setup_of};
 ghost use Rattle.replica_stores.specs.Requests.{as_request};
 ghost use Rattle.replica_stores.specs.Stores.{IsRequest, is_proposed_in};
 
 use crate::sent::Sent;
 use host_types::{ClientId, Config, Digest, View};
 use pbft_codec::Body;
-use quorum_log::QuorumLog;
 use seal::{Checked, request_digest};
 use service_core::State;
 use std::alloc::{AllocError, Global};
 use std::marker::Model;
 use std::sync::Arc;
+use view_change::QuorumLog;
 
 /// A request that is held, with its digest.
 #[derive(Drop)]

@@ -3,7 +3,7 @@ use Rattle.std.proofs.Common.{◌≡◌, ℕ, ◌+◌, List, [], ◌∷◌, ◌+
 use Rattle.std.proofs.lemmas.List.{length-map, map-append}
 use Rattle.host_types.specs.Configuration.{Configuration}
 use Rattle.host_types.specs.declared.ReplicaId.{ReplicaId}
-use Rattle.replica_core.specs.Facts.{RowFacts}
+use Rattle.byz_world.specs.Facts.{RowFacts}
 use Rattle.byz_world.specs.Records.{AreJournals}
 use Rattle.replica_threads.specs.Hosts.{AreIdsFrom, RecordFacts}
 use Rattle.replica_threads.specs.Stations.{IsJournalOf}

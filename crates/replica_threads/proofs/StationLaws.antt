@@ -1,10 +1,10 @@
 -- What a kept journal makes of a station's answers.
 use Rattle.std.proofs.Common.{◌≡◌, ℕ, ◌≤◌, List, length, ap, subst, ◌∙◌}
 use Rattle.host_types.specs.Configuration.{Configuration}
-use Rattle.replica_core.specs.Facts.{RowFacts}
-use Rattle.replica_core.specs.Steps.{ReplicaFacts}
-use Rattle.replica_core.specs.declared.row.Input.{Input}
-use Rattle.replica_journal.specs.Keeping.{Appends, IsKept, JournalFacts}
+use Rattle.byz_world.specs.Facts.{RowFacts}
+use Rattle.byz_world.specs.Steps.{ReplicaFacts}
+use Rattle.byz_world.specs.Input.{Input}
+use Rattle.byz_world.specs.Keeping.{Appends, IsKept, JournalFacts}
 use Rattle.replica_threads.specs.Stations.{IsAnswered, IsJournalOf, IsReported}
 
 -- The journal of a replica that is this one.

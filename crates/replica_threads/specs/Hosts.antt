@@ -5,7 +5,7 @@ use Rattle.host_types.specs.declared.ReplicaId.{ReplicaId}
 use Rattle.host_types.specs.declared.key.PublicKey.{PublicKey}
 use Rattle.lms_tree.specs.SigningState.{SigningState}
 use Rattle.lms_tree.specs.Keys.{IsKeyOf}
-use Rattle.replica_core.specs.Facts.{RowFacts}
+use Rattle.byz_world.specs.Facts.{RowFacts}
 
 -- What a contract sees of a closed station's journal.
 pub record RecordFacts : Type 0 where

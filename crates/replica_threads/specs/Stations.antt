@@ -1,13 +1,13 @@
 -- Statement: what a station answers through a seat, and what it leaves when it is closed.
 use Rattle.std.specs.Prelude.{◌≡◌, ℕ, ◌+◌, ◌≤◌, List, [], ◌∷◌, ◌++◌, length, map, Result, Ok, Err}
 use Rattle.host_types.specs.Configuration.{Configuration}
-use Rattle.pbft_model.specs.Rows.{IsJournal}
-use Rattle.view_change.specs.Setups.{setup_of}
-use Rattle.replica_core.specs.Facts.{RowFacts, row_of}
-use Rattle.replica_core.specs.declared.halt.Halt.{Halt}
-use Rattle.replica_core.specs.declared.replica.Status.{Status}
-use Rattle.replica_core.specs.declared.row.Input.{Input}
-use Rattle.replica_journal.specs.Keeping.{stands}
+use Rattle.byz_world.specs.Rows.{IsJournal}
+use Rattle.byz_world.specs.Setup.{setup_of}
+use Rattle.byz_world.specs.Facts.{RowFacts, row_of}
+use Rattle.byz_world.specs.Halt.{Halt}
+use Rattle.byz_world.specs.Status.{Status}
+use Rattle.byz_world.specs.Input.{Input}
+use Rattle.byz_world.specs.Keeping.{stands}
 
 -- What a contract sees of a seat: how many rows were answered through it, and its parts of the ledger.
 pub record SeatFacts : Type 0 where

@@ -5,14 +5,14 @@ ghost use Rattle.host_types.specs.Configuration.{replicas_for};
 ghost use Rattle.lms_tree.specs.Keys.{IsKeyOf};
 ghost use Rattle.pbft_codec.specs.declared.signed.Role.TheVariants as roles;
 ghost use Rattle.seal.specs.Signers.{key_of};
-ghost use Rattle.replica_journal.specs.Keeping.{first_journal};
+ghost use Rattle.byz_world.specs.Keeping.{first_journal};
 
 use crate::furnishing::Inbox;
 use crate::links::{Letter, Parcel};
+use byz_world::Journal;
 use crossbeam_channel::Receiver;
 use host_types::{Config, ReplicaId};
 use lms_tree::Signer;
-use replica_journal::Journal;
 use std::alloc::{AllocError, Global};
 use std::sync::Arc;
 

@@ -22,6 +22,7 @@ mod seat;
 mod serving;
 mod station;
 
+pub use byz_world::{Dest, Input, Replica, Row};
 pub use fault::HostFault;
 pub use host::Host;
 pub use locked::Locked;

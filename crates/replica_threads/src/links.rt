@@ -5,9 +5,9 @@ ghost use Rattle.replica_threads.specs.declared.fault.HostFault.TheVariants as f
 
 use crate::fault::HostFault;
 use crate::record::JournalRecord;
+use byz_world::{Dest, Row};
 use crossbeam_channel::{SendError, Sender};
 use host_types::{Bytes, ClientId, Config, Gate, ReplicaId};
-use replica_core::{Dest, Row};
 use seal::{Checked, open};
 use std::alloc::Global;
 use std::sync::{Arc, Mutex, Wait};

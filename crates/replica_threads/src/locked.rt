@@ -2,17 +2,16 @@
 //! Only these methods reach its fields.
 
 ghost use Rattle.std.specs.Prelude.{◌≡◌, ◌≤◌, ◌↔◌, [], IfOk, IsTrue};
-ghost use Rattle.replica_core.specs.declared.row.Input.TheVariants as inputs;
-ghost use Rattle.replica_journal.specs.Keeping.{Advances, MayStep};
+ghost use Rattle.byz_world.specs.Input.TheVariants as inputs;
+ghost use Rattle.byz_world.specs.Keeping.{Advances, MayStep};
 ghost use Rattle.replica_threads.specs.Stations.{IsAnswered, IsClosed, IsJournalOf, IsReported, counted_by};
 
 use crate::lane_gate::LANES;
 use crate::named::Named;
 use crate::record::JournalRecord;
 use crate::seat::Seat;
+use byz_world::{Halt, Journal, Row, Status};
 use host_types::{Config, Gate, ReplicaId};
-use replica_core::{Halt, Row, Status};
-use replica_journal::Journal;
 use seal::Checked;
 use std::marker::Model;
 use std::sync::Arc;
@@ -31,8 +30,8 @@ pub struct Locked<K: Named> {
 impl<K: Named> Model for Locked<K> {
     ghost use Rattle.std.specs.Prelude.{◌≡◌, ◌≤◌, length};
     ghost use Rattle.std.specs.Coded.{codes};
-    ghost use Rattle.service_model.specs.Equality.{service_code};
-    ghost use Rattle.replica_journal.specs.Keeping.{JournalFacts};
+    ghost use Rattle.byz_world.specs.Equality.{service_code};
+    ghost use Rattle.byz_world.specs.Keeping.{JournalFacts};
 
     ghost Value = { JournalFacts };
 

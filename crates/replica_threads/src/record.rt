@@ -3,8 +3,8 @@
 ghost use Rattle.std.specs.Prelude.{◌≡◌, true};
 ghost use Rattle.replica_threads.specs.Stations.{IsJournalOf};
 
+use byz_world::Row;
 use host_types::{Config, ReplicaId};
-use replica_core::Row;
 use std::marker::Model;
 use std::sync::Arc;
 

@@ -1,6 +1,3 @@
-mod Keys
-mod KeyLemmas
-mod Founds
 mod Unless
 mod Documents
 mod Counting

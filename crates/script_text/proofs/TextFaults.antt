@@ -3,31 +3,25 @@ use Rattle.std.proofs.Common.{◌≡◌, ℕ, List, [], Option, Some, None, Resu
 use Rattle.std.specs.Prelude.{nat_lt, length}
 use Rattle.toml.specs.Data.{Items, Members, no_items, item}
 use Rattle.host_types.specs.Configuration.{replicas_for}
-use Rattle.script_text.specs.Faults.{kind_of}
+use Rattle.script_values.specs.Faults.{kind_of}
 use Rattle.script_text.specs.Dialects.{head_for, step}
 use Rattle.script_text.specs.Heads.{HeadFacts}
 use Rattle.script_text.specs.Scripts.{document, listed_steps, next_step, script_for, script_from, script_in, script_of, script_with, steps_from, steps_in, with_step}
 use Rattle.script_text.specs.declared.dialect.Dialect.{Dialect}
 use Rattle.script_text.specs.declared.dialect.Dialect.TheVariants.{World}
-use Rattle.script_text.specs.declared.fault.ScriptFault.{ScriptFault}
-use Rattle.script_text.specs.declared.fault.ScriptKind.{ScriptKind}
-use Rattle.script_text.specs.declared.fault.ScriptKind.TheVariants as kinds
-use Rattle.script_text.specs.declared.fault.TableFault.{TableFault}
-use Rattle.script_text.specs.declared.fault.TableFault.TheVariants as faults
+use Rattle.script_values.specs.declared.fault.ScriptFault.{ScriptFault}
+use Rattle.script_values.specs.declared.fault.ScriptKind.{ScriptKind}
+use Rattle.script_values.specs.declared.fault.ScriptKind.TheVariants as kinds
+use Rattle.script_values.specs.declared.fault.TableFault.{TableFault}
+use Rattle.script_values.specs.declared.fault.TableFault.TheVariants as faults
 use Rattle.script_text.specs.declared.script.NamedStep.{NamedStep}
 
 -- It is no fault of a run.
 abbrev pub IsOfText : ScriptKind → Type 0
-IsOfText kinds.NotToml = Unit {0}
-IsOfText kinds.MissingKey = Unit {0}
-IsOfText kinds.WrongValue = Unit {0}
-IsOfText kinds.UnknownKey = Unit {0}
-IsOfText kinds.BadConfig = Unit {0}
 IsOfText kinds.TooManyDeliveries = ⊥
-IsOfText kinds.TooLong = Unit {0}
 IsOfText kinds.Read = ⊥
 IsOfText kinds.Write = ⊥
-IsOfText kinds.Memory = Unit {0}
+IsOfText _ = Unit {0}
 
 abbrev AreOfText : {A : Type 0} → Result A ScriptFault → Type 0
 AreOfText (Ok x) = Unit {0}
@@ -35,10 +29,7 @@ AreOfText (Err fault) = IsOfText fault.kind
 
 of_table : (f : TableFault) → IsOfText (kind_of f)
 of_table faults.Memory = tt
-of_table faults.MissingKey = tt
-of_table faults.WrongValue = tt
-of_table faults.UnknownKey = tt
-of_table faults.BadConfig = tt
+of_table _ = tt
 
 of_step : (steps : List NamedStep) (number : ℕ) (r : Result NamedStep TableFault) → AreOfText (with_step steps number r)
 of_step steps number (Ok s) = tt

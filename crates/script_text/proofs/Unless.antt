@@ -1,9 +1,9 @@
 -- What was read, unless memory ran out, where a part of it is a fault.
 use Rattle.std.proofs.Common.{◌≡◌, Result, Ok, Err, refl, sym, subst}
-use Rattle.script_text.specs.declared.fault.TableFault.{TableFault}
-use Rattle.script_text.specs.declared.fault.TableFault.TheVariants as faults
-use Rattle.script_text.specs.Faults.{IsUnlessMemory, least}
-use Rattle.script_text.specs.Forms.{pair_of}
+use Rattle.script_values.specs.declared.fault.TableFault.{TableFault}
+use Rattle.script_values.specs.declared.fault.TableFault.TheVariants as faults
+use Rattle.script_values.specs.Faults.{IsUnlessMemory, least}
+use Rattle.script_values.specs.Forms.{pair_of}
 
 -- What can only be out of memory may be anything else.
 memory_alone : {A : Type 0} (r is : Result A TableFault) → IsUnlessMemory r (Err faults.Memory) → IsUnlessMemory r is
@@ -16,10 +16,7 @@ memory_alone (Err faults.BadConfig) is h = absurd cc
 
 pub fault_itself : (A : Type 0) (fault : TableFault) → IsUnlessMemory {A = A} (Err fault) (Err fault)
 fault_itself A faults.Memory = tt
-fault_itself A faults.MissingKey = refl
-fault_itself A faults.WrongValue = refl
-fault_itself A faults.UnknownKey = refl
-fault_itself A faults.BadConfig = refl
+fault_itself A _ = refl
 
 -- A reading that goes on from a fault, and gives Memory for Memory.
 pub goes_on : {A B : Type 0} (fault : TableFault) (said : Result A TableFault) (then : Result A TableFault → Result B TableFault) (r : Result B TableFault)
@@ -32,10 +29,7 @@ goes_on {A} faults.BadConfig said then r memory given is = subst (λ (x : Result
 
 memory_least : (fault : TableFault) → least faults.Memory fault ≡ faults.Memory
 memory_least faults.Memory = refl
-memory_least faults.MissingKey = refl
-memory_least faults.WrongValue = refl
-memory_least faults.UnknownKey = refl
-memory_least faults.BadConfig = refl
+memory_least _ = refl
 
 -- Memory is the fault of a pair, whatever its other part.
 pub memory_pair : {A B : Type 0} (other : Result B TableFault) → pair_of {A = A} (Err faults.Memory) other ≡ Err faults.Memory

@@ -5,28 +5,15 @@ use Rattle.toml.specs.Data.{Data, Items, Members, no_items, item, as_array, as_s
 use Rattle.host_types.specs.declared.ReplicaId.{ReplicaId}
 use Rattle.script_text.specs.declared.dialect.Dialect.{Dialect}
 use Rattle.script_text.specs.declared.dialect.Dialect.TheVariants.{World, Threads}
-use Rattle.script_text.specs.declared.fault.TableFault.{TableFault}
-use Rattle.script_text.specs.declared.fault.TableFault.TheVariants.{MissingKey, UnknownKey, WrongValue}
-use Rattle.script_text.specs.declared.script.Client.{Client}
+use Rattle.script_values.specs.declared.fault.TableFault.{TableFault}
+use Rattle.script_values.specs.declared.fault.TableFault.TheVariants.{MissingKey, WrongValue}
+use Rattle.script_values.specs.declared.said.Client.{Client}
 use Rattle.script_text.specs.declared.script.NamedStep.{NamedStep}
 use Rattle.script_text.specs.declared.script.Step.{Step}
-use Rattle.script_text.specs.Faults.{least}
-use Rattle.script_text.specs.Forms.{if_found}
+use Rattle.script_values.specs.Forms.{if_found, unknown_where, wrong_where}
 use Rattle.script_text.specs.Heads.{HeadFacts, head_in}
 use Rattle.script_text.specs.Naming.{named}
 use Rattle.script_text.specs.Steps.{name_in, step_named}
-
--- A reading where this is wrong, besides what is wrong with it.
-abbrev pub wrong_where : {A : Type 0} → Bool → Result A TableFault → Result A TableFault
-wrong_where false reading = reading
-wrong_where true (Ok x) = Err WrongValue
-wrong_where true (Err fault) = Err (least fault WrongValue)
-
--- A reading where a key is unknown, besides what is wrong with it.
-abbrev pub unknown_where : {A : Type 0} → Bool → Result A TableFault → Result A TableFault
-unknown_where false reading = reading
-unknown_where true (Ok x) = Err UnknownKey
-unknown_where true (Err fault) = Err (least fault UnknownKey)
 
 -- whether a list has an item
 abbrev pub has_item : Option Items → Bool

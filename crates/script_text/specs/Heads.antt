@@ -1,6 +1,6 @@
 -- Statement: the head of a script: who takes part.
 use Rattle.std.specs.Prelude.{◌≡◌, codes, ℕ, ℤ, pos, negsuc, ◌==◌, nat_lt, List, [], ◌∷◌, ◌++◌, map, replicate, Option, Some, None, is_none, option_and_then, Result, Ok, Err, if◌then◌else◌}
-use Rattle.toml.specs.Data.{Members, as_integer, get_member}
+use Rattle.toml.specs.Data.{Data, Members, as_integer, as_table, get_member}
 use Rattle.host_types.specs.Configuration.{Configuration, fault_of, replicas_for}
 use Rattle.host_types.specs.declared.ReplicaId.{ReplicaId}
 use Rattle.host_types.specs.declared.config.ClientEntry.{ClientEntry}
@@ -8,16 +8,16 @@ use Rattle.host_types.specs.declared.key.PublicKey.{PublicKey}
 use Rattle.host_types.specs.declared.key.PublicKey.TheVariants.{Lms}
 use Rattle.lms_tree.specs.declared.Height.{Height}
 use Rattle.lms_tree.specs.declared.Height.TheVariants.{H5}
-use Rattle.script_text.specs.declared.fault.TableFault.{TableFault}
-use Rattle.script_text.specs.declared.fault.TableFault.TheVariants.{BadConfig}
+use Rattle.script_values.specs.declared.fault.TableFault.{TableFault}
+use Rattle.script_values.specs.declared.fault.TableFault.TheVariants.{BadConfig}
 use Rattle.script_text.specs.declared.head.Needed.{Needed}
 use Rattle.script_text.specs.declared.head.Optional.{Optional}
-use Rattle.script_text.specs.declared.script.Client.{Client}
-use Rattle.script_text.specs.declared.replica_keys.KeyLists.{KeyLists}
-use Rattle.script_text.specs.declared.replica_keys.KeyShape.{KeyShape}
-use Rattle.script_text.specs.declared.script.Secret.{Secret}
-use Rattle.script_text.specs.KeyShapes.{given_or, key_lists, keys_in, unspent}
-use Rattle.script_text.specs.Forms.{any_table, bottom, pair_of, client, height, integer, list_of, needed_key, only_keys, optional_key, replica, secret}
+use Rattle.script_values.specs.declared.said.Client.{Client}
+use Rattle.script_values.specs.declared.replica_keys.KeyLists.{KeyLists}
+use Rattle.script_values.specs.declared.replica_keys.KeyShape.{KeyShape}
+use Rattle.script_values.specs.declared.said.Secret.{Secret}
+use Rattle.script_values.specs.KeyShapes.{given_or, key_lists, keys_in, unspent}
+use Rattle.script_values.specs.Forms.{any_table, bottom, pair_of, height, if_found, integer, list_of, needed_key, only_keys, optional_key, replica, secret, up_to}
 
 -- What a contract sees of a head.
 pub record HeadFacts : Type 0 where
@@ -52,6 +52,21 @@ IsLegal f k clients = fault_of (keyless_configuration f k clients) ≡ None
 -- how the key of each client is made: no leaf of it is used
 abbrev pub client_shape : HeadFacts → KeyShape
 client_shape h = unspent h.client_height h.client_bottom
+
+-- ---- a client's table
+
+abbrev pub client_from : Result (ℕ × ℕ) TableFault → Result Client TableFault
+client_from (Ok ids) = Ok (record { id = record { 0 = ids.0 }; tenant = record { 0 = ids.1 } })
+client_from (Err fault) = Err fault
+
+abbrev pub client_in : Members → Result Client TableFault
+client_in members =
+    client_from (only_keys
+    (pair_of (needed_key (up_to 4294967295) (codes "id") members) (needed_key (up_to 4294967295) (codes "tenant") members))
+    (codes "id" ∷ codes "tenant" ∷ []) members)
+
+abbrev pub client : Data → Result Client TableFault
+client d = if_found client_in (as_table d)
 
 -- ---- what is read
 

@@ -2,11 +2,11 @@
 use Rattle.std.specs.Prelude.{ℕ, Bool, true, false, List, Option, Some, None, Result, Ok, Err, bytes_eq}
 use Rattle.std.specs.List.{list_any}
 use Rattle.toml.specs.Data.{Data, as_str}
-use Rattle.script_text.specs.declared.fault.TableFault.{TableFault}
-use Rattle.script_text.specs.declared.fault.TableFault.TheVariants.{WrongValue}
+use Rattle.script_values.specs.declared.fault.TableFault.{TableFault}
+use Rattle.script_values.specs.declared.fault.TableFault.TheVariants.{WrongValue}
 use Rattle.script_text.specs.declared.script.NamedStep.{NamedStep}
 use Rattle.script_text.specs.declared.script.Step.{Step}
-use Rattle.script_text.specs.Forms.{if_found, pair_of}
+use Rattle.script_values.specs.Forms.{if_found, pair_of}
 
 -- ---- which names there are
 

@@ -5,12 +5,12 @@ use Rattle.std.specs.declared.alloc.Global.{Global}
 use Rattle.toml.specs.Data.{Items, Members, no_items, item, as_array, get_member}
 use Rattle.toml.specs.Parse.{parse_document}
 use Rattle.host_types.specs.Configuration.{replicas_for}
-use Rattle.script_text.specs.declared.fault.ScriptFault.{ScriptFault}
-use Rattle.script_text.specs.declared.fault.ScriptKind.TheVariants.{NotToml, TooLong, Memory}
-use Rattle.script_text.specs.declared.fault.TableFault.{TableFault}
+use Rattle.script_values.specs.declared.fault.ScriptFault.{ScriptFault}
+use Rattle.script_values.specs.declared.fault.ScriptKind.TheVariants.{NotToml, TooLong, Memory}
+use Rattle.script_values.specs.declared.fault.TableFault.{TableFault}
 use Rattle.script_text.specs.declared.script.Script.{Script}
 use Rattle.script_text.specs.declared.script.NamedStep.{NamedStep}
-use Rattle.script_text.specs.Faults.{at_head, kind_of}
+use Rattle.script_values.specs.Faults.{at_head, kind_of}
 use Rattle.script_text.specs.declared.dialect.Dialect.{Dialect}
 use Rattle.script_text.specs.declared.dialect.Dialect.TheVariants.{World, Threads}
 use Rattle.script_text.specs.Dialects.{head_for, step}

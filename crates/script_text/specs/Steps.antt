@@ -2,17 +2,17 @@
 use Rattle.std.specs.Prelude.{ℕ, codes, List, [], ◌∷◌, ◌++◌, Option, Some, None, Result, Ok, Err, is_some, bytes_eq, if◌then◌else◌}
 use Rattle.seal.specs.declared.vote.VoteKind.{VoteKind}
 use Rattle.toml.specs.Data.{Members, get_member}
-use Rattle.script_text.specs.declared.fault.TableFault.{TableFault}
-use Rattle.script_text.specs.declared.script.Client.{Client}
-use Rattle.script_text.specs.declared.fault.TableFault.TheVariants.{WrongValue}
+use Rattle.script_values.specs.declared.fault.TableFault.{TableFault}
+use Rattle.script_values.specs.declared.said.Client.{Client}
+use Rattle.script_values.specs.declared.fault.TableFault.TheVariants.{WrongValue}
 use Rattle.script_text.specs.declared.script.Damage.{Damage}
 use Rattle.script_text.specs.declared.script.Damage.TheVariants.{Cut, Flip}
 use Rattle.script_text.specs.declared.script.Filter.{Filter}
 use Rattle.script_text.specs.declared.script.ForgedMessage.{ForgedMessage}
 use Rattle.script_text.specs.declared.script.ForgedMessage.TheVariants.{Vote, Checkpoint, ViewChange}
 use Rattle.script_text.specs.declared.script.Forgery.{Forgery}
-use Rattle.script_text.specs.declared.values.ForgedKind.{ForgedKind}
-use Rattle.script_text.specs.declared.values.ForgedKind.TheVariants as forged
+use Rattle.script_values.specs.declared.values.ForgedKind.{ForgedKind}
+use Rattle.script_values.specs.declared.values.ForgedKind.TheVariants as forged
 use Rattle.std.specs.Int.{to_be_bytes, w32}
 use Rattle.std.specs.Option.{option_map}
 use Rattle.host_types.specs.declared.ClientId.{ClientId}
@@ -23,15 +23,15 @@ use Rattle.script_text.specs.declared.script.NamedStep.{NamedStep}
 use Rattle.script_text.specs.declared.script.Order.{Order}
 use Rattle.script_text.specs.declared.script.Payload.{Payload}
 use Rattle.script_text.specs.declared.script.Payload.TheVariants.{Bytes, Message}
-use Rattle.script_text.specs.declared.script.Node.{Node}
+use Rattle.script_values.specs.declared.said.Node.{Node}
 use Rattle.script_text.specs.declared.script.Printout.{Printout}
 use Rattle.script_text.specs.declared.script.Printout.TheVariants as printouts
 use Rattle.script_text.specs.declared.script.QueueEdit.TheVariants as edits
 use Rattle.script_text.specs.declared.script.Step.{Step}
 use Rattle.script_text.specs.declared.script.Step.TheVariants as steps
-use Rattle.script_text.specs.declared.kind.Kind.{Kind}
+use Rattle.script_values.specs.declared.kind.Kind.{Kind}
 use Rattle.script_text.specs.Naming.{given_name, new_name}
-use Rattle.script_text.specs.Forms.{assembler_text, pair_of, client_name, faulty_index, hex_bytes, digest, forged_kind, is_one_of, kind_name, lines, list_of, needed_key, only_keys, optional_key, node, replica, sequence_number, up_to, yes}
+use Rattle.script_values.specs.Forms.{assembler_text, pair_of, client_name, faulty_index, hex_bytes, digest, forged_kind, is_one_of, kind_name, lines, list_of, needed_key, only_keys, optional_key, node, replica, sequence_number, up_to, yes}
 
 -- what a reading says, put into a step
 abbrev pub as_step : {A : Type 0} → (A → Step) → Result A TableFault → Result Step TableFault

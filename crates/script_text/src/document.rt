@@ -4,19 +4,18 @@ ghost use Rattle.std.specs.Prelude.{◌≡◌, ◌≤◌, ◌⊎◌, ◌++◌, �
 ghost use Rattle.std.specs.Option.{option_map};
 ghost use Rattle.toml.specs.Parse.{parse_document};
 ghost use Rattle.toml.specs.View.{items_view, table_view};
-ghost use Rattle.script_text.specs.Faults.{IsUnlessMemory, at_head};
-ghost use Rattle.script_text.specs.declared.fault.TableFault.{TableFault};
-ghost use Rattle.script_text.specs.declared.fault.ScriptKind.TheVariants.{Memory, NotToml};
+ghost use Rattle.script_values.specs.Faults.{IsUnlessMemory, at_head};
+ghost use Rattle.script_values.specs.declared.fault.TableFault.{TableFault};
+ghost use Rattle.script_values.specs.declared.fault.ScriptKind.TheVariants.{Memory, NotToml};
 ghost use Rattle.script_text.specs.declared.script.NamedStep.{NamedStep as StepSaid};
 ghost use Rattle.script_text.specs.Scripts.{IsScriptUnlessMemory, count_in, document, items_in, listed_steps, next_step, script_for, script_in, script_of, steps_from, steps_in, steps_listed, thread_script_of, with_step};
 
 use crate::dialect::Dialect;
-use crate::fault::{ScriptFault, ScriptKind, TableFault};
-use crate::form::value_at;
 use crate::head::{Head, read_head};
 use crate::script::{NamedStep, Script};
 use crate::step_keys::read_step;
 use pbft_codec::Sequence;
+use script_values::{ScriptFault, ScriptKind, TableFault, value_at};
 use std::alloc::{AllocError, Global};
 use toml::{Table, Value};
 

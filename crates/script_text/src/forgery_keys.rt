@@ -4,21 +4,19 @@ ghost use Rattle.std.specs.Prelude.{◌≡◌, ℕ, List, Option, Result, map};
 ghost use Rattle.host_types.specs.declared.ClientId.{ClientId};
 ghost use Rattle.host_types.specs.declared.SeqNo.{SeqNo};
 ghost use Rattle.toml.specs.View.{table_view};
-ghost use Rattle.script_text.specs.declared.fault.TableFault.{TableFault};
+ghost use Rattle.script_values.specs.declared.fault.TableFault.{TableFault};
 ghost use Rattle.script_text.specs.declared.script.ForgedMessage.{ForgedMessage as ForgedMessageSaid};
-ghost use Rattle.script_text.specs.Faults.{IsUnlessMemory};
+ghost use Rattle.script_values.specs.Faults.{IsUnlessMemory};
 ghost use Rattle.script_text.specs.Steps.{Route as RouteSaid, checkpoint_in, forged_vote_in, forgery_from, forgery_in, forgery_with, named_in, null_in, route_in, view_change_in, vote_for, vote_from, vote_of};
 
-use crate::fault::TableFault;
-use crate::form::{needed, pair, value_at, with_only};
-use crate::script::{ForgedMessage, ForgedVote, Forgery, Node, Number};
+use crate::script::{ForgedMessage, ForgedVote, Forgery};
 use crate::step_keys::{MAX_INTEGER, Names};
-use crate::values::{
-    ClientName, DigestDigits, FaultyIndex, ForgedKind, ForgedKindName, ListOf, NodeName,
-    SequenceNumber, True, UpTo, Word,
-};
 use host_types::{ClientId, ReplicaId, View};
 use pbft_codec::Sequence;
+use script_values::{
+    ClientName, DigestDigits, FaultyIndex, ForgedKind, ForgedKindName, ListOf, Node, NodeName,
+    Number, SequenceNumber, TableFault, True, UpTo, Word, needed, pair, value_at, with_only,
+};
 use seal::VoteKind;
 use std::alloc::Global;
 use toml::Table;

@@ -5,25 +5,23 @@ ghost use Rattle.host_types.specs.Configuration.{fault_of, replicas_for};
 ghost use Rattle.toml.specs.Data.{as_array};
 ghost use Rattle.toml.specs.View.{table_view, view};
 ghost use Rattle.script_text.specs.Dialects.{has_item, head_for, names_faulty};
-ghost use Rattle.script_text.specs.declared.fault.TableFault.{TableFault};
-ghost use Rattle.script_text.specs.declared.fault.TableFault.TheVariants.{BadConfig, Memory};
-ghost use Rattle.script_text.specs.Faults.{IsUnlessMemory};
-ghost use Rattle.script_text.specs.Forms.{only_keys};
+ghost use Rattle.script_values.specs.declared.fault.TableFault.{TableFault};
+ghost use Rattle.script_values.specs.declared.fault.TableFault.TheVariants.{BadConfig, Memory};
+ghost use Rattle.script_values.specs.Faults.{IsUnlessMemory};
+ghost use Rattle.script_values.specs.Forms.{only_keys};
 ghost use Rattle.script_text.specs.Heads.{IsLegal, byte_of, client_heights_in, client_shape, count_of_faulty, head_from, head_in, head_keys, head_of, if_legal, keyless, keyless_configuration, listed_clients, named_count, needed_head, no_key, optional_faulty, optional_head, replica_count};
-ghost use Rattle.script_text.specs.KeyShapes.{given_or, leaves_of, shape_at};
+ghost use Rattle.script_values.specs.KeyShapes.{given_or, leaves_of, shape_at};
 
 use crate::dialect::Dialect;
-use crate::fault::TableFault;
-use crate::form::{Form, needed, optional, pair, unknown_where, value_at, with_only, wrong_where};
-use crate::replica_keys::{KEY_LISTS, KeyShape, ReplicaKeys, read_keys};
-use crate::script::{Client, Secret};
-use crate::values::{
-    AnyTable, BottomHeight, Integer, KeyHeight, ListOf, ReplicaIndex, SecretDigits, Word, table_of,
-};
 use host_types::limits::MAX_FAULTY;
 use host_types::{ClientEntry, ClientId, Config, PublicKey, ReplicaId, TenantId};
 use lms_tree::Height;
 use pbft_codec::Sequence;
+use script_values::{
+    AnyTable, BottomHeight, Client, Form, Integer, KEY_LISTS, KeyHeight, KeyShape, ListOf,
+    ReplicaIndex, ReplicaKeys, Secret, SecretDigits, TableFault, Word, needed, optional, pair,
+    read_keys, table_of, unknown_where, value_at, with_only, wrong_where,
+};
 use std::alloc::{AllocError, Global};
 use std::marker::Model;
 use toml::{Table, Value};
@@ -388,7 +386,7 @@ fn read_lists(alloc: Global, table: &Table) -> Result<Option<Sequence<Client>>, 
 struct ClientTable;
 
 impl Form for ClientTable {
-    ghost use Rattle.script_text.specs.Forms.{client};
+    ghost use Rattle.script_text.specs.Heads.{client};
 
     ghost reads = { λ _ d. client d };
 

@@ -7,31 +7,24 @@
 //!     }
 #![tactic(auto)]
 
-mod assembly;
 mod dialect;
 mod document;
-mod fault;
 mod forgery_keys;
-mod form;
 mod head;
-mod kind;
-mod lines;
 mod naming;
 mod raw_keys;
-mod replica_keys;
 mod script;
 mod step_keys;
-mod values;
 
 pub use dialect::Dialect;
 pub use document::{MAX_SCRIPT, read_script, read_thread_script};
-pub use fault::{ScriptFault, ScriptKind};
 pub use head::{CLIENT_HINTS, HEAD_HINTS, Head};
-pub use kind::Kind;
-pub use replica_keys::{KEY_LIST_HINTS, KeyShape};
 pub use script::{
-    Client, Damage, Filter, ForgedMessage, ForgedVote, Forgery, MessageName, NamedStep, Node,
-    Number, Operation, Order, Payload, Printout, QueueEdit, Script, ScriptBytes, Secret, Step,
-    node_text,
+    Damage, Filter, ForgedMessage, ForgedVote, Forgery, NamedStep, Order, Payload, Printout,
+    QueueEdit, Script, Step,
+};
+pub use script_values::{
+    Client, KEY_LIST_HINTS, KeyShape, Kind, MessageName, Node, Number, Operation, ScriptBytes,
+    ScriptFault, ScriptKind, Secret, node_text,
 };
 pub use step_keys::{STEP_FORMS, STEP_HINTS};

@@ -4,9 +4,8 @@ ghost use Rattle.std.specs.Prelude.{◌≡◌, bytes_eq};
 ghost use Rattle.std.specs.List.{list_any};
 ghost use Rattle.script_text.specs.Naming.{is_given, is_name};
 
-use crate::fault::TableFault;
-use crate::form::Form;
-use crate::script::{MessageName, NamedStep};
+use crate::script::NamedStep;
+use script_values::{Form, MessageName, TableFault};
 use std::alloc::Global;
 use toml::Value;
 

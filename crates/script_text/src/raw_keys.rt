@@ -2,21 +2,21 @@
 
 ghost use Rattle.std.specs.Prelude.{◌≡◌, ℕ, List, Option, Result, codes, map};
 ghost use Rattle.toml.specs.View.{table_view};
-ghost use Rattle.script_text.specs.declared.fault.TableFault.{TableFault};
+ghost use Rattle.script_values.specs.declared.fault.TableFault.{TableFault};
 ghost use Rattle.script_text.specs.declared.script.Damage.{Damage as DamageSaid};
 ghost use Rattle.script_text.specs.declared.script.Damage.TheVariants as damages;
-ghost use Rattle.script_text.specs.declared.script.Node.{Node as NodeSaid};
+ghost use Rattle.script_values.specs.declared.said.Node.{Node as NodeSaid};
 ghost use Rattle.script_text.specs.declared.script.Payload.{Payload as PayloadSaid};
-ghost use Rattle.script_text.specs.Faults.{IsUnlessMemory};
+ghost use Rattle.script_values.specs.Faults.{IsUnlessMemory};
 ghost use Rattle.script_text.specs.Steps.{bytes_in, change_at, message_with, raw_from, raw_in, raw_with};
 
-use crate::fault::TableFault;
-use crate::form::{needed, optional, pair, value_at, with_only};
 use crate::naming::GivenName;
-use crate::script::{Damage, Node, Payload, QueueEdit, Step};
+use crate::script::{Damage, Payload, QueueEdit, Step};
 use crate::step_keys::{MAX_INTEGER, Names};
-use crate::values::{HexBytes, ListOf, NodeName, UpTo};
 use pbft_codec::Sequence;
+use script_values::{
+    HexBytes, ListOf, Node, NodeName, TableFault, UpTo, needed, optional, pair, value_at, with_only,
+};
 use std::alloc::Global;
 use toml::Table;
 

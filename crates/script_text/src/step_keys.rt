@@ -4,37 +4,29 @@ ghost use Rattle.std.specs.Int.{to_be_bytes, w32};
 ghost use Rattle.std.specs.Prelude.{◌≡◌, ◌∷◌, ◌++◌, ℕ, IfOk, List, Ok, Option, Result, codes, map};
 ghost use Rattle.host_types.specs.Configuration.{replicas_for};
 ghost use Rattle.toml.specs.View.{table_view, view};
-ghost use Rattle.script_text.specs.declared.fault.TableFault.{TableFault};
+ghost use Rattle.script_values.specs.declared.fault.TableFault.{TableFault};
 ghost use Rattle.script_text.specs.declared.script.Damage.{Damage as DamageSaid};
 ghost use Rattle.script_text.specs.declared.script.Damage.TheVariants as damages;
 ghost use Rattle.script_text.specs.declared.script.Step.{Step as StepSaid};
-ghost use Rattle.script_text.specs.Faults.{IsUnlessMemory};
+ghost use Rattle.script_values.specs.Faults.{IsUnlessMemory};
 ghost use Rattle.script_text.specs.Naming.{named};
 ghost use Rattle.script_text.specs.Steps.{Selection as SelectionSaid, arguments_of, asm_in, bare, call_in, damage_at, deliver_in, drop_in, expect_in, filter_in, filter_of, install_in, mangle_from, mangle_in, mangle_with, name_in, order_in, order_with, queue_in, repeat_in, selection_in, state_in, step_named, timeout_in, upgrade_in};
 ghost use Rattle.script_text.specs.Dialects.{step, step_named_for, thread_step};
 
-use crate::assembly::AssemblerText;
 use crate::dialect::Dialect;
-use crate::fault::TableFault;
 use crate::forgery_keys::read_forgery;
-use crate::form::{
-    is_among, needed, optional, pair, unknown_where, value_at, with_only, wrong_where,
-};
 use crate::head::Head;
-use crate::kind::Kind;
-use crate::lines::Lines;
 use crate::naming::NewName;
 use crate::raw_keys::read_raw;
-use crate::script::{
-    Client, Damage, Filter, MessageName, NamedStep, Node, Operation, Order, Printout, QueueEdit,
-    ScriptBytes, Step,
-};
-use crate::values::{
-    ClientName, HexBytes, KindName, ListOf, NodeName, ReplicaIndex, UpTo, Word, table_of,
-};
+use crate::script::{Damage, Filter, NamedStep, Order, Printout, QueueEdit, Step};
 use host_types::operation::{CALL, INSTALL};
 use host_types::{Bytes, ReplicaId};
 use pbft_codec::Sequence;
+use script_values::{
+    AssemblerText, Client, ClientName, HexBytes, Kind, KindName, Lines, ListOf, MessageName, Node,
+    NodeName, Operation, ReplicaIndex, ScriptBytes, TableFault, UpTo, Word, is_among, needed,
+    optional, pair, table_of, unknown_where, value_at, with_only, wrong_where,
+};
 use std::alloc::{AllocError, Global};
 use toml::{Table, Value};
 

@@ -130,16 +130,9 @@ unfolding body
 body_le_new_view n = omega arith
 
 in_body : (c : Configuration) (b : Body) → BodyWellFormed b → length (body b) ≤ max_bytes → AllByRecursion (IsAuthentic c) (nested_in b) → AllByRecursion (CanNest c) (children_of b)
-in_body c (bodies.Request r) well_formed le authentic = tt
-in_body c (bodies.PrePrepare p) well_formed le authentic = tt
-in_body c (bodies.Prepare p) well_formed le authentic = tt
-in_body c (bodies.Commit m) well_formed le authentic = tt
-in_body c (bodies.Reply r) well_formed le authentic = tt
-in_body c (bodies.Checkpoint m) well_formed le authentic = tt
 in_body c (bodies.ViewChange v) well_formed le authentic = in_change c v well_formed (omega (arith, body_le_view_change v)) authentic
 in_body c (bodies.NewView n) well_formed le authentic = in_entry c n well_formed (omega (arith, body_le_new_view n)) authentic
-in_body c (bodies.Fetch f) well_formed le authentic = tt
-in_body c (bodies.Snapshot s) well_formed le authentic = tt
+in_body c _ well_formed le authentic = tt
 
 pub children_stand : (c : Configuration) (m : Signed Body) → BodyWellFormed m.body → length (encoding m) ≤ max_bytes → AllByRecursion (IsAuthentic c) (messages_in m) → AllByRecursion (CanNest c) (children_of m.body)
 children_stand c m well_formed le authentic = in_body c m.body well_formed (omega (arith, length_signed body m)) authentic.1
@@ -164,28 +157,13 @@ fronts c (m ∷ ms) h =
     (front c m.body (children_stand c (as_message bodies.ViewChange m) h.0.well_formed h.0.within h.0.authentic)) (fronts c ms h.1)
 
 checkpoints_stand : (c : Configuration) (b : Body) → AllByRecursion (CanNest c) (children_of b) → AllByRecursion (CanNest c) (checkpoints_of b)
-checkpoints_stand c (bodies.Request r) h = tt
-checkpoints_stand c (bodies.PrePrepare p) h = tt
-checkpoints_stand c (bodies.Prepare p) h = tt
-checkpoints_stand c (bodies.Commit m) h = tt
-checkpoints_stand c (bodies.Reply r) h = tt
-checkpoints_stand c (bodies.Checkpoint m) h = tt
 checkpoints_stand c (bodies.ViewChange v) h = front c v h
 checkpoints_stand c (bodies.NewView n) h = fronts c n.changes (all_split (CanNest c) (map (as_message bodies.ViewChange) n.changes) (map (as_message bodies.PrePrepare) n.pre_prepares) h).0
-checkpoints_stand c (bodies.Fetch f) h = tt
-checkpoints_stand c (bodies.Snapshot s) h = tt
+checkpoints_stand c _ h = tt
 
 pre_prepares_stand : (c : Configuration) (b : Body) → AllByRecursion (CanNest c) (children_of b) → AllByRecursion (CanNest c) (pre_prepares_of b)
-pre_prepares_stand c (bodies.Request r) h = tt
-pre_prepares_stand c (bodies.PrePrepare p) h = tt
-pre_prepares_stand c (bodies.Prepare p) h = tt
-pre_prepares_stand c (bodies.Commit m) h = tt
-pre_prepares_stand c (bodies.Reply r) h = tt
-pre_prepares_stand c (bodies.Checkpoint m) h = tt
-pre_prepares_stand c (bodies.ViewChange v) h = tt
 pre_prepares_stand c (bodies.NewView n) h = (all_split (CanNest c) (map (as_message bodies.ViewChange) n.changes) (map (as_message bodies.PrePrepare) n.pre_prepares) h).1
-pre_prepares_stand c (bodies.Fetch f) h = tt
-pre_prepares_stand c (bodies.Snapshot s) h = tt
+pre_prepares_stand c _ h = tt
 
 checked_children : (c : CheckedMessage) → IsChecked c → AllByRecursion (CanNest c.config) (children_of c.message.body)
 checked_children c h = children_stand c.config c.message h.encodes.well_formed.well_formed h.encodes.within h.authentic

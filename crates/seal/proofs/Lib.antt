@@ -5,3 +5,5 @@ pub mod Children
 pub mod Wholes
 mod Voting
 mod Listing
+pub use Rattle.lms_tree.proofs.KeyLemmas
+pub use Rattle.lms_tree.proofs.ShortLemmas

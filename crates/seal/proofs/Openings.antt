@@ -4,8 +4,8 @@ use Rattle.std.specs.List.{AllByRecursion}
 use Rattle.host_types.specs.Configuration.{Configuration}
 use Rattle.host_types.specs.declared.key.PublicKey.{PublicKey}
 use Rattle.pbft_codec.specs.declared.body.Body.{Body}
-use Rattle.message_fields.specs.declared.fault.CodecFault.{CodecFault}
-use Rattle.message_fields.specs.declared.fault.CodecFault.TheVariants as codec
+use Rattle.pbft_codec.specs.CodecFault.{CodecFault}
+use Rattle.pbft_codec.specs.CodecFault.TheVariants as codec
 use Rattle.pbft_codec.specs.declared.signed.Signed.{Signed}
 use Rattle.pbft_codec.specs.Reading.{reading, IsUnlessMemory as IsReadUnlessMemory}
 use Rattle.pbft_codec.specs.WellFormed.{Encodes}
@@ -21,12 +21,7 @@ use Rattle.seal.proofs.Authenticity.{all_faultless}
 pub decode_refused : (c : Configuration) (bytes : List ℕ) (f : CodecFault) → IsReadUnlessMemory {A = Signed Body} (Err f) (reading bytes) → IsUnlessMemory {A = CheckedMessage} (Err (from_codec f)) (opening c bytes)
 unfolding opening
 decode_refused c bytes codec.Memory e = tt
-decode_refused c bytes codec.Truncated e = ap (verified c) e
-decode_refused c bytes codec.Trailing e = ap (verified c) e
-decode_refused c bytes codec.BadKind e = ap (verified c) e
-decode_refused c bytes codec.BadField e = ap (verified c) e
-decode_refused c bytes codec.TooLong e = ap (verified c) e
-decode_refused c bytes codec.NotAscending e = ap (verified c) e
+decode_refused c bytes _ e = ap (verified c) e
 
 memory_or : (f : SealFault) (is : Result CheckedMessage SealFault) → (f ≡ Memory) ⊎ (is ≡ Err f) → IsUnlessMemory {A = CheckedMessage} (Err f) is
 memory_or Memory is h = tt
@@ -58,12 +53,7 @@ only_from_exact r c bytes m exact encodes authentic =
 
 pub proper_codec : (f : CodecFault) → IsProper (from_codec f)
 proper_codec codec.Memory = tt
-proper_codec codec.Truncated = tt
-proper_codec codec.Trailing = tt
-proper_codec codec.BadKind = tt
-proper_codec codec.BadField = tt
-proper_codec codec.TooLong = tt
-proper_codec codec.NotAscending = tt
+proper_codec _ = tt
 
 proper_some : (f g : SealFault) → Some f ≡ Some g → IsProper f → IsProper g
 proper_some f g e h =

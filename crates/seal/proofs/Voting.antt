@@ -36,13 +36,7 @@ vote_proper c k role id sig (bodies.Prepare p) key e may number =
 vote_proper c k role id sig (bodies.Commit p) key e may number =
     let r = is_replica c k role id (bodies.Commit p) key e may refl in
     record { role = r.is; listed = r.listed; number = number; primary_proposes = λ w. absurd cc; backups_prepare = λ w. absurd cc }
-vote_proper c k role id sig (bodies.Request b) key e may number = tt
-vote_proper c k role id sig (bodies.Reply b) key e may number = tt
-vote_proper c k role id sig (bodies.Checkpoint b) key e may number = tt
-vote_proper c k role id sig (bodies.ViewChange b) key e may number = tt
-vote_proper c k role id sig (bodies.NewView b) key e may number = tt
-vote_proper c k role id sig (bodies.Fetch b) key e may number = tt
-vote_proper c k role id sig (bodies.Snapshot b) key e may number = tt
+vote_proper c k role id sig _ key e may number = tt
 
 pub vote_is_proper : (c : CheckedMessage) → IsConfiguration c.config → IsChecked c → IfSome (vote_of c.message) (λ v. IsVoteOf c v)
 vote_is_proper c k h =
@@ -62,13 +56,7 @@ unfolding signer_or_0
 signer_is id (bodies.PrePrepare p) v e = ap signer_or_0 e
 signer_is id (bodies.Prepare p) v e = ap signer_or_0 e
 signer_is id (bodies.Commit p) v e = ap signer_or_0 e
-signer_is id (bodies.Request b) v e = absurd cc
-signer_is id (bodies.Reply b) v e = absurd cc
-signer_is id (bodies.Checkpoint b) v e = absurd cc
-signer_is id (bodies.ViewChange b) v e = absurd cc
-signer_is id (bodies.NewView b) v e = absurd cc
-signer_is id (bodies.Fetch b) v e = absurd cc
-signer_is id (bodies.Snapshot b) v e = absurd cc
+signer_is id _ v e = absurd cc
 
 pub voter_is_small : (c : CheckedMessage) → IsConfiguration c.config → IsChecked c → IsSome (vote_of c.message) → c.message.id < 256
 voter_is_small c k h is =

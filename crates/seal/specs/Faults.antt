@@ -1,8 +1,8 @@
 -- Statement: the number and the name of each fault, and which faults the bytes have.
 use Rattle.std.specs.Prelude.{ℕ, List, codes}
-use Rattle.message_fields.specs.declared.fault.CodecFault.{CodecFault}
-use Rattle.message_fields.specs.declared.fault.CodecFault.TheVariants as codec
-use Rattle.message_fields.specs.Faults as codec_faults
+use Rattle.pbft_codec.specs.CodecFault.{CodecFault}
+use Rattle.pbft_codec.specs.CodecFault.TheVariants as codec
+use Rattle.pbft_codec.specs.Faults as codec_faults
 use Rattle.seal.specs.declared.fault.SealFault.{SealFault}
 use Rattle.seal.specs.declared.fault.SealFault.TheVariants.{Codec, UnknownSigner, BadSignature, WrongRole, Memory}
 
@@ -33,16 +33,8 @@ from_codec codec.NotAscending = Codec codec.NotAscending
 -- Out of memory is never reported as a fault of the bytes.
 abbrev pub IsOfBytes : CodecFault → Type 0
 IsOfBytes codec.Memory = ⊥
-IsOfBytes codec.Truncated = Unit {0}
-IsOfBytes codec.Trailing = Unit {0}
-IsOfBytes codec.BadKind = Unit {0}
-IsOfBytes codec.BadField = Unit {0}
-IsOfBytes codec.TooLong = Unit {0}
-IsOfBytes codec.NotAscending = Unit {0}
+IsOfBytes _ = Unit {0}
 
 abbrev pub IsProper : SealFault → Type 0
 IsProper (Codec fault) = IsOfBytes fault
-IsProper UnknownSigner = Unit {0}
-IsProper BadSignature = Unit {0}
-IsProper WrongRole = Unit {0}
-IsProper Memory = Unit {0}
+IsProper _ = Unit {0}

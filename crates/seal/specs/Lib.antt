@@ -5,3 +5,7 @@ pub mod Faults
 pub mod Votes
 pub mod Lists
 pub mod Claims
+pub use Rattle.lms_tree.specs.Keys
+pub use Rattle.lms_tree.specs.Signature
+pub use Rattle.lms_tree.specs.SigningState
+pub use Rattle.lms_tree.specs.declared.Height

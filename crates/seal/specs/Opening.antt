@@ -5,7 +5,7 @@ use Rattle.host_types.specs.Configuration.{Configuration}
 use Rattle.lms_tree.specs.Keys.{signature_length, signature_of}
 use Rattle.lms_tree.specs.SigningState.{SigningState}
 use Rattle.pbft_codec.specs.declared.body.Body.{Body}
-use Rattle.message_fields.specs.declared.fault.CodecFault.{CodecFault}
+use Rattle.pbft_codec.specs.CodecFault.{CodecFault}
 use Rattle.pbft_codec.specs.declared.signed.Role.{Role}
 use Rattle.pbft_codec.specs.declared.signed.Signed.{Signed}
 use Rattle.pbft_codec.specs.Reading.{reading}

@@ -28,9 +28,7 @@ primary_of c view = view.0 % replicas_for c.f
 -- Whether a client is such a sender.
 abbrev pub client_may_send : Sender → Bool
 client_may_send senders.Client = true
-client_may_send senders.Replica = false
-client_may_send (senders.Primary view) = false
-client_may_send (senders.Backup view) = false
+client_may_send _ = false
 
 -- Whether the replica with this id is such a sender.
 abbrev pub replica_may_send : Configuration → ℕ → Sender → Bool

@@ -16,13 +16,7 @@ abbrev pub vote_in : ℕ → Body → Option Vote
 vote_in id (bodies.PrePrepare p) = Some (record { kind = PrePrepare; view = p.view; number = p.number; digest = p.digest; signer = record { 0 = id } })
 vote_in id (bodies.Prepare p) = Some (record { kind = Prepare; view = p.view; number = p.number; digest = p.digest; signer = record { 0 = id } })
 vote_in id (bodies.Commit p) = Some (record { kind = Commit; view = p.view; number = p.number; digest = p.digest; signer = record { 0 = id } })
-vote_in id (bodies.Request b) = None
-vote_in id (bodies.Reply b) = None
-vote_in id (bodies.Checkpoint b) = None
-vote_in id (bodies.ViewChange b) = None
-vote_in id (bodies.NewView b) = None
-vote_in id (bodies.Fetch b) = None
-vote_in id (bodies.Snapshot b) = None
+vote_in id _ = None
 
 abbrev pub vote_of : Signed Body → Option Vote
 vote_of m = vote_in m.id m.body

@@ -1,7 +1,7 @@
 -- Procedures at the front of bytes.
 use Rattle.std.proofs.Common.{◌≡◌, ℕ, ◌≤◌, ◌++◌, List, length, sym, ap, subst, ◌∙◌, append_assoc, arith}
-use Rattle.bpf_model.specs.Verdict.{AcceptsUnder}
-use Rattle.bpf_model.specs.declared.profile.Profile.{Profile}
+use Rattle.service_model.specs.Verdict.{AcceptsUnder}
+use Rattle.service_model.specs.Profile.{Profile}
 use Rattle.service_core.specs.declared.state_fault.StateFault.{StateFault}
 use Rattle.service_core.specs.declared.state_fault.StateFault.TheVariants.{BadState, Memory}
 use Rattle.service_model.specs.declared.version.Version.{Version}

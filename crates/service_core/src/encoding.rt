@@ -8,10 +8,9 @@ ghost use Rattle.service_core.specs.Sinks.{Feeds};
 ghost use Rattle.service_model.specs.Encoding.{length_prefixed, encoded_reply, encoded_procedure, encoded_procedures, encoded_entries, encoded_tenant};
 
 use crate::sink::Sink;
-use bpf_verifier::Procedure;
 use host_types::Reply;
 use tenant_maps::{MapPort, TenantMap};
-use tenant_parts::TenantPart;
+use tenant_parts::{Procedure, TenantPart};
 
 /// How many entries go into a sink at once: a hash takes one piece faster than as many small ones.
 const ENTRIES_IN_PIECE: usize = 16;

@@ -3,7 +3,7 @@
 ghost use Rattle.std.specs.Prelude.{◌≡◌, ◌≢◌, ◌≤◌, ◌++◌, ℕ, List, length, flat_map, map, All, IfOk, MatchBool};
 ghost use Rattle.service_model.specs.declared.version.Version.TheVariants.{Second};
 ghost use Rattle.std.specs.FinMap as finite;
-ghost use Rattle.bpf_model.specs.declared.fault.VerifyFault.TheVariants as faults;
+ghost use Rattle.service_model.specs.VerifyFault.TheVariants as faults;
 ghost use Rattle.service_core.specs.declared.state_fault.StateFault.TheVariants.{BadState, Memory};
 ghost use Rattle.service_model.specs.Words.{u32_bytes};
 ghost use Rattle.host_types.specs.Configuration.{tenants_of, entry_of};
@@ -17,13 +17,11 @@ ghost use Rattle.service_core.specs.Readings.{Reads, IsProcedureIn, AreProcedure
 use crate::reader::{read_count, read_length_prefixed, read_u32};
 use crate::state_fault::StateFault;
 use bpf_decode::{MAX_SLOTS, SLOT_SIZE};
-use bpf_model::Profile;
-use bpf_verifier::{Procedure, VerifyFault};
 use host_types::{ClientId, Config, Reply, TenantId};
-use service_model::Version;
+use service_model::{Profile, Version};
 use std::alloc::{AllocError, Global};
 use tenant_maps::{MAX_ENTRIES, MapPort, TenantMap};
-use tenant_parts::{MAX_PROCEDURES, TenantPart, copy_of, verify_under};
+use tenant_parts::{MAX_PROCEDURES, Procedure, TenantPart, VerifyFault, copy_of, verify_under};
 
 /// The most bytes of a procedure.
 const MAX_CODE: u32 = (SLOT_SIZE * MAX_SLOTS) as u32;

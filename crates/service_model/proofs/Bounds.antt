@@ -15,13 +15,13 @@ use Rattle.host_types.specs.declared.request.Request.{Request}
 use Rattle.host_types.specs.declared.request.Reply.{Reply}
 use Rattle.host_types.specs.Configuration.{Configuration, IsConfiguration, tenants_of, entry_of}
 use Rattle.tenant_maps.specs.Entries.{Entries}
-use Rattle.bpf_decode.specs.declared.insn.Insn.{Insn}
-use Rattle.map_helpers.specs.declared.helper.Helper.{Helper}
-use Rattle.map_helpers.specs.declared.helper.Helper.TheVariants.{Get, Put, Del, Len, Next, Emit, Caller}
-use Rattle.map_helpers.specs.Helpers.{key_at_r1, value_at_r2, reads}
-use Rattle.map_helpers.specs.Effects.{effect_of}
-use Rattle.map_helpers.proofs.BytesRead.{key_first, value_second}
-use Rattle.map_helpers.proofs.Kept.{IsPutOf, entries_kept}
+use Rattle.bpf_model.specs.Insn.{Insn}
+use Rattle.bpf_model.specs.Helper.{Helper}
+use Rattle.bpf_model.specs.Helper.TheVariants.{Get, Put, Del, Len, Next, Emit, Caller}
+use Rattle.bpf_model.specs.Helpers.{key_at_r1, value_at_r2, reads}
+use Rattle.bpf_model.specs.Effects.{effect_of}
+use Rattle.bpf_model.proofs.BytesRead.{key_first, value_second}
+use Rattle.bpf_model.proofs.Kept.{IsPutOf, entries_kept}
 use Rattle.bpf_model.specs.Machine.{Machine, Call, start}
 use Rattle.bpf_model.specs.HelperCalls.{bytes_read, context}
 use Rattle.bpf_model.specs.Run.{Run, Ending, EndsSo}
@@ -54,7 +54,6 @@ same_sizes m next e o = ((λ is. subst IsSizedMap (sym e) is), (λ short. subst 
 
 -- a put reads a key and a value of their lengths
 puts_sized : (helper : Helper) (m : Machine) (bytes : List ℕ) → bytes_read m (reads helper) ≡ Some bytes → IsPutOf (λ key. length key ≡ 16) (λ value. length value ≡ 32) helper bytes
-puts_sized Get m bytes e = tt
 puts_sized Put m bytes e =
     let at : ReadAt m key_at_r1 (value_at_r2 ∷ []) bytes = read_at m key_at_r1 (value_at_r2 ∷ []) bytes e in
     let behind : ReadAt m value_at_r2 [] at.rest = read_at m value_at_r2 [] at.rest at.rest_is in
@@ -65,11 +64,7 @@ puts_sized Put m bytes e =
     let first : take 16 bytes ≡ at.first = ap (take 16) at.bytes_are ∙ key_first at.first at.rest key in
     let second : drop 16 bytes ≡ behind.first = ap (drop 16) at.bytes_are ∙ value_second at.first at.rest key ∙ rest in
     (ap length first ∙ key, ap length second ∙ value)
-puts_sized Del m bytes e = tt
-puts_sized Len m bytes e = tt
-puts_sized Next m bytes e = tt
-puts_sized Emit m bytes e = tt
-puts_sized Caller m bytes e = tt
+puts_sized _ m bytes e = tt
 
 answer_sized : (helper : Helper) (m : Machine) (bytes : List ℕ) → bytes_read m (reads helper) ≡ Some bytes → IsSizedMap m.entries → IsSizedMap (effect_of helper (context m) bytes).entries
 answer_sized helper m bytes e is =

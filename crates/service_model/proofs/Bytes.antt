@@ -5,12 +5,12 @@ use Rattle.std.specs.Int.{byte_at, byte_len, bytes_low_first, cast_unsigned, w64
 use Rattle.std.specs.FinMap as finite
 use Rattle.std.proofs.lemmas.Nat.{mod_below}
 use Rattle.std.proofs.lemmas.List.Elements.{All-head, All-tail}
-use Rattle.bpf_decode.specs.declared.insn.Insn.{Insn}
-use Rattle.bpf_decode.specs.declared.insn.Insn.TheVariants.{Alu, Swap, LoadImm, Load, StoreImm, Store, Jump, JumpLong, Test, CallHelper, CallLocal, Exit}
+use Rattle.bpf_model.specs.Insn.{Insn}
+use Rattle.bpf_model.specs.Insn.TheVariants.{Alu, Swap, LoadImm, Load, StoreImm, Store, Jump, JumpLong, Test, CallHelper, CallLocal, Exit}
 use Rattle.tenant_maps.specs.Entries.{IsTenantMap}
-use Rattle.map_helpers.specs.declared.helper.Helper.{Helper}
-use Rattle.map_helpers.specs.Helpers.{helper_of, reads, writes}
-use Rattle.map_helpers.proofs.Kept.{tenant_map_kept, reads_put, writes_kept}
+use Rattle.bpf_model.specs.Helper.{Helper}
+use Rattle.bpf_model.specs.Helpers.{helper_of, reads, writes}
+use Rattle.bpf_model.proofs.Kept.{tenant_map_kept, reads_put, writes_kept}
 use Rattle.bpf_model.specs.Access.{bytes_of, word_of, address_of, stored_bytes}
 use Rattle.bpf_model.specs.Code.{insn_at, target_of}
 use Rattle.bpf_model.specs.Machine.{Machine, Frame, Memory, Call, start, frames, frame_start, frame_end, is_in_bounds, bytes_at}

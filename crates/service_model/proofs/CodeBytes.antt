@@ -6,12 +6,12 @@ use Rattle.std.specs.Int.{byte_at, bytes_low_first, byte_len, cast_unsigned, w16
 use Rattle.std.proofs.lemmas.Nat.{mod_below}
 use Rattle.std.proofs.lemmas.List.Concat.{flat_map-cons}
 use Rattle.std.proofs.lemmas.List.Elements.{All-cons, All-head, All-tail, All-nil}
-use Rattle.bpf_decode.specs.declared.insn.Insn.{Insn}
-use Rattle.bpf_decode.specs.declared.insn.Insn.TheVariants.{Alu, Swap, LoadImm, Load, StoreImm, Store, Jump, JumpLong, Test, CallHelper, CallLocal, Exit}
-use Rattle.bpf_decode.specs.declared.slot.Slot.{Slot}
-use Rattle.bpf_decode.specs.Encoding.{IsInsn, other_slots, insn_slots, slot_bytes}
-use Rattle.bpf_decode.specs.Faults.{IsCode}
-use Rattle.bpf_decode.proofs.Encodings.{IsSlot-first}
+use Rattle.bpf_model.specs.Insn.{Insn}
+use Rattle.bpf_model.specs.Insn.TheVariants.{Alu, Swap, LoadImm, Load, StoreImm, Store, Jump, JumpLong, Test, CallHelper, CallLocal, Exit}
+use Rattle.bpf_model.specs.Slot.{Slot}
+use Rattle.bpf_model.specs.Encoding.{IsInsn, other_slots, insn_slots, slot_bytes}
+use Rattle.bpf_model.specs.Verdict.{IsCode}
+use Rattle.bpf_model.proofs.Encodings.{IsSlot-first}
 
 abbrev AreBytes : List ℕ → Type 0
 AreBytes bytes = All (λ byte. byte < 256) bytes
@@ -46,17 +46,7 @@ slot_small s small =
 
 others_small : (x : Insn) → AllByRecursion IsSmall (other_slots x)
 others_small (LoadImm dst value) = (record { opcode = omega arith; dst = omega arith; src = omega arith }, tt)
-others_small (Alu width op dst src) = tt
-others_small (Swap kind width dst) = tt
-others_small (Load size signed dst base offset) = tt
-others_small (StoreImm size base offset imm) = tt
-others_small (Store size base offset src) = tt
-others_small (Jump offset) = tt
-others_small (JumpLong offset) = tt
-others_small (Test narrow test dst src offset) = tt
-others_small (CallHelper helper) = tt
-others_small (CallLocal offset) = tt
-others_small Exit = tt
+others_small _ = tt
 
 appended : (ss ts : List Slot) → AllByRecursion IsSmall ss → AllByRecursion IsSmall ts → AllByRecursion IsSmall (ss ++ ts)
 appended [] ts h k = k

@@ -2,8 +2,8 @@
 use Rattle.std.proofs.Common.{◌≡◌, refl, ◌⊎◌, ℕ, ◌+◌, Bool, true, false, List, [], ◌∷◌, ◌++◌, length, Option, Some, None, sym, ap, subst, ◌∙◌, arith, inl, inr}
 use Rattle.std.specs.Prelude.{MatchBool, MatchOption, slice_get, nat_lt, nat_le, nat_eq}
 use Rattle.std.specs.FinMap as finite
-use Rattle.bpf_decode.specs.declared.insn.Insn.{Insn}
-use Rattle.bpf_decode.proofs.Encodings.{same_code}
+use Rattle.bpf_model.specs.Insn.{Insn}
+use Rattle.bpf_model.proofs.Encodings.{same_code}
 use Rattle.bpf_model.specs.Machine.{Machine, Call, start}
 use Rattle.bpf_model.specs.Step.{Ends, step}
 use Rattle.bpf_model.specs.Run.{Run, Ending, EndsSo}

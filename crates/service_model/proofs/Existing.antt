@@ -11,9 +11,9 @@ use Rattle.host_types.specs.declared.config.ClientEntry.{ClientEntry}
 use Rattle.host_types.specs.declared.request.Request.{Request}
 use Rattle.host_types.specs.declared.request.Reply.{Reply}
 use Rattle.host_types.specs.Configuration.{Configuration, tenants_of, entry_of}
-use Rattle.bpf_decode.proofs.Deciding.{bytes_decided}
-use Rattle.bpf_decode.proofs.Encodings.{same_code, refused_is_no_code}
-use Rattle.bpf_decode.specs.declared.insn.Insn.{Insn}
+use Rattle.bpf_model.proofs.Deciding.{bytes_decided}
+use Rattle.bpf_model.proofs.Encodings.{same_code, refused_is_no_code}
+use Rattle.bpf_model.specs.Insn.{Insn}
 use Rattle.bpf_model.specs.Machine.{Call}
 use Rattle.bpf_model.specs.Verdict.{AcceptsUnder, IsAccepted}
 use Rattle.bpf_model.proofs.Totality.{decided, not_both}

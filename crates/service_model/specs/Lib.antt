@@ -9,3 +9,6 @@ pub mod Sound
 pub mod Bounded
 pub mod Asked
 pub mod Decoding
+pub use Rattle.bpf_model.specs.Verdict
+pub use Rattle.bpf_model.specs.declared.fault.VerifyFault
+pub use Rattle.bpf_model.specs.declared.profile.Profile

@@ -1,11 +1,10 @@
 -- Statement: what a client can ask for, and what doing it gives.
 use Rattle.std.specs.Prelude.{◌≡◌, ◌⊎◌, ℕ, ◌&&◌, ◌==◌, nat_lt, nat_le, if◌then◌else◌, List, [], ◌∷◌, ◌++◌, length, take, drop, slice_get, MatchBool, MatchOption}
 use Rattle.std.specs.Int.{w32, from_be_bytes}
-use Rattle.bpf_decode.specs.declared.insn.Insn.{Insn}
-use Rattle.bpf_decode.specs.Faults.{IsCode}
+use Rattle.bpf_model.specs.Insn.{Insn}
+use Rattle.bpf_model.specs.Verdict.{IsCode, AcceptsUnder}
 use Rattle.tenant_maps.specs.Entries.{Entries}
 use Rattle.bpf_model.specs.Run.{Ending, EndsSo}
-use Rattle.bpf_model.specs.Verdict.{AcceptsUnder}
 use Rattle.bpf_model.specs.declared.profile.Profile.{Profile}
 use Rattle.bpf_model.specs.declared.profile.Profile.TheVariants.{One, Two}
 use Rattle.service_model.specs.Words.{u32_bytes, u64_bytes}

@@ -3,10 +3,9 @@ use Rattle.std.specs.Prelude.{◌≡◌, ℕ, List, All, IsSome, IsSomeAnd}
 use Rattle.std.specs.FinMap as finite
 use Rattle.host_types.specs.declared.config.ClientEntry.{ClientEntry}
 use Rattle.host_types.specs.Configuration.{entry_of}
-use Rattle.bpf_decode.specs.declared.insn.Insn.{Insn}
-use Rattle.bpf_decode.specs.Faults.{IsCode}
+use Rattle.bpf_model.specs.Insn.{Insn}
+use Rattle.bpf_model.specs.Verdict.{IsCode, AcceptsUnder, IsAccepted}
 use Rattle.bpf_model.specs.Run.{IsSafe}
-use Rattle.bpf_model.specs.Verdict.{AcceptsUnder, IsAccepted}
 use Rattle.service_model.specs.TenantStates.{Procedure, TenantState, Service}
 
 -- the verifier accepts the code under the profile

@@ -6,6 +6,7 @@ mod law;
 mod outcome;
 mod version;
 
+pub use bpf_model::Profile;
 pub use law::{
     a_request_is_its_tenants, a_step_exists, a_step_has_one_outcome, an_encoding_is_decided,
     equal_bytes_are_equal_states, installed_procedures_cannot_go_wrong, maps_stay_maps,

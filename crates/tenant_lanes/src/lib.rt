@@ -10,3 +10,4 @@ mod lane;
 mod slots;
 
 pub use apply::apply_all;
+pub use service_core::{Outcome, State, StateFault};

@@ -7,7 +7,7 @@ use Rattle.std.proofs.lemmas.Option.{slice_get-map, slice_get-get_or, slice_get_
 use Rattle.tenant_maps.specs.Entries.{Entries}
 use Rattle.bpf_model.specs.Verdict.{AcceptsUnder}
 use Rattle.bpf_model.specs.declared.profile.Profile.TheVariants.{One}
-use Rattle.bpf_verifier.specs.Verified.{Verified}
+use Rattle.bpf_machine.specs.Verified.{Verified}
 use Rattle.service_model.proofs.Matches.{match_true, match_false, match_none, match_some}
 use Rattle.service_model.specs.TenantStates.{Procedure}
 use Rattle.tenant_parts.specs.Procedures.{procedure_of}

@@ -1,2 +1,3 @@
 pub mod Procedures
 pub mod ReadOperations
+pub use Rattle.bpf_machine.specs.Verified

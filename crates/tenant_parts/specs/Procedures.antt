@@ -1,5 +1,5 @@
 -- Statement: what a verified procedure is in a state.
-use Rattle.bpf_verifier.specs.Verified.{Verified}
+use Rattle.bpf_machine.specs.Verified.{Verified}
 use Rattle.service_model.specs.TenantStates.{Procedure}
 
 abbrev pub procedure_of : Verified → Procedure

@@ -11,5 +11,6 @@
 mod operation;
 mod tenant_part;
 
+pub use bpf_machine::{Procedure, VerifyFault};
 pub use operation::{MAX_PROCEDURES, verify_under};
 pub use tenant_part::{TenantPart, copy_of};

@@ -7,10 +7,9 @@ ghost use Rattle.service_model.specs.Operations.{Installs, Calls, Does, operatio
 ghost use Rattle.tenant_parts.specs.Procedures.{procedure_of};
 ghost use Rattle.tenant_parts.specs.ReadOperations.{meaning_of, result_byte};
 
-use bpf_machine::{Finished, run};
+use bpf_machine::{Finished, Procedure, Refusal, VerifyFault, run, verify, verify2};
 use bpf_model::Profile;
 use bpf_model::layout::ARGUMENTS_SIZE;
-use bpf_verifier::{Procedure, Refusal, VerifyFault, verify, verify2};
 use host_types::ClientId;
 use host_types::operation::{CALL, INSTALL, INSTALL2};
 use std::alloc::{AllocError, Global};

@@ -8,7 +8,7 @@ ghost use Rattle.service_model.specs.Steps.{Executes, IsTenantStep};
 ghost use Rattle.tenant_parts.specs.Procedures.{procedure_of};
 
 use crate::operation::{Operation, perform};
-use bpf_verifier::Procedure;
+use bpf_machine::Procedure;
 use host_types::{Bytes, ClientId, Reply, Request, SeqNo, TenantId};
 use service_model::Outcome;
 use std::alloc::{AllocError, Global};

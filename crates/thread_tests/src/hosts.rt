@@ -3,10 +3,9 @@
 use crate::gates::{Held, Watch, wait_for_steps};
 use crate::place::{CLIENT, Place, four_replicas, install, session};
 use client_session::Session;
+use host_script::{Done, Host, HostFault, Input, Row};
 use host_types::{Bytes, ClientId, Config, ReplicaId};
 use lms_tree::Signer;
-use replica_core::{Done, Input, Row};
-use replica_threads::{Host, HostFault};
 use std::alloc::Global;
 use std::sync::{Arc, Wait};
 use std::test::Fail;

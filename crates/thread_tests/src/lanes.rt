@@ -8,12 +8,12 @@ ghost use Rattle.seal.specs.Signers.{key_of};
 
 use crate::gates::{FIRST_LANE, Held, Watch};
 use crate::place::{is_listed, signer};
+use host_script::{Named, Station};
 use host_types::{Bytes, ClientEntry, ClientId, Config, Digest, ReplicaId, SeqNo, TenantId, View};
 use lms_tree::Signer;
 use pbft_codec::{
     Body, CodecFault, Commit, PrePrepare, Prepare, RequestBody, Role, Signed, signed_bytes,
 };
-use replica_threads::{Named, Station};
 use seal::{Checked, open, request_digest};
 use std::alloc::Global;
 use std::marker::Brand;

@@ -3,8 +3,8 @@
 use crate::calls::called;
 use crate::gates::TURNS;
 use crate::place::{Place, call_it, four_of_two_levels, install};
+use host_script::Row;
 use host_types::Bytes;
-use replica_core::Row;
 use std::alloc::Global;
 use std::test::Fail;
 

@@ -1,17 +1,15 @@
 //! Stations by their seats.
 
-ghost use Rattle.std.specs.Prelude.{◌≡◌, IsSomeAnd};
+ghost use Rattle.std.specs.Prelude.{◌≡◌, IsSomeAnd, ◌<◌};
 ghost use Rattle.lms_tree.specs.Keys.{IsKeyOf};
 ghost use Rattle.pbft_codec.specs.declared.signed.Role.TheVariants as roles;
 ghost use Rattle.seal.specs.Signers.{key_of};
 ghost use Rattle.host_types.specs.Configuration.{replicas_for};
-ghost use Rattle.std.specs.Prelude.{◌<◌};
 
 use crate::place::{first_replica, is_listed};
+use host_script::{Halt, Named, Seat, Station, Status};
 use host_types::{Config, Gate, ReplicaId};
 use lms_tree::Signer;
-use replica_core::{Halt, Status};
-use replica_threads::{Named, Seat, Station};
 use std::alloc::Global;
 use std::marker::Brand;
 use std::sync::ledger::Blank;

@@ -6,7 +6,7 @@ use Rattle.std.proofs.lemmas.Bool.{and_parts, and_from, eq-eqb, leb-true}
 use Rattle.host_types.specs.Configuration.{Configuration, IsConfiguration, replicas_for}
 use Rattle.pbft_codec.specs.declared.body.Body.TheVariants as bodies
 use Rattle.pbft_model.specs.Words.{Signed, Body, Role, PrePrepare, Certificate, ViewChange, NewView}
-use Rattle.pbft_model.specs.Setup.{Setup, primary, quorum, span, is_replica}
+use Rattle.pbft_model.specs.Setup.{Setup, primary, quorum, span, is_replica, setup_of}
 use Rattle.pbft_model.specs.Certificates.{Fields, of_pre_prepare, same_fields, is_by, has_quorum}
 use Rattle.pbft_model.specs.Rules.{pre_prepare_of}
 use Rattle.pbft_model.specs.Validity.{first_fault, greatest_of, floor_of, certificates_in, ascend_within, has_view, has_proof, has_certificates, has_order, view_change_fault, new_view_fault, bodies_in, changed_by, are_for_view, have_proofs, have_certificates, have_order, given, are_given}
@@ -17,7 +17,6 @@ use Rattle.seal.specs.Parts.{as_message}
 use Rattle.seal.specs.Signers.{IsAuthentic}
 use Rattle.view_change.specs.declared.opening.Opening.{Opening}
 use Rattle.view_change.specs.Opening.{IsSignedBy, IsSignedFrom}
-use Rattle.view_change.specs.Setups.{setup_of}
 use Rattle.view_change.proofs.Counts.{so_many_pass}
 use Rattle.view_change.proofs.Signers.{changes_listed}
 use Rattle.view_change.proofs.Walking.{greatest_over}
@@ -35,11 +34,11 @@ within_last first last (x ∷ xs) e =
     omega arith
 
 pub within_span : (c : Setup) (ms : List (Signed ViewChange)) → list_all (has_order c) (bodies_in ms) ≡ true
-    → greatest_of (map (λ x. x.pre_prepare.body.number.0) (certificates_in ms)) ≤ floor_of ms + span c
+    → greatest_of (map (λ x. x.pre_prepare.body.number.0) (certificates_in ms)) ≤ floor_of ms + span c.config
 within_span c [] e = omega arith
 within_span c (m ∷ ms) e =
     let a = and_parts (has_order c m.body) (list_all (has_order c) (bodies_in ms)) e in
-    let own = within_last (m.body.low.0 + 1) (m.body.low.0 + span c) m.body.certificates a.0 in
+    let own = within_last (m.body.low.0 + 1) (m.body.low.0 + span c.config) m.body.certificates a.0 in
     let rest = within_span c ms a.1 in
     let parts = greatest_over (λ x. x.pre_prepare.body.number.0) m.body.certificates (certificates_in ms) in
     omega arith
@@ -112,7 +111,7 @@ authentic c (m ∷ ms) h = (h.0.authentic.0, authentic c ms h.1)
 
 -- so many ViewChanges, signers ascending, are of a quorum
 of_quorum : (c : Configuration) → IsConfiguration c → (n : NewView) (l : CheckedMessages) (view : ℕ) (o : Opening) → l.config ≡ c → l.messages ≡ map (as_message bodies.ViewChange) n.changes → AreChecked l
-    → IsSignedFrom (setup_of c) view o n → (length n.changes == quorum (setup_of c) && has_quorum (setup_of c) (changed_by n.changes)) ≡ true
+    → IsSignedFrom (setup_of c) view o n → (length n.changes == quorum c && has_quorum c (changed_by n.changes)) ≡ true
 of_quorum c k n l view o config_is is checked h =
     let each = authentic c l.messages (subst (λ (d : Configuration). AllByRecursion (λ m. IsChecked (under d m)) l.messages) config_is checked) in
     let listed = changes_listed c k n.changes (subst (λ (ms : List (Signed Body)). AllByRecursion (IsAuthentic c) ms) is each) in
@@ -125,9 +124,9 @@ pub signed_is_valid : (c : Configuration) → IsConfiguration c → (n : NewView
 signed_is_valid c k n l view o config_is is checked entries_are h =
     let s = setup_of c in
     let each : AllByRecursion (IsFor s n.view.0) (bodies_in n.changes) = subst (λ (w : ℕ). AllByRecursion (IsFor s w) (bodies_in n.changes)) (sym h.view_is) h.valid in
-    let proposals = signed_all (primary s view) (given s view n.changes) n.pre_prepares (h.proposals ∙ entries_are) h.signers in
-    let proposes : are_given (primary s n.view.0) (given s n.view.0 n.changes) n.pre_prepares ≡ true =
-    ap (λ (w : ℕ). are_given (primary s w) (given s w n.changes) n.pre_prepares) h.view_is ∙ proposals in
+    let proposals = signed_all (primary s.config view) (given s view n.changes) n.pre_prepares (h.proposals ∙ entries_are) h.signers in
+    let proposes : are_given (primary s.config n.view.0) (given s n.view.0 n.changes) n.pre_prepares ≡ true =
+    ap (λ (w : ℕ). are_given (primary s.config w) (given s w n.changes) n.pre_prepares) h.view_is ∙ proposals in
     no_fault (are_for_view n) (have_proofs s n) (have_certificates s n) (have_order s n)
     (all_for s n.view.0 (bodies_in n.changes) each)
     (and_from _ _ (all_proved s n.view.0 (bodies_in n.changes) each) (of_quorum c k n l view o config_is is checked h))

@@ -11,3 +11,5 @@ pub mod Sealing
 pub mod ValidParts
 pub mod LogCertificates
 pub mod StableProofs
+pub use Rattle.quorum_log.proofs.Least
+pub use Rattle.quorum_log.proofs.Tables

@@ -6,6 +6,7 @@ use Rattle.std.specs.Option.{option_map}
 use Rattle.std.proofs.lemmas.Bool.{and_parts, eqb-true, false≢true, leb-true}
 use Rattle.std.proofs.lemmas.List.{length-map}
 use Rattle.std.proofs.lemmas.Option.{same_Some}
+use Rattle.host_types.specs.Configuration.{Configuration}
 use Rattle.pbft_codec.specs.declared.body.Body.TheVariants as bodies
 use Rattle.pbft_codec.specs.Limits.{AscendFrom}
 use Rattle.pbft_model.proofs.Found.{from_gathered, passed}
@@ -14,7 +15,7 @@ use Rattle.pbft_model.proofs.Stages.{by_is, fields_are, voted_is}
 use Rattle.pbft_model.specs.Certificates.{is_by, of_pre_prepare, of_prepare, same_fields, voted}
 use Rattle.pbft_model.specs.Core.{has_position}
 use Rattle.pbft_model.specs.Histories.{IsIn}
-use Rattle.pbft_model.specs.Setup.{Setup, count, is_least, numbers_from, primary, replicas}
+use Rattle.pbft_model.specs.Setup.{count, is_least, numbers_from, primary, replicas}
 use Rattle.pbft_model.specs.Tables.{at, vote_key}
 use Rattle.pbft_model.specs.Words.{PrePrepare, Prepare, Signed}
 use Rattle.quorum_log.specs.Log.{Log, as_checked, backing, certificate_in, certified_at, checked_certificate, is_certified_in, proposal_in}
@@ -45,12 +46,12 @@ as_ascend kind low (m ∷ ms) h = (h.0, as_ascend kind (m.id + 1) ms h.1)
 
 -- ---- the Prepares
 
-module _ (c : Setup) (l : Log) (p : PrePrepare) where
+module _ (c : Configuration) (l : Log) (p : PrePrepare) where
   abbrev IsMine : ℕ → Signed Prepare → Type 0
   IsMine i q = (q.id ≡ i) × (of_prepare q.body ≡ of_pre_prepare p)
 
   abbrev test : ℕ → Bool
-  test = is_least (2 * c.config.f) (λ i. not (i == primary c (of_pre_prepare p).view) && voted of_prepare l.prepares (of_pre_prepare p) i)
+  test = is_least (2 * c.f) (λ i. not (i == primary c (of_pre_prepare p).view) && voted of_prepare l.prepares (of_pre_prepare p) i)
 
   abbrev value : ℕ → Option (Signed Prepare)
   value i = at l.prepares (vote_key (of_pre_prepare p).number (of_pre_prepare p).view i)
@@ -76,15 +77,15 @@ module _ (c : Setup) (l : Log) (p : PrePrepare) where
   each [] all = tt
   each (q ∷ qs) all = (record { prepare = q.body; is = refl; matches = all q (inl refl) }, each qs (λ r within. all r (inr within)))
 
-  backing_many : is_certified_in c l (of_pre_prepare p) ≡ true → length (backing c l (of_pre_prepare p)) ≡ 2 * c.config.f
+  backing_many : is_certified_in c l (of_pre_prepare p) ≡ true → length (backing c l (of_pre_prepare p)) ≡ 2 * c.f
   backing_many t =
       let all : ℕ → Bool = λ i. not (i == primary c (of_pre_prepare p).view) && voted of_prepare l.prepares (of_pre_prepare p) i in
-      let enough = leb-true (2 * c.config.f) (count all (replicas c))
-      (and_parts _ (nat_le (2 * c.config.f) (count all (replicas c))) t).1 in
-      let least = count_least (2 * c.config.f) all (replicas c) in
+      let enough = leb-true (2 * c.f) (count all (replicas c))
+      (and_parts _ (nat_le (2 * c.f) (count all (replicas c))) t).1 in
+      let least = count_least (2 * c.f) all (replicas c) in
       let long = length_gathered test value (replicas c) (λ i t. let w = voted_at i t in (w.0, w.1)) in omega (arith, enough, least, long)
 
-  certificate_for : (m : Signed PrePrepare) → m.body ≡ p → is_certified_in c l (of_pre_prepare p) ≡ true → IsCertificateFor c.config p (as_checked c.config (record { pre_prepare = m; prepares = backing c l (of_pre_prepare p) }))
+  certificate_for : (m : Signed PrePrepare) → m.body ≡ p → is_certified_in c l (of_pre_prepare p) ≡ true → IsCertificateFor c p (as_checked c (record { pre_prepare = m; prepares = backing c l (of_pre_prepare p) }))
   certificate_for m is t = record {
     proposal = ap bodies.PrePrepare is;
     each = each (backing c l (of_pre_prepare p)) backing_matches;
@@ -96,9 +97,9 @@ mapped : {X Y : Type 0} (f : X → Y) (o : Option X) (y : Y) → option_map f o 
 mapped f None y is = absurd (false≢true (ap is_some is))
 mapped f (Some x) y is = (x, refl, same_Some _ _ is)
 
-pub log_certificate : (c : Setup) (l : Log) (view number : ℕ) (x : CheckedCertificate) → checked_certificate c l view number ≡ Some x → IsCertificateAt c.config view number x
+pub log_certificate : (c : Configuration) (l : Log) (view number : ℕ) (x : CheckedCertificate) → checked_certificate c l view number ≡ Some x → IsCertificateAt c view number x
 log_certificate c l view number x is =
-    let w = mapped (λ m. as_checked c.config (certificate_in c l m)) (certified_at c l view number) x is in
+    let w = mapped (λ m. as_checked c (certificate_in c l m)) (certified_at c l view number) x is in
     let certified_here = passed (λ m. is_certified_in c l (of_pre_prepare m.body)) (proposal_in c l view number) w.0 w.1 in
     let proposal = passed (is_by (primary c view) (has_position view number)) (at l.pre_prepares (vote_key number view (primary c view))) w.0 certified_here.0 in
     let position = and_parts (w.0.body.view.0 == view) (w.0.body.number.0 == number) (by_is (primary c view) (has_position view number) w.0 proposal.1).2 in
@@ -106,5 +107,5 @@ log_certificate c l view number x is =
       pre_prepare = w.0.body;
       view_is = eqb-true w.0.body.view.0 view position.0;
       number_is = eqb-true w.0.body.number.0 number position.1;
-      fits = subst (IsCertificateFor c.config w.0.body) w.2 (certificate_for c l w.0.body w.0 refl certified_here.1);
+      fits = subst (IsCertificateFor c w.0.body) w.2 (certificate_for c l w.0.body w.0 refl certified_here.1);
     }

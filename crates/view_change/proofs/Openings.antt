@@ -8,7 +8,7 @@ use Rattle.pbft_codec.specs.declared.body.Body.TheVariants as bodies
 use Rattle.pbft_codec.specs.Bodies.{BodyWellFormed}
 use Rattle.pbft_codec.specs.Limits.{CertificateWellFormed, ViewChangeWellFormed, NewViewWellFormed}
 use Rattle.pbft_model.specs.Words.{Signed, Body, Role, PrePrepare, Prepare, Certificate, ViewChange, NewView}
-use Rattle.pbft_model.specs.Setup.{primary, count, is_replica}
+use Rattle.pbft_model.specs.Setup.{primary, count, is_replica, setup_of}
 use Rattle.pbft_model.specs.Certificates.{Fields, of_pre_prepare, of_prepare, same_fields, is_by, voted_among, is_certificate, is_checkpoint_of}
 use Rattle.pbft_model.specs.Validity.{digest_in, has_view, has_proof, has_certificates, has_order, first_fault, view_change_fault, new_view_fault, bodies_in, are_for_view, have_proofs, have_certificates, are_given, given}
 use Rattle.pbft_model.proofs.Made.{same_self}
@@ -19,14 +19,13 @@ use Rattle.seal.specs.Signers.{IsAuthentic, primary_of}
 use Rattle.seal.proofs.Authenticity.{all_split}
 use Rattle.view_change.specs.Faults.{answer}
 use Rattle.view_change.specs.Opened.{IsOpened, change_fault, each_change, has_full_certificates, has_full_proof, have_full_proofs, have_given_order, is_for_view, is_full_certificate, opening_fault}
-use Rattle.view_change.specs.Setups.{setup_of}
 use Rattle.view_change.proofs.Counts.{voter, same_count, so_many_pass}
 use Rattle.view_change.proofs.Signers.{IsBackups, authentic_sender, checkpoints_listed, prepares_listed, changes_listed, backups_prepare}
 
 -- ---- certificates
 
 -- the view's primary has no matching Prepare
-no_primary : (c : Configuration) (x : Fields) (i : ℕ) (ms : List (Signed Prepare)) → AllByRecursion (IsBackups c) ms → (i == primary (setup_of c) x.view) ≡ true
+no_primary : (c : Configuration) (x : Fields) (i : ℕ) (ms : List (Signed Prepare)) → AllByRecursion (IsBackups c) ms → (i == primary c x.view) ≡ true
     → voter (λ b. same_fields (of_prepare b) x) ms i ≡ false
 no_primary c x i [] h e = refl
 no_primary c x i (m ∷ ms) h e =
@@ -34,14 +33,14 @@ no_primary c x i (m ∷ ms) h e =
     let not_it : is_by i test m ≡ false = false_from_ne_true (is_by i test m) (λ t.
     let by = by_is i test m t in
     let view : m.body.view.0 ≡ x.view = ap (λ (f : Fields). f.view) (fields_are (of_prepare m.body) x by.2) in
-    let at : primary (setup_of c) m.body.view.0 ≡ m.id = ap (primary (setup_of c)) view ∙ sym (eqb-true i (primary (setup_of c) x.view) e) ∙ sym by.1 in
+    let at : primary c m.body.view.0 ≡ m.id = ap (primary c) view ∙ sym (eqb-true i (primary c x.view) e) ∙ sym by.1 in
     absurd (false≢true (sym h.0 ∙ eq-eqb (primary_of c m.body.view) m.id at))) in
     ap (λ (b : Bool). b || voter test ms i) not_it ∙ no_primary c x i ms h.1 e
 
 backups_alone : (c : Configuration) (x : Fields) (ms : List (Signed Prepare)) → AllByRecursion (IsBackups c) ms → (i : ℕ)
-    → (not (i == primary (setup_of c) x.view) && voter (λ b. same_fields (of_prepare b) x) ms i) ≡ voter (λ b. same_fields (of_prepare b) x) ms i
-backups_alone c x ms h i = split (i == primary (setup_of c) x.view) refl where
-  split : (b : Bool) → (i == primary (setup_of c) x.view) ≡ b → (not b && voter (λ b. same_fields (of_prepare b) x) ms i) ≡ voter (λ b. same_fields (of_prepare b) x) ms i
+    → (not (i == primary c x.view) && voter (λ b. same_fields (of_prepare b) x) ms i) ≡ voter (λ b. same_fields (of_prepare b) x) ms i
+backups_alone c x ms h i = split (i == primary c x.view) refl where
+  split : (b : Bool) → (i == primary c x.view) ≡ b → (not b && voter (λ b. same_fields (of_prepare b) x) ms i) ≡ voter (λ b. same_fields (of_prepare b) x) ms i
   split true e = sym (no_primary c x i ms h e)
   split false e = refl
 
@@ -52,35 +51,35 @@ swapped false true = refl
 swapped false false = refl
 
 own_proposal : (c : Configuration) → IsConfiguration c → (m : Signed PrePrepare) → IsAuthentic c (as_message bodies.PrePrepare m)
-    → voted_among of_pre_prepare (m ∷ []) (of_pre_prepare m.body) (primary (setup_of c) m.body.view.0) ≡ true
+    → voted_among of_pre_prepare (m ∷ []) (of_pre_prepare m.body) (primary c m.body.view.0) ≡ true
 own_proposal c k m a =
     let s = authentic_sender c k (as_message bodies.PrePrepare m) refl a in
-    let leader = primary (setup_of c) m.body.view.0 in
+    let leader = primary c m.body.view.0 in
     let same : (m.id == leader) ≡ true = eq-eqb m.id leader (sym (eqb-true leader m.id s.sends)) in
     ap (λ (r : Role). (is_replica r && ((m.id == leader) && same_fields (of_pre_prepare m.body) (of_pre_prepare m.body))) || false) s.role_is
     ∙ ap (λ (b : Bool). (b && same_fields (of_pre_prepare m.body) (of_pre_prepare m.body)) || false) same
     ∙ ap (λ (b : Bool). b || false) (same_self (of_pre_prepare m.body))
 
 pub certificate_is : (c : Configuration) → IsConfiguration c → (x : Certificate) → CertificateWellFormed x → AllByRecursion (IsAuthentic c) (in_certificate x)
-    → is_full_certificate c x ≡ is_certificate (setup_of c) x
+    → is_full_certificate c x ≡ is_certificate c x
 certificate_is c k x w a =
     let fields = of_pre_prepare x.pre_prepare.body in
     let test : Prepare → Bool = λ b. same_fields (of_prepare b) fields in
     let n = replicas_for c.f in
-    let others = same_count (λ i. not (i == primary (setup_of c) fields.view) && voter test x.prepares i) (voter test x.prepares) n (backups_alone c fields x.prepares (backups_prepare c k x.prepares a.1)) in
+    let others = same_count (λ i. not (i == primary c fields.view) && voter test x.prepares i) (voter test x.prepares) n (backups_alone c fields x.prepares (backups_prepare c k x.prepares a.1)) in
     let proposes = own_proposal c k x.pre_prepare a.0 in
     sym (so_many_pass test n (2 * c.f) x.prepares w.ascend (prepares_listed c k x.prepares a.1))
     ∙ sym (swapped (nat_le (2 * c.f) (count (voter test x.prepares) n)) (length x.prepares == 2 * c.f))
     ∙ ap (λ (m : ℕ). (true && nat_le (2 * c.f) m) && (length x.prepares == 2 * c.f)) (sym others)
-    ∙ ap (λ (b : Bool). (b && nat_le (2 * c.f) (count (λ i. not (i == primary (setup_of c) fields.view) && voter test x.prepares i) n)) && (length x.prepares == 2 * c.f)) (sym proposes)
+    ∙ ap (λ (b : Bool). (b && nat_le (2 * c.f) (count (λ i. not (i == primary c fields.view) && voter test x.prepares i) n)) && (length x.prepares == 2 * c.f)) (sym proposes)
 
 pub certificates_are : (c : Configuration) → IsConfiguration c → (xs : List Certificate) → AllByRecursion CertificateWellFormed xs → AllByRecursion (IsAuthentic c) (flat_map in_certificate xs)
-    → list_all (is_full_certificate c) xs ≡ list_all (is_certificate (setup_of c)) xs
+    → list_all (is_full_certificate c) xs ≡ list_all (is_certificate c) xs
 certificates_are c k [] w a = refl
 certificates_are c k (x ∷ xs) w a =
     let parts = all_split (IsAuthentic c) (in_certificate x) (flat_map in_certificate xs) a in
     ap (λ (b : Bool). b && list_all (is_full_certificate c) xs) (certificate_is c k x w.0 parts.0)
-    ∙ ap (λ (b : Bool). is_certificate (setup_of c) x && b) (certificates_are c k xs w.1 parts.1)
+    ∙ ap (λ (b : Bool). is_certificate c x && b) (certificates_are c k xs w.1 parts.1)
 
 -- ---- a ViewChange
 
@@ -159,7 +158,7 @@ opening_fault_is c k n h =
     ap (λ (b : Bool). first_fault b (have_full_proofs c n) (each_change (has_full_certificates c) n.changes) (have_given_order c n)) (over_bodies (is_for_view n) n.changes)
     ∙ ap (λ (b : Bool). first_fault (are_for_view n) b (each_change (has_full_certificates c) n.changes) (have_given_order c n)) (proofs_are c k n h)
     ∙ ap (λ (b : Bool). first_fault (are_for_view n) (have_proofs (setup_of c) n) b (have_given_order c n)) (same_tests c (has_full_certificates c) (has_certificates (setup_of c)) (has_certificates_is c k) n.changes opened)
-    ∙ ap (λ (b : Bool). first_fault (are_for_view n) (have_proofs (setup_of c) n) (have_certificates (setup_of c) n) (b && are_given (primary (setup_of c) n.view.0) (given (setup_of c) n.view.0 n.changes) n.pre_prepares)) (over_bodies (has_order (setup_of c)) n.changes)
+    ∙ ap (λ (b : Bool). first_fault (are_for_view n) (have_proofs (setup_of c) n) (have_certificates (setup_of c) n) (b && are_given (primary c n.view.0) (given (setup_of c) n.view.0 n.changes) n.pre_prepares)) (over_bodies (has_order (setup_of c)) n.changes)
 
 -- ---- of a checked message
 

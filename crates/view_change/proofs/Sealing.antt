@@ -7,9 +7,9 @@ use Rattle.host_types.specs.Configuration.{Configuration}
 use Rattle.host_types.specs.declared.Digest.{Digest}
 use Rattle.host_types.specs.declared.SeqNo.{SeqNo}
 use Rattle.host_types.specs.declared.View.{View}
-use Rattle.lms_tree.specs.SigningState.{SigningState}
-use Rattle.lms_tree.proofs.KeyLemmas.{short-signature}
-use Rattle.lms_tree.proofs.ShortLemmas.{valid-short}
+use Rattle.seal.specs.SigningState.{SigningState}
+use Rattle.seal.proofs.KeyLemmas.{short-signature}
+use Rattle.seal.proofs.ShortLemmas.{valid-short}
 use Rattle.pbft_codec.specs.declared.body.Body.TheVariants as bodies
 use Rattle.pbft_codec.specs.declared.body.fetch.Fetch.TheVariants as fetches
 use Rattle.pbft_codec.specs.Bodies.{BodyFieldsInRange, BodyWellFormed, encoded_length_of}

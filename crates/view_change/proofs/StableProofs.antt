@@ -26,7 +26,7 @@ module _ (c : Setup) (s : Core) (number : ℕ) (digest : List ℕ) where
   IsMine i m = (m.id ≡ i) × ((m.body.number.0 ≡ number) × (m.body.digest.0 ≡ digest))
 
   abbrev test : ℕ → Bool
-  test = is_least (quorum c) (checkpointed s.checkpoints number digest)
+  test = is_least (quorum c.config) (checkpointed s.checkpoints number digest)
 
   abbrev value : ℕ → Option (Signed Checkpoint)
   value i = at s.checkpoints (checkpoint_key number i)
@@ -52,19 +52,19 @@ module _ (c : Setup) (s : Core) (number : ℕ) (digest : List ℕ) where
       (record { checkpoint = m.body; is = refl; number_is = here.0; digest_is = here.1 }, each ms (λ x within. all x (inr within)))
 
   matches : (m : Signed Checkpoint) → IsIn m (proof_of c s number digest) → (m.body.number.0 ≡ number) × (m.body.digest.0 ≡ digest)
-  matches m within = let w = from_gathered test value (replicas c) m within in (mine w.0 m w.1 w.2).1
+  matches m within = let w = from_gathered test value (replicas c.config) m within in (mine w.0 m w.1 w.2).1
 
   ascends : AscendFrom 0 (proof_of c s number digest)
-  ascends = filtered_ascends (λ i. cond (test i) (value i) None) (replicas c) 0 (λ i m e. let w = taken_if (test i) (value i) m e in (mine i m w.0 w.1).0)
+  ascends = filtered_ascends (λ i. cond (test i) (value i) None) (replicas c.config) 0 (λ i m e. let w = taken_if (test i) (value i) m e in (mine i m w.0 w.1).0)
 
-  many : is_stable c s.checkpoints number digest ≡ true → length (proof_of c s number digest) ≡ 2 * c.config.f + 1
+  many : is_stable c.config s.checkpoints number digest ≡ true → length (proof_of c s number digest) ≡ 2 * c.config.f + 1
   many t =
-      let enough = leb-true (quorum c) (count (checkpointed s.checkpoints number digest) (replicas c)) t in
-      let least = count_least (quorum c) (checkpointed s.checkpoints number digest) (replicas c) in
-      let long = length_gathered test value (replicas c) (λ i t. let w = said_at i t in (w.0, w.1)) in
+      let enough = leb-true (quorum c.config) (count (checkpointed s.checkpoints number digest) (replicas c.config)) t in
+      let least = count_least (quorum c.config) (checkpointed s.checkpoints number digest) (replicas c.config) in
+      let long = length_gathered test value (replicas c.config) (λ i t. let w = said_at i t in (w.0, w.1)) in
       omega (arith, enough, least, long)
 
-  pub stable_proof : is_stable c s.checkpoints number digest ≡ true → IsStableBy c.config number (map (as_message bodies.Checkpoint) (proof_of c s number digest))
+  pub stable_proof : is_stable c.config s.checkpoints number digest ≡ true → IsStableBy c.config number (map (as_message bodies.Checkpoint) (proof_of c s number digest))
   stable_proof t = record {
     digest = digest;
     each = each (proof_of c s number digest) matches;

@@ -13,7 +13,7 @@ use Rattle.pbft_codec.specs.declared.body.Body.TheVariants as bodies
 use Rattle.pbft_codec.specs.Limits.{AscendFrom}
 use Rattle.pbft_model.proofs.Made.{same_self}
 use Rattle.pbft_model.specs.Certificates.{Fields, is_checkpoint_of, of_pre_prepare, of_prepare, same_fields}
-use Rattle.pbft_model.specs.Setup.{Setup, span}
+use Rattle.pbft_model.specs.Setup.{Setup, span, setup_of}
 use Rattle.pbft_model.specs.Validity.{ascend_within, digest_in, first_fault, has_certificates, has_view, is_proof, view_change_fault}
 use Rattle.pbft_model.specs.Words.{Certificate, Checkpoint, PrePrepare, Prepare, Signed, ViewChange}
 use Rattle.quorum_log.specs.declared.certificate.CheckedCertificate.{CheckedCertificate}
@@ -22,7 +22,6 @@ use Rattle.seal.specs.Parts.{as_message}
 use Rattle.view_change.specs.Made.{AreValidParts, AscendWithin, IsCertificateOf, IsCheckpointAt, IsMadeOf, IsPrepareFor, IsStableBy, IsValidChange, OneForOne}
 use Rattle.view_change.specs.Opened.{is_full_certificate}
 use Rattle.view_change.specs.Sealable.{HasShortList, IsCheckedCertificate}
-use Rattle.view_change.specs.Setups.{setup_of}
 use Rattle.view_change.proofs.Counts.{so_many_pass}
 use Rattle.view_change.proofs.Openings.{certificates_are}
 use Rattle.view_change.proofs.Sealing.{all_good, authentic_of, each_of}
@@ -157,7 +156,7 @@ made_valid view low proof certificates checked all legal parts = with_proof (pro
 
   with_proof : IsProved proof low.0 → IsMadeValid view low proof certificates
   with_proof (bs, are, is_proved) =
-      let carried = carried_of proof.config view.0 (low.0 + 1) (low.0 + span (setup_of proof.config)) certificates legal parts.carries in
+      let carried = carried_of proof.config view.0 (low.0 + 1) (low.0 + span proof.config) certificates legal parts.carries in
       let good = all_good proof.config certificates carried.ys carried.are parts.alike all carried.short in
       let v : ViewChange = record { view = view; low = low; checkpoints = bs; certificates = carried.ys } in
       let view_ok : has_view v ≡ true = both (nat_lt 0 view.0) (list_all (λ x. nat_lt x.pre_prepare.body.view.0 view.0) carried.ys) (lt-ltb 0 view.0 parts.later) carried.lower in

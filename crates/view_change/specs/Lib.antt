@@ -1,8 +1,11 @@
 pub mod Faults
-pub mod Setups
+pub mod Messages
 pub mod Sealable
 pub mod Opened
 pub mod Proposals
 pub mod Made
 pub mod Opening
 pub mod Reports
+pub use Rattle.quorum_log.specs.Log
+pub use Rattle.quorum_log.specs.declared.certificate.CheckedCertificate
+pub use Rattle.quorum_log.specs.declared.fault.LogFault

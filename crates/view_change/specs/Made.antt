@@ -9,13 +9,12 @@ use Rattle.pbft_codec.specs.declared.body.Body.TheVariants as bodies
 use Rattle.pbft_codec.specs.Limits.{AscendFrom}
 use Rattle.pbft_model.specs.Certificates.{of_pre_prepare, of_prepare}
 use Rattle.pbft_model.specs.Words.{Certificate, Checkpoint, NewView, PrePrepare, Prepare, Signed, ViewChange}
-use Rattle.pbft_model.specs.Setup.{Setup, span}
+use Rattle.pbft_model.specs.Setup.{Setup, span, setup_of}
 use Rattle.pbft_model.specs.Validity.{has_view, has_proof, has_certificates, has_order, view_change_fault}
 use Rattle.quorum_log.specs.declared.certificate.CheckedCertificate.{CheckedCertificate}
 use Rattle.seal.specs.Lists.{CheckedMessages}
 use Rattle.seal.specs.Parts.{as_message}
 use Rattle.view_change.specs.Sealable.{AreUnder}
-use Rattle.view_change.specs.Setups.{setup_of}
 
 -- The messages of a checked certificate are this one's.
 pub record IsCertificateOf (x : CheckedCertificate) (y : Certificate) : Type 0 where
@@ -97,17 +96,9 @@ pub record AreValidParts (view : View) (low : SeqNo) (proof : CheckedMessages) (
   pub later : 0 < view.0
   pub stable : IsStableBy proof.config low.0 proof.messages ⊎ ((low.0 ≡ 0) × (proof.messages ≡ []))
   pub alike : AreUnder proof.config certificates
-  pub carries : AscendWithin proof.config view.0 (low.0 + 1) (low.0 + span (setup_of proof.config)) certificates
+  pub carries : AscendWithin proof.config view.0 (low.0 + 1) (low.0 + span proof.config) certificates
 
 -- a valid ViewChange
 abbrev pub IsValidChange : Setup → Body → Type 0
 IsValidChange c (bodies.ViewChange v) = view_change_fault c v ≡ None
-IsValidChange c (bodies.Request b) = ⊥
-IsValidChange c (bodies.PrePrepare b) = ⊥
-IsValidChange c (bodies.Prepare b) = ⊥
-IsValidChange c (bodies.Commit b) = ⊥
-IsValidChange c (bodies.Reply b) = ⊥
-IsValidChange c (bodies.Checkpoint b) = ⊥
-IsValidChange c (bodies.NewView b) = ⊥
-IsValidChange c (bodies.Fetch b) = ⊥
-IsValidChange c (bodies.Snapshot b) = ⊥
+IsValidChange c _ = ⊥

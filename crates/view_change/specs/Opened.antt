@@ -5,12 +5,11 @@ use Rattle.std.specs.List.{AllByRecursion, list_all}
 use Rattle.host_types.specs.Configuration.{Configuration}
 use Rattle.pbft_codec.specs.Limits.{ViewChangeWellFormed}
 use Rattle.pbft_model.specs.Words.{Signed, Checkpoint, Certificate, ViewChange, NewView}
-use Rattle.pbft_model.specs.Setup.{primary}
+use Rattle.pbft_model.specs.Setup.{primary, setup_of}
 use Rattle.pbft_model.specs.Certificates.{of_pre_prepare, of_prepare, same_fields, is_checkpoint_of}
 use Rattle.pbft_model.specs.Validity.{ViewFault, digest_in, has_view, has_order, first_fault, given, are_given}
 use Rattle.seal.specs.Parts.{in_view_change}
 use Rattle.seal.specs.Signers.{IsAuthentic}
-use Rattle.view_change.specs.Setups.{setup_of}
 
 -- A ViewChange of the grammar whose nested messages are authentic.
 pub record IsOpened (c : Configuration) (v : ViewChange) : Type 0 where
@@ -47,7 +46,7 @@ have_full_proofs c n = each_change (has_full_proof c) n.changes && length n.chan
 abbrev pub have_given_order : Configuration → NewView → Bool
 have_given_order c n =
     each_change (has_order (setup_of c)) n.changes
-    && are_given (primary (setup_of c) n.view.0) (given (setup_of c) n.view.0 n.changes) n.pre_prepares
+    && are_given (primary c n.view.0) (given (setup_of c) n.view.0 n.changes) n.pre_prepares
 
 abbrev pub opening_fault : Configuration → NewView → Option ViewFault
 opening_fault c n =

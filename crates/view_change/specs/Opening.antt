@@ -24,7 +24,7 @@ pub record IsSignedBy (leader : ℕ) (m : Signed PrePrepare) : Type 0 where
 pub record IsSignedFrom (c : Setup) (view : ℕ) (o : Opening) (n : NewView) : Type 0 where
   pub view_is : n.view.0 ≡ view
   pub valid : AllByRecursion (λ v. (view_change_fault c v ≡ None) × (v.view.0 ≡ view)) (bodies_in n.changes)
-  pub many : length n.changes ≡ quorum c
+  pub many : length n.changes ≡ quorum c.config
   pub ascend : AscendFrom 0 n.changes
   pub proposals : map (λ m. m.body) n.pre_prepares ≡ o.entries.items
-  pub signers : AllByRecursion (IsSignedBy (primary c view)) n.pre_prepares
+  pub signers : AllByRecursion (IsSignedBy (primary c.config view)) n.pre_prepares

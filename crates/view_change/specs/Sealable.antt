@@ -2,7 +2,7 @@
 use Rattle.std.specs.Prelude.{◌≡◌, ◌+◌, ◌≤◌, List, length}
 use Rattle.std.specs.List.{AllByRecursion}
 use Rattle.host_types.specs.Configuration.{Configuration}
-use Rattle.lms_tree.specs.SigningState.{SigningState}
+use Rattle.seal.specs.SigningState.{SigningState}
 use Rattle.pbft_codec.specs.Bodies.{BodyWellFormed}
 use Rattle.pbft_codec.specs.Encoding.{body as encoded_body, max_bytes}
 use Rattle.pbft_codec.specs.Limits.{AscendFrom, IsSequenceNumber}

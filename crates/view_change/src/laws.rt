@@ -38,12 +38,12 @@ pub fn bodies_can_be_sealed()
 /// What a log's `certificate` gives at a number in a view is a certificate of that view and number: the
 /// PrePrepare, and matching Prepares of 2f replicas, ids ascending, as `make` wants of valid parts.
 pub fn certificates_of_a_log_fit()
-    ensures { (c : Setup) (l : Log) (view number : ℕ) (x : CheckedCertificate) → checked_certificate c l view number ≡ Some x → IsCertificateAt c.config view number x }
+    ensures { (c : Configuration) (l : Log) (view number : ℕ) (x : CheckedCertificate) → checked_certificate c l view number ≡ Some x → IsCertificateAt c view number x }
 {}
 
 /// The proof of a number that is stable among a core's Checkpoints is one: Checkpoints of 2f + 1 replicas at the
 /// number with the digest, ids ascending, as `make` wants of valid parts.
 pub fn proofs_of_stable_numbers_fit()
-    ensures { (c : Setup) (s : Core) (number : ℕ) (digest : List ℕ) → is_stable c s.checkpoints number digest ≡ true
+    ensures { (c : Setup) (s : Core) (number : ℕ) (digest : List ℕ) → is_stable c.config s.checkpoints number digest ≡ true
         → IsStableBy c.config number (map (as_message bodies.Checkpoint) (proof_of c s number digest)) }
 {}

@@ -26,4 +26,5 @@ pub use laws::{
 };
 pub use making::{make, make_new_view};
 pub use opening::{Opening, new_view};
+pub use quorum_log::{CheckedCertificate, LogFault, QuorumLog};
 pub use validity::{valid, valid_new_view};

@@ -11,7 +11,7 @@ ghost use Rattle.pbft_model.specs.Validity.{view_change_fault};
 ghost use Rattle.view_change.specs.declared.fault.ViewFault.TheVariants.{Memory};
 ghost use Rattle.view_change.specs.Made.{AreValidParts, HasValidParts, IsCertificateOf, IsMadeOf, IsNewViewOf, IsValidChange, OneForOne};
 ghost use Rattle.view_change.specs.Sealable.{AreUnder, HasFewMessages, HasShortLists, IsCheckedCertificate, IsSealable};
-ghost use Rattle.view_change.specs.Setups.{setup_of};
+ghost use Rattle.pbft_model.specs.Setup.{setup_of};
 
 use crate::fault::ViewFault;
 use crate::nested::{copies_of, copy_of};

@@ -2,11 +2,10 @@
 
 ghost use Rattle.std.specs.Prelude.{◌≡◌};
 ghost use Rattle.pbft_model.specs.Certificates.{is_by, of_pre_prepare, same_fields};
-ghost use Rattle.pbft_model.specs.Setup.{primary};
+ghost use Rattle.pbft_model.specs.Setup.{primary, setup_of};
 ghost use Rattle.pbft_model.specs.Validity.{are_given, given, has_order};
 ghost use Rattle.view_change.specs.Faults.{answer};
 ghost use Rattle.view_change.specs.Opened.{each_change, is_for_view, has_full_certificates, has_full_proof, have_full_proofs, have_given_order, opening_fault};
-ghost use Rattle.view_change.specs.Setups.{setup_of};
 
 use crate::certificates::quorum;
 use crate::fault::ViewFault;
@@ -64,7 +63,7 @@ fn are_given(
     changes: &[Signed<ViewChange>],
     pre_prepares: &[Signed<PrePrepare>],
 ) -> bool
-    ensures { result ≡ are_given (primary (setup_of config.now) view.0) (given (setup_of config.now) view.0 changes.now) pre_prepares.now }
+    ensures { result ≡ are_given (primary config.now view.0) (given (setup_of config.now) view.0 changes.now) pre_prepares.now }
 {
     let leader = u32::from(config.primary(view).0);
     let top = top_of(changes);

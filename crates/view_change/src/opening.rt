@@ -14,7 +14,7 @@ ghost use Rattle.view_change.specs.Proposals.{left_from};
 ghost use Rattle.seal.specs.Parts.{as_message};
 ghost use Rattle.view_change.specs.declared.fault.ViewFault.TheVariants.{Memory};
 ghost use Rattle.view_change.specs.Opening.{IsOpeningOf, IsSignedFrom};
-ghost use Rattle.view_change.specs.Setups.{setup_of};
+ghost use Rattle.pbft_model.specs.Setup.{setup_of};
 
 use crate::fault::ViewFault;
 use crate::given::{digest_at, greatest_low, top_of};

@@ -6,7 +6,8 @@ ghost use Rattle.pbft_codec.specs.declared.body.new_view.NewView.{NewView};
 ghost use Rattle.pbft_codec.specs.declared.body.view_change.ViewChange.{ViewChange};
 ghost use Rattle.pbft_model.specs.Validity.{view_change_fault, new_view_fault};
 ghost use Rattle.view_change.specs.Faults.{answer};
-ghost use Rattle.view_change.specs.Setups.{setup_of, IsViewChange, IsNewView};
+ghost use Rattle.pbft_model.specs.Setup.{setup_of};
+ghost use Rattle.view_change.specs.Messages.{IsViewChange, IsNewView};
 
 use crate::fault::ViewFault;
 use crate::new_views::check_new_view;

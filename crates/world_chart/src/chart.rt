@@ -5,7 +5,7 @@ use crate::mermaid::mermaid;
 use crate::picture::picture;
 use crate::rows::{Row, rows_of};
 use std::alloc::{AllocError, Global};
-use trace_lines::Happening;
+use world_lines::Happening;
 
 /// What happened, as a chart of messages.
 #[derive(Drop)]

@@ -1,11 +1,11 @@
 //! The rows of a chart.
 
 use crate::lanes::Lanes;
-use blame::Claim;
+use conflicts::Claim;
 use host_types::{ReplicaId, View};
 use script_text::Node;
 use std::alloc::{AllocError, Global};
-use trace_lines::{Cause, Happening, Saying, line_of, words_of};
+use world_lines::{Cause, Happening, Saying, line_of, words_of};
 
 /// The most messages that are drawn one by one.
 const MAX_MESSAGES: usize = 100;

@@ -5,7 +5,7 @@ use Rattle.host_types.specs.Configuration.{replicas_for}
 use Rattle.host_types.specs.declared.ReplicaId.{ReplicaId}
 use Rattle.seal.specs.Opening.{CheckedMessage, opening}
 use Rattle.seal.specs.declared.fault.SealFault.{SealFault}
-use Rattle.replica_core.specs.Facts.{RowFacts}
+use Rattle.byz_world.specs.Facts.{RowFacts}
 use Rattle.byz_world.specs.declared.fault.WorldFault.TheVariants as faults
 use Rattle.byz_world.specs.Worlds.{Answer, Delivers, Gives, Refuses, Where, WorldFacts}
 use Rattle.byz_world.specs.declared.event.Event.TheVariants as events

@@ -4,20 +4,21 @@ use Rattle.std.specs.Prelude.{IfNone, String, is_some}
 use Rattle.std.specs.String.{string_bytes}
 use Rattle.std.specs.declared.alloc.Global.{Global}
 use Rattle.std.proofs.lemmas.List.{append-nil, append_assoc}
-use Rattle.world_script.proofs.Lists.{first_splits, keeps_all, none_meant, some_meant}
+use Rattle.world_queue.proofs.Lists.{first_splits, keeps_all, none_meant, some_meant}
 use Rattle.host_types.specs.declared.ClientId.{ClientId}
 use Rattle.host_types.specs.declared.ReplicaId.{ReplicaId}
 use Rattle.seal.specs.Opening.{CheckedMessage, opening}
 use Rattle.seal.specs.declared.fault.SealFault.{SealFault}
 use Rattle.byz_world.specs.Worlds.{Where}
 use Rattle.script_text.specs.declared.script.Filter.{Filter}
-use Rattle.script_text.specs.declared.script.Node.{Node}
-use Rattle.script_text.specs.declared.script.Node.TheVariants.{Replica, Client}
-use Rattle.world_script.specs.Letters.{LetterFacts, drawn, first_meant, meant_count, next_state, passed_over, state_behind, without_first}
+use Rattle.script_text.specs.Node.{Node}
+use Rattle.script_text.specs.Node.TheVariants.{Replica, Client}
+use Rattle.world_queue.specs.Letters.{LetterFacts, drawn, first_meant, meant_count, next_state, passed_over, state_behind, without_first}
 use Rattle.std.specs.Io.KnownBytes.{Appends}
 use Rattle.script_text.specs.declared.script.Step.TheVariants as steps
 use Rattle.world_script.specs.Endings.{Ends}
-use Rattle.world_script.specs.Parts.{IsTaken, ahead}
+use Rattle.world_queue.specs.Effects.{IsTaken}
+use Rattle.world_script.specs.Parts.{ahead}
 use Rattle.world_script.specs.Writing.{AppendsFront}
 use Rattle.world_script.specs.declared.fault.RunFault.TheVariants.{TooManyDeliveries, Write}
 use Rattle.world_script.proofs.Written.{both, front_then}

@@ -7,28 +7,29 @@ use Rattle.seal.specs.declared.fault.SealFault.{SealFault}
 use Rattle.byz_world.proofs.RunLaws.{runs_lead, sound_worlds}
 use Rattle.byz_world.specs.Worlds.{Runs, Where, WorldFacts, first_world}
 use Rattle.byz_world.specs.declared.event.Event.{Event}
-use Rattle.client_session.specs.Sessions.{SessionState}
+use Rattle.world_queue.specs.Sessions.{SessionState}
 use Rattle.host_types.specs.declared.ClientId.{ClientId}
 use Rattle.script_text.specs.Scripts.{script_of}
 use Rattle.script_text.specs.declared.script.Filter.{Filter}
 use Rattle.pbft_codec.specs.declared.body.Body.{Body}
 use Rattle.script_text.specs.declared.script.Forgery.{Forgery}
-use Rattle.script_text.specs.declared.script.Node.{Node}
-use Rattle.script_text.specs.declared.script.Node.TheVariants.{Replica, Client}
+use Rattle.script_text.specs.Node.{Node}
+use Rattle.script_text.specs.Node.TheVariants.{Replica, Client}
 use Rattle.script_text.specs.declared.script.Order.{Order}
 use Rattle.script_text.specs.declared.script.NamedStep.{NamedStep}
 use Rattle.script_text.specs.declared.script.Script.{Script}
 use Rattle.script_text.specs.declared.script.Step.{Step}
 use Rattle.script_text.specs.declared.script.Step.TheVariants as steps
-use Rattle.world_script.specs.declared.forging.Forger.{Forger}
+use Rattle.world_queue.specs.declared.forging.Forger.{Forger}
 use Rattle.world_script.specs.Edits.{edited}
 use Rattle.world_script.specs.Expecting.{Scene, behind, first_scene}
 use Rattle.world_script.specs.Keys.{configuration_of}
 use Rattle.world_script.specs.Passing.{DoesPart, DoesPartOfFirst, IsOnRun, Passes, correct_signers}
 use Rattle.world_script.specs.Scripts.{Plays}
 use Rattle.world_script.specs.Facts.{StageFacts}
-use Rattle.world_script.specs.Stages.{AllTimeOut, Deliveries, Delivers, HandsTo, Occurs, Prints, Receives, TimesOut, Turn, at_client, forged_body, forged_by, forged_for, is_running, message_of, quiet, requested_by, signing_forger, signing_session, with_named, with_queue}
-use Rattle.world_script.specs.Letters.{LetterFacts, meant_count, passed_over}
+use Rattle.world_script.specs.Stages.{AllTimeOut, Deliveries, Delivers, HandsTo, Occurs, Prints, Receives, TimesOut, Turn, at_client, forged_body, forged_by, forged_for, is_running, message_of, quiet, requested_by, with_named, with_queue}
+use Rattle.world_queue.specs.Parties.{signing_forger, signing_session}
+use Rattle.world_queue.specs.Letters.{LetterFacts, meant_count, passed_over}
 use Rattle.world_script.specs.Starts.{is_faulty, start_of}
 use Rattle.world_script.proofs.Hearing.{passed_hears}
 use Rattle.world_script.proofs.LegalHeads.{head_configuration, head_listed, script_legal}

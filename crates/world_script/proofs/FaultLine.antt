@@ -3,7 +3,7 @@ use Rattle.std.proofs.Common.{◌≡◌, ℕ, List, ◌++◌, Option, Result, Ok
 use Rattle.std.specs.Prelude.{OnErr, OnOk, codes, decimal}
 use Rattle.std.specs.Io.KnownBytes.{Appends}
 use Rattle.script_text.specs.Faults.{name_of, number_of}
-use Rattle.script_text.specs.declared.fault.ScriptFault.{ScriptFault}
+use Rattle.script_text.specs.ScriptFault.{ScriptFault}
 use Rattle.world_script.specs.Scripts.{fault_line}
 use Rattle.world_script.specs.Writing.{AppendsFront}
 use Rattle.world_script.proofs.Written.{both, front_more, front_then, same_appends}

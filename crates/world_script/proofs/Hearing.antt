@@ -7,7 +7,7 @@ use Rattle.host_types.specs.declared.ClientId.{ClientId}
 use Rattle.host_types.specs.declared.ReplicaId.{ReplicaId}
 use Rattle.pbft_codec.specs.declared.body.Body.{Body}
 use Rattle.pbft_codec.specs.declared.body.Body.TheVariants as bodies
-use Rattle.message_fields.specs.declared.fault.CodecFault.{CodecFault}
+use Rattle.codec_fields.specs.declared.fault.CodecFault.{CodecFault}
 use Rattle.pbft_codec.specs.declared.signed.Signed.{Signed}
 use Rattle.pbft_codec.specs.Reading.{reading}
 use Rattle.pbft_codec.specs.Encoding.{encoding}
@@ -16,35 +16,36 @@ use Rattle.seal.specs.Parts.{messages_in}
 use Rattle.seal.specs.Signers.{IsAuthentic, first_fault}
 use Rattle.seal.specs.declared.fault.SealFault.{SealFault}
 use Rattle.seal.proofs.Authenticity.{all_authentic}
-use Rattle.replica_core.specs.declared.row.Input.{Input}
-use Rattle.replica_core.specs.declared.row.Input.TheVariants as inputs
-use Rattle.replica_core.specs.declared.row.Output.{Output}
+use Rattle.byz_world.specs.Input.{Input}
+use Rattle.byz_world.specs.Input.TheVariants as inputs
+use Rattle.byz_world.specs.Output.{Output}
 use Rattle.byz_world.specs.Worlds as worlds
 use Rattle.byz_world.specs.Worlds.{Answer, Comes, Forwards, Gives, Hands, MemberFacts, Passes as PassesBy, Where, WorldFacts, member_of, output_of}
 use Rattle.byz_world.specs.declared.event.Event.{Event}
 use Rattle.byz_world.specs.declared.event.Event.TheVariants as events
-use Rattle.client_session.specs.Accepted.{after_offers}
-use Rattle.client_session.specs.Sessions.{SessionState, after_offer as after_offer_of, awaits, answer_in, offered}
-use Rattle.script_text.specs.declared.script.Client.{Client}
+use Rattle.world_queue.specs.Accepted.{after_offers}
+use Rattle.world_queue.specs.Sessions.{SessionState, after_offer as after_offer_of, awaits, answer_in, offered}
+use Rattle.script_text.specs.Client.{Client}
 use Rattle.script_text.specs.declared.script.Filter.{Filter}
 use Rattle.script_text.specs.declared.script.Forgery.{Forgery}
-use Rattle.script_text.specs.declared.script.Node.{Node}
-use Rattle.script_text.specs.declared.script.Node.TheVariants as nodes
+use Rattle.script_text.specs.Node.{Node}
+use Rattle.script_text.specs.Node.TheVariants as nodes
 use Rattle.script_text.specs.declared.script.Order.{Order}
 use Rattle.script_text.specs.declared.script.NamedStep.{NamedStep}
 use Rattle.script_text.specs.declared.script.Script.{Script}
 use Rattle.script_text.specs.declared.script.Step.{Step}
 use Rattle.script_text.specs.declared.script.Step.TheVariants as steps
 use Rattle.script_text.specs.Heads.{HeadFacts}
-use Rattle.world_script.specs.declared.forging.Forger.{Forger}
+use Rattle.world_queue.specs.declared.forging.Forger.{Forger}
 use Rattle.world_script.specs.Edits.{edited}
 use Rattle.world_script.specs.Expecting.{Scene, behind, first_scene}
 use Rattle.world_script.specs.Keys.{configuration_of}
-use Rattle.world_script.specs.Letters.{LetterFacts, meant_count, passed_over}
+use Rattle.world_queue.specs.Letters.{LetterFacts, meant_count, passed_over}
 use Rattle.world_script.specs.Passing.{DoesPart, DoesPartOfFirst, HasHeard, Passes}
 use Rattle.world_script.specs.Scripts.{Plays}
 use Rattle.world_script.specs.Facts.{StageFacts}
-use Rattle.world_script.specs.Stages.{AllTimeOut, Deliveries, Delivers, HandsTo, Occurs, Prints, Receives, TimesOut, Turn, after_asking, at_client, at_first, forged_body, forged_by, forged_for, is_of, is_running, message_of, quiet, requested_by, signing_forger, signing_session, with_named, with_queue}
+use Rattle.world_script.specs.Stages.{AllTimeOut, Deliveries, Delivers, HandsTo, Occurs, Prints, Receives, TimesOut, Turn, at_client, forged_body, forged_by, forged_for, is_running, message_of, quiet, requested_by, with_named, with_queue}
+use Rattle.world_queue.specs.Parties.{after_asking, at_first, is_of, signing_forger, signing_session}
 use Rattle.world_script.specs.Starts.{session_for, start_of}
 
 -- ---- an event keeps the configuration
@@ -109,15 +110,7 @@ offer_config s replica (bodies.Reply b) = split (awaits s b) where
   split : (e : Bool) → (cond e (record s { answers = s.answers ++ answer_in replica b ∷ [] }) s).config ≡ s.config
   split true = refl
   split false = refl
-offer_config s replica (bodies.Request b) = refl
-offer_config s replica (bodies.PrePrepare b) = refl
-offer_config s replica (bodies.Prepare b) = refl
-offer_config s replica (bodies.Commit b) = refl
-offer_config s replica (bodies.Checkpoint b) = refl
-offer_config s replica (bodies.ViewChange b) = refl
-offer_config s replica (bodies.NewView b) = refl
-offer_config s replica (bodies.Fetch b) = refl
-offer_config s replica (bodies.Snapshot b) = refl
+offer_config s replica _ = refl
 
 offers_more : (s : SessionState) (ms : List (Signed Body)) (m : Signed Body) → after_offers s (ms ++ m ∷ []) ≡ offered (after_offers s ms) m
 offers_more s [] m = refl

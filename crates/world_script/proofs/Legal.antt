@@ -11,8 +11,9 @@ use Rattle.host_types.specs.declared.config.ConfigFault.TheVariants.{BadF, Wrong
 use Rattle.host_types.specs.declared.key.PublicKey.{PublicKey}
 use Rattle.lms_tree.specs.SigningState.{SigningState}
 use Rattle.script_text.specs.Heads.{HeadFacts, IsLegal, keyless, no_key}
-use Rattle.script_text.specs.declared.script.Client.{Client}
-use Rattle.world_script.specs.Keys.{key_of, unkeyed}
+use Rattle.script_text.specs.Client.{Client}
+use Rattle.world_queue.specs.Parties.{key_of}
+use Rattle.world_script.specs.Keys.{unkeyed}
 
 -- What entries of clients say beside their keys.
 pub record AreAlike (es fs : List ClientEntry) : Type 0 where

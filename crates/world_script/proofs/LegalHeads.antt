@@ -15,11 +15,12 @@ use Rattle.script_text.specs.Forms.{only_keys, pair_of}
 use Rattle.script_text.specs.Heads.{HeadFacts, IsLegal, byte_of, head_from, head_in, head_keys, head_of, head_read, keyless, keyless_configuration, listed_clients, needed_head, optional_head}
 use Rattle.script_text.specs.Scripts.{document, script_from, script_in, script_of, script_with, steps_in, listed_steps}
 use Rattle.script_text.specs.declared.dialect.Dialect.TheVariants.{World}
-use Rattle.script_text.specs.declared.fault.ScriptFault.{ScriptFault}
-use Rattle.script_text.specs.declared.script.Client.{Client}
+use Rattle.script_text.specs.ScriptFault.{ScriptFault}
+use Rattle.script_text.specs.Client.{Client}
 use Rattle.script_text.specs.declared.script.Script.{Script}
 use Rattle.script_text.specs.declared.script.NamedStep.{NamedStep}
-use Rattle.world_script.specs.Keys.{configuration_of, entry_of, key_of, replica_signer, replica_signers, unkeyed}
+use Rattle.world_script.specs.Keys.{configuration_of, entry_of, replica_signer, replica_signers, unkeyed}
+use Rattle.world_queue.specs.Parties.{key_of}
 use Rattle.world_script.specs.Passing.{correct_signers}
 use Rattle.world_script.specs.Starts.{is_faulty}
 use Rattle.world_script.proofs.Legal.{no_fault}

@@ -8,11 +8,10 @@ mod Legal
 mod LegalHeads
 mod Listed
 mod Naming
-mod Lists
-mod Parties
 mod Playing
 mod Reporting
 mod Printed
+mod Ranges
 mod Timing
 mod Turns
 mod Written

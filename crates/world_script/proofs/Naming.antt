@@ -4,9 +4,9 @@ use Rattle.std.specs.Option.{option_map}
 use Rattle.script_text.specs.declared.script.Damage.{Damage}
 use Rattle.script_text.specs.declared.script.Payload.{Payload}
 use Rattle.script_text.specs.declared.script.Payload.TheVariants.{Message}
-use Rattle.world_script.specs.Edits.{changed, payload_bytes, raw_letter}
-use Rattle.world_script.specs.Letters.{LetterFacts}
-use Rattle.world_script.specs.declared.named.Named.{Named}
+use Rattle.world_queue.specs.Changes.{changed, payload_bytes, raw_letter}
+use Rattle.world_queue.specs.Letters.{LetterFacts}
+use Rattle.world_queue.specs.declared.named.Named.{Named}
 
 pub message_letter : (messages : List Named) (payload : Payload) (name : List ℕ) (change : Option Damage) (n : Named) (letter : LetterFacts) (given bytes : List ℕ) → payload ≡ Message name change
     → Some n ≡ find (λ (m : Named). bytes_eq m.name name) messages → given ≡ n.letter.bytes → bytes ≡ changed change given → letter ≡ raw_letter bytes

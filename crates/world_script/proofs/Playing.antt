@@ -13,12 +13,11 @@ use Rattle.script_text.specs.declared.script.Step.{Step}
 use Rattle.script_text.specs.declared.script.Step.TheVariants as steps
 use Rattle.world_script.specs.Endings.{Ends}
 use Rattle.world_script.specs.Faults.{kind_of}
-use Rattle.world_script.specs.Expecting.{Holds, IsUnexpected, MayPrint, Scene, behind, first_scene, unread_behind}
-use Rattle.world_script.specs.Lines.{unexpected_line}
+use Rattle.world_script.specs.Expecting.{Holds, IsUnexpected, MayPrint, Scene, behind, first_scene, unread_behind, unexpected_line}
 use Rattle.world_script.specs.Running.{Compares, Fails, RunsSteps, StepEnds}
 use Rattle.world_script.specs.Scripts.{BreaksOff, Plays}
 use Rattle.world_script.specs.Parts.{Performs}
-use Rattle.world_script.specs.Letters.{LetterFacts}
+use Rattle.world_queue.specs.Letters.{LetterFacts}
 use Rattle.world_script.specs.Facts.{StageFacts}
 use Rattle.world_script.specs.Stages.{Begins, Overruns, Prints, after_naming, with_named}
 use Rattle.world_script.specs.Writing.{AppendsFront}

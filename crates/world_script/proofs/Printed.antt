@@ -7,7 +7,7 @@ use Rattle.script_text.specs.declared.script.Printout.{Printout}
 use Rattle.script_text.specs.declared.script.Printout.TheVariants as printouts
 use Rattle.world_script.specs.Facts.{StageFacts}
 use Rattle.world_script.specs.Printing.{Shows, Upgrades}
-use Rattle.world_script.proofs.Lists.{range_push}
+use Rattle.world_script.proofs.Ranges.{range_push}
 
 abbrev id_of : ℕ → ReplicaId
 id_of n = record { 0 = n }

@@ -3,9 +3,9 @@ use Rattle.std.proofs.Common.{◌≡◌, ◌≤◌, ◌⊎◌, ℕ, List, [], �
 use Rattle.std.specs.Prelude.{IfSome}
 use Rattle.std.specs.Io.KnownBytes.{Appends}
 use Rattle.script_text.specs.Scripts.{document, script_of, steps_listed}
-use Rattle.script_text.specs.declared.fault.ScriptFault.{ScriptFault}
-use Rattle.script_text.specs.declared.fault.ScriptKind.{ScriptKind}
-use Rattle.script_text.specs.declared.fault.ScriptKind.TheVariants as kinds
+use Rattle.script_text.specs.ScriptFault.{ScriptFault}
+use Rattle.script_text.specs.ScriptKind.{ScriptKind}
+use Rattle.script_text.specs.ScriptKind.TheVariants as kinds
 use Rattle.script_text.specs.declared.script.Script.{Script}
 use Rattle.script_text.specs.declared.script.Step.{Step}
 use Rattle.world_script.specs.Running.{Fails, PlaysInput, PlaysWhatIsRead, Reports, RunsSteps, StopsAt}
@@ -25,16 +25,11 @@ abbrev pub IsListed : List ℕ → ScriptFault → Type 0
 IsListed input fault = fault.step ≤ steps_listed (document input)
 
 refused_by : (k : ScriptKind) (input : List ℕ) (fault : ScriptFault) (old : Option (List ℕ)) → IsOfText k → script_of input ≡ Err fault → IsListed input fault → StopsAt k input fault old old
-refused_by kinds.NotToml input fault old of is listed = ([], (is, refl), nothing old)
-refused_by kinds.MissingKey input fault old of is listed = ([], (is, refl), nothing old)
-refused_by kinds.WrongValue input fault old of is listed = ([], (is, refl), nothing old)
-refused_by kinds.UnknownKey input fault old of is listed = ([], (is, refl), nothing old)
-refused_by kinds.BadConfig input fault old of is listed = ([], (is, refl), nothing old)
-refused_by kinds.TooLong input fault old of is listed = ([], (is, refl), nothing old)
 refused_by kinds.Memory input fault old of is listed = ([], inl (refl, listed), nothing old)
 refused_by kinds.TooManyDeliveries input fault old of is listed = absurd of
 refused_by kinds.Read input fault old of is listed = absurd of
 refused_by kinds.Write input fault old of is listed = absurd of
+refused_by _ input fault old of is listed = ([], (is, refl), nothing old)
 
 abbrev pub LacksMemoryOrIs : List ℕ → ScriptFault → Type 0
 LacksMemoryOrIs input fault = (fault.kind ≡ kinds.Memory) ⊎ (script_of input ≡ Err fault)
@@ -61,13 +56,7 @@ stops : (k : ScriptKind) (input : List ℕ) (script : Script) (fault : ScriptFau
 stops kinds.TooManyDeliveries input script fault old new is f = (f.0, record { script = script; is = is; off = f.1 }, f.2)
 stops kinds.Memory input script fault old new is f = (f.0, lacked input script fault.step f.0 is f.1, f.2)
 stops kinds.Write input script fault old new is f = (f.0, record { script = script; is = is; off = f.1 }, f.2)
-stops kinds.NotToml input script fault old new is f = absurd f
-stops kinds.MissingKey input script fault old new is f = absurd f
-stops kinds.WrongValue input script fault old new is f = absurd f
-stops kinds.UnknownKey input script fault old new is f = absurd f
-stops kinds.BadConfig input script fault old new is f = absurd f
-stops kinds.TooLong input script fault old new is f = absurd f
-stops kinds.Read input script fault old new is f = absurd f
+stops _ input script fault old new is f = absurd f
 
 runs_input : (input : List ℕ) (script : Script) (old new : Option (List ℕ)) (r : Result Played ScriptFault) → script_of input ≡ Ok script → RunsSteps script old new r → PlaysInput input old new r
 runs_input input script old new (Ok Whole) is runs = (runs.0, record { script = script; is = is; last = runs.1; plays = runs.2 }, runs.3)
@@ -84,29 +73,13 @@ runs (Some xs) bytes script old new r same is steps = subst (λ (input : List �
 with_line : (k : ScriptKind) (input : List ℕ) (fault : ScriptFault) (old mid new : Option (List ℕ)) → (k ≡ kinds.Write → ⊥) → StopsAt k input fault old mid → Appends mid new (fault_line fault)
     → WritesFault k input fault old new
 with_line kinds.Write input fault old mid new has_line s a = absurd (has_line refl)
-with_line kinds.NotToml input fault old mid new has_line s a = (s.0, s.1, both old mid new s.0 (fault_line fault) s.2 a)
-with_line kinds.MissingKey input fault old mid new has_line s a = (s.0, s.1, both old mid new s.0 (fault_line fault) s.2 a)
-with_line kinds.WrongValue input fault old mid new has_line s a = (s.0, s.1, both old mid new s.0 (fault_line fault) s.2 a)
-with_line kinds.UnknownKey input fault old mid new has_line s a = (s.0, s.1, both old mid new s.0 (fault_line fault) s.2 a)
-with_line kinds.BadConfig input fault old mid new has_line s a = (s.0, s.1, both old mid new s.0 (fault_line fault) s.2 a)
-with_line kinds.TooLong input fault old mid new has_line s a = (s.0, s.1, both old mid new s.0 (fault_line fault) s.2 a)
-with_line kinds.TooManyDeliveries input fault old mid new has_line s a = (s.0, s.1, both old mid new s.0 (fault_line fault) s.2 a)
-with_line kinds.Read input fault old mid new has_line s a = (s.0, s.1, both old mid new s.0 (fault_line fault) s.2 a)
-with_line kinds.Memory input fault old mid new has_line s a = (s.0, s.1, both old mid new s.0 (fault_line fault) s.2 a)
+with_line _ input fault old mid new has_line s a = (s.0, s.1, both old mid new s.0 (fault_line fault) s.2 a)
 
 -- what was written ahead of the line
 ahead : (k : ScriptKind) (input : List ℕ) (fault : ScriptFault) (old mid : Option (List ℕ)) → (k ≡ kinds.Write → ⊥) → StopsAt k input fault old mid
     → (text : List ℕ) × WritesBefore k input fault text × Appends old mid text
 ahead kinds.Write input fault old mid has_line s = absurd (has_line refl)
-ahead kinds.NotToml input fault old mid has_line s = s
-ahead kinds.MissingKey input fault old mid has_line s = s
-ahead kinds.WrongValue input fault old mid has_line s = s
-ahead kinds.UnknownKey input fault old mid has_line s = s
-ahead kinds.BadConfig input fault old mid has_line s = s
-ahead kinds.TooLong input fault old mid has_line s = s
-ahead kinds.TooManyDeliveries input fault old mid has_line s = s
-ahead kinds.Read input fault old mid has_line s = s
-ahead kinds.Memory input fault old mid has_line s = s
+ahead _ input fault old mid has_line s = s
 
 -- the write of the line failed
 line_cut : (input : List ℕ) (fault : ScriptFault) (old mid new : Option (List ℕ)) → (fault.kind ≡ kinds.Write → ⊥) → StopsAt fault.kind input fault old mid → AppendsFront mid new (fault_line fault)

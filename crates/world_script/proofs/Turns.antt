@@ -6,17 +6,19 @@ use Rattle.pbft_codec.specs.declared.body.request.RequestBody.{RequestBody}
 use Rattle.pbft_codec.specs.declared.signed.Signed.{Signed}
 use Rattle.pbft_codec.specs.Encoding.{encoding}
 use Rattle.seal.specs.Opening.{CheckedMessage}
-use Rattle.client_session.specs.Sessions.{SessionState, next_request}
+use Rattle.world_queue.specs.Sessions.{SessionState, next_request}
 use Rattle.script_text.specs.Kinds.{kind_of_body}
 use Rattle.script_text.specs.declared.script.Forgery.{Forgery}
 use Rattle.script_text.specs.declared.script.Order.{Order}
-use Rattle.script_text.specs.declared.script.Node.TheVariants.{Replica}
-use Rattle.world_script.specs.declared.forging.Forger.{Forger}
-use Rattle.world_script.specs.Letters.{LetterFacts, copies}
-use Rattle.world_script.specs.Lines.{nothing_queued_line}
-use Rattle.world_script.specs.Parts.{Forges, ForgesBy, Requests, RequestsBy, with_message}
+use Rattle.script_text.specs.Node.TheVariants.{Replica}
+use Rattle.world_queue.specs.declared.forging.Forger.{Forger}
+use Rattle.world_queue.specs.Letters.{LetterFacts, copies}
+use Rattle.world_queue.specs.Lines.{nothing_queued_line}
+use Rattle.world_queue.specs.Effects.{Forges, ForgesBy, Requests, RequestsBy}
+use Rattle.world_script.specs.Parts.{with_message}
 use Rattle.world_script.specs.Facts.{StageFacts}
-use Rattle.world_script.specs.Stages.{Turn, forged_body, forged_by, forged_for, forged_message, forges, requested, requested_by, signing_forger, signing_session}
+use Rattle.world_script.specs.Stages.{Turn, forged_body, forged_by, forged_for, forges, requested, requested_by}
+use Rattle.world_queue.specs.Parties.{forged_message, signing_forger, signing_session}
 
 some_none : {X : Type 0} {x : X} → Some x ≡ None → ⊥
 some_none h = cc h

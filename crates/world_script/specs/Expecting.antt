@@ -1,9 +1,8 @@
 -- Statement: what an `expect` compares, and where that differs.
-use Rattle.std.specs.Prelude.{◌≡◌, ℕ, ◌+◌, ◌==◌, List, [], ◌∷◌, ◌++◌, length, Option, Some, None, ◌⊎◌, if◌then◌else◌}
+use Rattle.std.specs.Prelude.{◌≡◌, ℕ, ◌+◌, ◌==◌, List, [], ◌∷◌, ◌++◌, length, Option, Some, None, ◌⊎◌, if◌then◌else◌, codes, decimal}
 use Rattle.script_text.specs.declared.script.NamedStep.{NamedStep}
 use Rattle.script_text.specs.declared.script.Step.{Step}
 use Rattle.script_text.specs.declared.script.Step.TheVariants as steps
-use Rattle.world_script.specs.Lines.{unexpected_line}
 use Rattle.world_script.specs.Facts.{StageFacts}
 use Rattle.world_script.specs.Stages.{Begins, after_naming}
 use Rattle.world_script.specs.Starts.{start_of}
@@ -28,6 +27,10 @@ differing_from line (b ∷ bs) (c ∷ cs) =
 -- the first line that differs, lines counted from 1
 abbrev pub differing_line : List ℕ → List ℕ → Option ℕ
 differing_line expected printed = differing_from 1 expected printed
+
+-- where an `expect` finds other lines: its step, and which of its lines is the first that differs
+abbrev pub unexpected_line : ℕ → ℕ → List ℕ
+unexpected_line step line = codes "expect fault step " ++ (decimal step ++ (codes " line " ++ (decimal line ++ codes "\n")))
 
 -- An `expect` finds its lines; any other step may follow whatever was printed.
 abbrev pub Holds : List ℕ → Step → Type 0

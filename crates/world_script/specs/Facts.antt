@@ -1,11 +1,11 @@
 -- Statement: a stage, which is what a running script holds.
 use Rattle.std.specs.Prelude.{List}
 use Rattle.byz_world.specs.Worlds.{WorldFacts}
-use Rattle.client_session.specs.Sessions.{SessionState}
-use Rattle.world_script.specs.declared.forging.Forger.{Forger}
+use Rattle.world_queue.specs.Sessions.{SessionState}
+use Rattle.world_queue.specs.declared.forging.Forger.{Forger}
 use Rattle.world_script.specs.declared.made.Made.{Made}
-use Rattle.world_script.specs.declared.named.Named.{Named}
-use Rattle.world_script.specs.Letters.{LetterFacts}
+use Rattle.world_queue.specs.declared.named.Named.{Named}
+use Rattle.world_queue.specs.Letters.{LetterFacts}
 
 -- What a running script holds.
 pub record StageFacts : Type 0 where

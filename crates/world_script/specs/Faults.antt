@@ -1,6 +1,6 @@
 -- Statement: how a script ends where a step does.
-use Rattle.script_text.specs.declared.fault.ScriptKind.{ScriptKind}
-use Rattle.script_text.specs.declared.fault.ScriptKind.TheVariants as kinds
+use Rattle.script_text.specs.ScriptKind.{ScriptKind}
+use Rattle.script_text.specs.ScriptKind.TheVariants as kinds
 use Rattle.world_script.specs.declared.fault.RunFault.{RunFault}
 use Rattle.world_script.specs.declared.fault.RunFault.TheVariants.{TooManyDeliveries, Write, Memory}
 

@@ -1,16 +1,13 @@
 -- Statement: the keys of a script's replicas and clients.
 use Rattle.std.specs.Prelude.{◌≡◌, ℕ, ◌+◌, Bool, take, ◌++◌, List, [], ◌∷◌, map, if◌then◌else◌}
-use Rattle.host_types.specs.Configuration.{Configuration}
+use Rattle.host_types.specs.Configuration.{Configuration, replicas_for}
 use Rattle.host_types.specs.declared.config.ClientEntry.{ClientEntry}
-use Rattle.lms_tree.specs.Keys.{public_key_of_signer}
 use Rattle.lms_tree.specs.SigningState.{SigningState}
 use Rattle.script_text.specs.Heads.{HeadFacts, client_shape, no_key}
 use Rattle.script_text.specs.KeyShapes.{shape_at}
-use Rattle.script_text.specs.declared.replica_keys.KeyShape.{KeyShape}
-use Rattle.script_text.specs.declared.script.Client.{Client}
-use Rattle.script_text.specs.declared.script.Secret.{Secret}
-use Rattle.host_types.specs.Configuration.{replicas_for}
-use Rattle.host_types.specs.declared.key.PublicKey.{PublicKey}
+use Rattle.script_text.specs.KeyShape.{KeyShape}
+use Rattle.script_text.specs.Client.{Client}
+use Rattle.script_text.specs.Secret.{Secret}
 use Rattle.sha2.specs.Sha256.{sha256}
 use Rattle.std.specs.Int.{w32, to_be_bytes}
 use Rattle.std.specs.List.{range_with_len}
@@ -18,10 +15,7 @@ use Rattle.world_script.specs.declared.keys.Owner.{Owner}
 use Rattle.world_script.specs.declared.keys.Owner.TheVariants as owners
 use Rattle.world_script.specs.declared.keys.Part.{Part}
 use Rattle.world_script.specs.declared.keys.Part.TheVariants as parts
-
--- The public key of a signer.
-abbrev pub key_of : SigningState → PublicKey
-key_of s = public_key_of_signer s
+use Rattle.world_queue.specs.Parties.{key_of}
 
 -- an entry without its key
 abbrev pub unkeyed : ClientEntry → ClientEntry

@@ -4,8 +4,6 @@ pub mod Expecting
 pub mod Facts
 pub mod Faults
 pub mod Keys
-pub mod Letters
-pub mod Lines
 pub mod Parts
 pub mod Passing
 pub mod Printing
@@ -14,3 +12,9 @@ pub mod Scripts
 pub mod Stages
 pub mod Starts
 pub mod Writing
+pub use Rattle.byz_world.specs.Worlds
+pub use Rattle.world_queue.specs.Changes
+pub use Rattle.world_queue.specs.Effects
+pub use Rattle.world_queue.specs.Letters
+pub use Rattle.world_queue.specs.Lines
+pub use Rattle.world_queue.specs.Parties

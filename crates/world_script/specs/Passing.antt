@@ -10,8 +10,8 @@ use Rattle.seal.specs.Signers.{IsAuthentic}
 use Rattle.byz_world.specs.Leading.{IsSoundWorld}
 use Rattle.byz_world.specs.Worlds.{Runs, first_world}
 use Rattle.byz_world.specs.declared.event.Event.{Event}
-use Rattle.client_session.specs.Accepted.{after_offers}
-use Rattle.client_session.specs.Sessions.{SessionState}
+use Rattle.world_queue.specs.Accepted.{after_offers}
+use Rattle.world_queue.specs.Sessions.{SessionState}
 use Rattle.script_text.specs.Heads.{HeadFacts}
 use Rattle.script_text.specs.declared.script.NamedStep.{NamedStep}
 use Rattle.script_text.specs.declared.script.Script.{Script}

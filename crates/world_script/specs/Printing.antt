@@ -1,5 +1,5 @@
 -- Statement: what the steps print that change nothing, with the text of their lines.
-use Rattle.std.specs.Prelude.{◌≡◌, ℕ, Bool, true, false, List, [], ◌++◌, codes, decimal, filter, flat_map, map, Option, Some, None, Result, ◌⊎◌}
+use Rattle.std.specs.Prelude.{◌≡◌, ℕ, Bool, true, false, List, [], ◌++◌, codes, decimal, filter, flat_map, map, Option, Some, None, Result, ◌⊎◌, ◌≢◌, length, Ok, Err}
 use Rattle.std.specs.List.{range_with_len}
 use Rattle.std.specs.Option.{option_map}
 use Rattle.hex.specs.Hex.{encode_lower}
@@ -9,37 +9,24 @@ use Rattle.service_model.specs.Decoding.{Decodes}
 use Rattle.service_model.specs.Encoding.{encoded}
 use Rattle.service_model.specs.TenantStates.{Service}
 use Rattle.sha2.specs.Sha256.{sha256}
-use Rattle.pbft_model.specs.Core.{Core}
-use Rattle.replica_core.specs.Facts.{RowFacts}
-use Rattle.replica_core.specs.Halts as halts
-use Rattle.replica_core.specs.declared.halt.Halt.{Halt}
-use Rattle.replica_core.specs.declared.replica.Status.{Status}
+use Rattle.byz_world.specs.Core.{Core}
+use Rattle.byz_world.specs.Facts.{RowFacts}
+use Rattle.byz_world.specs.Halts as halts
+use Rattle.byz_world.specs.Halt.{Halt}
+use Rattle.byz_world.specs.Status.{Status}
 use Rattle.byz_world.specs.Audits.{IsAudit}
 use Rattle.byz_world.specs.Worlds.{MemberFacts, WorldFacts, member_of}
 use Rattle.byz_world.specs.declared.audit_fault.AuditFault.{AuditFault}
 use Rattle.byz_world.specs.declared.history.Execution.{Execution}
-use Rattle.script_text.specs.Kinds.{kind_text}
-use Rattle.script_text.specs.Nodes.{node_text}
-use Rattle.script_text.specs.declared.kind.Kind.{Kind}
 use Rattle.script_text.specs.declared.script.Printout.{Printout}
 use Rattle.script_text.specs.declared.script.Printout.TheVariants as printouts
 use Rattle.world_script.specs.declared.stage.printing.ReplicaLine.{ReplicaLine}
 use Rattle.world_script.specs.declared.stage.printing.ReplicaLine.TheVariants as lines
 use Rattle.world_script.specs.Facts.{StageFacts}
-use Rattle.world_script.specs.Letters.{LetterFacts, is_meant}
-use Rattle.world_script.specs.Lines.{IsAuditLine}
-
--- ---- what `queue` prints
-
-abbrev pub kind_or_dash : Option Kind → List ℕ
-kind_or_dash None = codes "-"
-kind_or_dash (Some kind) = kind_text kind
-
--- a letter: its sender, its addressee, its kind and its bytes
-abbrev pub letter_line : LetterFacts → List ℕ
-letter_line l =
-    codes "queue " ++ (node_text l.from ++ (codes " " ++ (node_text (Some l.to) ++ (codes " " ++ (kind_or_dash l.kind
-    ++ (codes " " ++ (encode_lower l.bytes ++ codes "\n")))))))
+use Rattle.world_queue.specs.Letters.{is_meant}
+use Rattle.world_queue.specs.Lines.{letter_line}
+use Rattle.byz_world.specs.Faults.{audit_name_of, audit_number_of}
+use Rattle.byz_world.specs.declared.audit_fault.AuditFault.TheVariants as audits
 
 -- ---- what `show` prints
 
@@ -122,6 +109,19 @@ Upgrades c bytes text =
     ⊎ (((state : Service) → Decodes c bytes state → ⊥) × (text ≡ no_state_line))
 
 -- ---- what `audit` prints
+
+-- what an audit finds: the greatest number that was executed, or a fault
+abbrev pub agreed_line : List Execution → List ℕ
+agreed_line history = codes "audit agreed " ++ (decimal (length history) ++ codes "\n")
+
+abbrev pub audit_fault_line : AuditFault → List ℕ
+audit_fault_line fault =
+    codes "audit fault " ++ (decimal (audit_number_of fault) ++ (codes " " ++ (audit_name_of fault ++ codes "\n")))
+
+-- what is printed of an audit's answer; nothing where memory ran out
+abbrev pub IsAuditLine : Result (List Execution) AuditFault → List ℕ → Type 0
+IsAuditLine (Ok history) text = text ≡ agreed_line history
+IsAuditLine (Err fault) text = (fault ≢ audits.Memory) × (text ≡ audit_fault_line fault)
 
 -- the rows of the correct replicas so far
 abbrev pub records_of : WorldFacts → List (List RowFacts)

@@ -2,13 +2,12 @@
 use Rattle.std.specs.Prelude.{◌≡◌, ◌≢◌, ℕ, ◌<◌, List, [], length, Option, Some, None, Result, Ok, Err, IfSome, Vec, ◌⊎◌}
 use Rattle.std.specs.Io.KnownBytes.{Appends}
 use Rattle.std.specs.declared.alloc.Global.{Global}
-use Rattle.script_text.specs.declared.fault.ScriptFault.{ScriptFault}
-use Rattle.script_text.specs.declared.fault.ScriptKind.{ScriptKind}
-use Rattle.script_text.specs.declared.fault.ScriptKind.TheVariants as kinds
+use Rattle.script_text.specs.ScriptFault.{ScriptFault}
+use Rattle.script_text.specs.ScriptKind.{ScriptKind}
+use Rattle.script_text.specs.ScriptKind.TheVariants as kinds
 use Rattle.script_text.specs.declared.script.Script.{Script}
 use Rattle.script_text.specs.declared.script.NamedStep.{NamedStep}
-use Rattle.world_script.specs.Expecting.{Holds, IsUnexpected, MayPrint, Scene, behind, differing_line, first_scene}
-use Rattle.world_script.specs.Lines.{unexpected_line}
+use Rattle.world_script.specs.Expecting.{Holds, IsUnexpected, MayPrint, Scene, behind, differing_line, first_scene, unexpected_line}
 use Rattle.world_script.specs.Scripts.{BreaksOff, IsPlayed, fault_line, Plays, WritesBefore}
 use Rattle.world_script.specs.Facts.{StageFacts}
 use Rattle.world_script.specs.Stages.{Begins, Overruns, Prints}
@@ -43,13 +42,7 @@ Fails kinds.TooManyDeliveries script number old new =
 Fails kinds.Memory script number old new =
     (text : List ℕ) × (((text ≡ []) × (number ≡ 0)) ⊎ BreaksOff (first_scene script.head) script.steps number (λ s. Begins s.stage) text) × Appends old new text
 Fails kinds.Write script number old new = (text : List ℕ) × BreaksOff (first_scene script.head) script.steps number (MayPrint number) text × AppendsFront old new text
-Fails kinds.Read script number old new = ⊥
-Fails kinds.TooLong script number old new = ⊥
-Fails kinds.NotToml script number old new = ⊥
-Fails kinds.MissingKey script number old new = ⊥
-Fails kinds.WrongValue script number old new = ⊥
-Fails kinds.UnknownKey script number old new = ⊥
-Fails kinds.BadConfig script number old new = ⊥
+Fails _ script number old new = ⊥
 
 -- A step that is done, of this number, or that ends the run.
 abbrev pub StepEnds : ℕ → Scene → NamedStep → Option (List ℕ) → Option (List ℕ) → Result Played RunFault → Scene → Type 0

@@ -3,9 +3,9 @@ use Rattle.std.specs.Prelude.{◌≡◌, ◌≢◌, ℕ, ◌+◌, ◌≤◌, min
 use Rattle.std.specs.Io.KnownBytes.{Appends}
 use Rattle.script_text.specs.Faults.{text_of}
 use Rattle.script_text.specs.Scripts.{document, script_of, steps_listed}
-use Rattle.script_text.specs.declared.fault.ScriptFault.{ScriptFault}
-use Rattle.script_text.specs.declared.fault.ScriptKind.{ScriptKind}
-use Rattle.script_text.specs.declared.fault.ScriptKind.TheVariants as kinds
+use Rattle.script_text.specs.ScriptFault.{ScriptFault}
+use Rattle.script_text.specs.ScriptKind.{ScriptKind}
+use Rattle.script_text.specs.ScriptKind.TheVariants as kinds
 use Rattle.script_text.specs.declared.script.Script.{Script}
 use Rattle.script_text.specs.declared.script.NamedStep.{NamedStep}
 use Rattle.script_text.specs.declared.script.Step.{Step}
@@ -56,16 +56,11 @@ IsStarved input number text = (text ≡ []) × (number ≤ steps_listed (documen
 
 -- What was written ahead of the line of a fault.
 abbrev pub WritesBefore : ScriptKind → List ℕ → ScriptFault → List ℕ → Type 0
-WritesBefore kinds.NotToml input fault text = IsRefused input fault text
-WritesBefore kinds.MissingKey input fault text = IsRefused input fault text
-WritesBefore kinds.WrongValue input fault text = IsRefused input fault text
-WritesBefore kinds.UnknownKey input fault text = IsRefused input fault text
-WritesBefore kinds.BadConfig input fault text = IsRefused input fault text
-WritesBefore kinds.TooLong input fault text = IsRefused input fault text
 WritesBefore kinds.TooManyDeliveries input fault text = Breaks input fault.step (λ s. Overruns s.stage) text
 WritesBefore kinds.Read input fault text = (fault.step ≡ 0) × (text ≡ [])
 WritesBefore kinds.Write input fault text = Breaks input fault.step (MayPrint fault.step) text
 WritesBefore kinds.Memory input fault text = IsStarved input fault.step text ⊎ Breaks input fault.step (λ s. Begins s.stage) text
+WritesBefore _ input fault text = IsRefused input fault text
 
 -- the whole run of a script
 pub record IsRun (input text : List ℕ) : Type 0 where

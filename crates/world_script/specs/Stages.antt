@@ -1,54 +1,45 @@
 -- Statement: what each step of a script prints, and what it makes of a stage.
 use Rattle.std.proofs.Common.{zero, suc}
-use Rattle.std.specs.Prelude.{◌≡◌, ◌≢◌, ℕ, ◌+◌, ◌≤◌, ◌==◌, Bool, true, false, not, ◌&&◌, List, [], ◌∷◌, ◌++◌, map, filter, find, flat_map, Option, Some, None, is_some, Result, Ok, Err, ◌⊎◌, slice_get, if◌then◌else◌}
+use Rattle.std.specs.Prelude.{◌≡◌, ◌≢◌, ℕ, ◌+◌, ◌≤◌, ◌==◌, Bool, true, false, ◌&&◌, List, [], ◌∷◌, ◌++◌, map, find, flat_map, Option, Some, None, is_some, Result, Ok, Err, ◌⊎◌, slice_get}
 use Rattle.std.specs.Option.{option_map}
 use Rattle.host_types.specs.Configuration.{Configuration}
 use Rattle.host_types.specs.declared.ClientId.{ClientId}
 use Rattle.host_types.specs.declared.ReplicaId.{ReplicaId}
-use Rattle.host_types.specs.declared.View.{View}
-use Rattle.host_types.specs.declared.request.Reply.{Reply}
-use Rattle.lms_tree.specs.Keys.{after_signing, leaf_count}
-use Rattle.lms_tree.specs.SigningState.{SigningState}
 use Rattle.pbft_codec.specs.declared.body.Body.{Body}
 use Rattle.pbft_codec.specs.declared.body.Body.TheVariants as bodies
-use Rattle.pbft_codec.specs.declared.body.view_change.ViewChange.{ViewChange}
-use Rattle.pbft_codec.specs.declared.signed.Role.TheVariants as roles
-use Rattle.pbft_codec.specs.declared.signed.Signed.{Signed}
 use Rattle.pbft_codec.specs.Encoding.{signed_text}
-use Rattle.seal.specs.Opening.{CheckedMessage, opening, sealed_message}
+use Rattle.seal.specs.Opening.{CheckedMessage, opening}
 use Rattle.seal.specs.declared.fault.SealFault.{SealFault}
-use Rattle.seal.specs.declared.vote.VoteKind.{VoteKind}
-use Rattle.seal.specs.declared.vote.VoteKind.TheVariants as votes
 use Rattle.sha2.specs.Sha256.{sha256}
-use Rattle.replica_core.specs.Facts.{RowFacts}
-use Rattle.replica_core.specs.declared.halt.Halt.{Halt}
-use Rattle.replica_core.specs.declared.halt.Halt.TheVariants as halts
-use Rattle.replica_core.specs.declared.row.Dest.{Dest}
-use Rattle.replica_core.specs.declared.row.Dest.TheVariants as dests
-use Rattle.replica_core.specs.declared.row.Output.{Output}
+use Rattle.byz_world.specs.Facts.{RowFacts}
+use Rattle.byz_world.specs.Halt.{Halt}
+use Rattle.byz_world.specs.Halt.TheVariants as halts
+use Rattle.byz_world.specs.Dest.{Dest}
+use Rattle.byz_world.specs.Dest.TheVariants as dests
+use Rattle.byz_world.specs.Output.{Output}
 use Rattle.byz_world.specs.Worlds.{Gives, MemberFacts, Where, WorldFacts, member_of}
 use Rattle.byz_world.specs.declared.event.Event.{Event}
 use Rattle.byz_world.specs.declared.event.Event.TheVariants as events
-use Rattle.client_session.specs.Sessions.{SessionState, accepted_by, asked, next_request, offered}
+use Rattle.world_queue.specs.Sessions.{SessionState, next_request}
 use Rattle.script_text.specs.declared.script.Filter.{Filter}
 use Rattle.script_text.specs.declared.script.ForgedMessage.{ForgedMessage}
 use Rattle.script_text.specs.declared.script.ForgedMessage.TheVariants as forged
-use Rattle.script_text.specs.declared.script.ForgedVote.{ForgedVote}
 use Rattle.script_text.specs.declared.script.Forgery.{Forgery}
 use Rattle.script_text.specs.declared.script.NamedStep.{NamedStep}
 use Rattle.script_text.specs.declared.script.Order.{Order}
-use Rattle.script_text.specs.declared.script.Node.{Node}
-use Rattle.script_text.specs.declared.script.Node.TheVariants.{Replica, Client}
+use Rattle.script_text.specs.Node.{Node}
+use Rattle.script_text.specs.Node.TheVariants.{Replica, Client}
 use Rattle.script_text.specs.declared.script.Printout.TheVariants as printouts
 use Rattle.script_text.specs.declared.script.Step.{Step}
 use Rattle.script_text.specs.declared.script.Step.TheVariants as steps
-use Rattle.world_script.specs.declared.forging.Forger.{Forger}
+use Rattle.world_queue.specs.declared.forging.Forger.{Forger}
 use Rattle.world_script.specs.declared.made.Made.{Made}
 use Rattle.world_script.specs.Edits.{Edited, edited}
 use Rattle.world_script.specs.Facts.{StageFacts}
-use Rattle.world_script.specs.Letters.{LetterFacts, copies, first_meant, is_meant, letter_of, meant_count, passed_over, same_node}
-use Rattle.world_script.specs.Lines.{nothing_queued_line, refusal_line, reply_line}
+use Rattle.world_queue.specs.Letters.{LetterFacts, copies, first_meant, is_meant, letter_of, meant_count, passed_over, all_but}
+use Rattle.world_queue.specs.Lines.{nothing_queued_line, refusal_line}
 use Rattle.world_script.specs.Printing.{Shows, ids_of}
+use Rattle.world_queue.specs.Parties.{after_asking, after_forging, after_offer, at_first, bare_view_change, forged_message, is_forger, is_of, signing_forger, signing_session, text_at, vote_body}
 
 abbrev pub queued : StageFacts → List LetterFacts → StageFacts
 queued s letters = record s { queue = s.queue ++ letters }
@@ -63,29 +54,10 @@ quiet s = ([], s)
 abbrev pub nothing_queued : StageFacts → Turn
 nothing_queued s = (nothing_queued_line, s)
 
--- the first that is so is changed
-abbrev pub at_first : {A : Type 0} → (A → Bool) → (A → A) → List A → List A
-at_first is change [] = []
-at_first is change (x ∷ xs) = if is x then change x ∷ xs else x ∷ at_first is change xs
-
 abbrev pub all_replicas : Configuration → List Node
 all_replicas c = map Replica (ids_of c)
 
-abbrev pub all_but : Node → List Node → List Node
-all_but one nodes = filter (λ (p : Node). not (same_node p one)) nodes
-
-abbrev pub has_no_leaf : SigningState → Bool
-has_no_leaf s = s.next_leaf == leaf_count s
-
--- the one that was found, if it can still sign
-abbrev pub if_it_signs : {A : Type 0} → (A → SigningState) → Option A → Option A
-if_it_signs signer None = None
-if_it_signs signer (Some x) = if has_no_leaf (signer x) then None else Some x
-
 -- ---- requests
-
-abbrev pub is_of : ClientId → SessionState → Bool
-is_of client s = s.client.0 == client.0
 
 -- whom a request is for: all replicas where none are named
 abbrev pub receivers : Configuration → Option (List Node) → List Node
@@ -100,19 +72,12 @@ made_by client session op = record {
   digest = record { 0 = sha256 (signed_text (next_request session op)) };
 }
 
-abbrev pub after_asking : SessionState → SessionState
-after_asking session = asked session (after_signing session.signer)
-
 abbrev pub with_request : StageFacts → Order → SessionState → StageFacts
 with_request s o session = record s {
   sessions = at_first (is_of o.client) after_asking s.sessions;
   made = s.made ++ made_by o.client session o.op ∷ [];
   queue = s.queue ++ copies (letter_of (Client o.client) (next_request session o.op)) (receivers s.world.config o.to);
 }
-
--- the session of a client that can still sign
-abbrev pub signing_session : List SessionState → ClientId → Option SessionState
-signing_session sessions client = if_it_signs (λ (x : SessionState). x.signer) (find (is_of client) sessions)
 
 -- A client that can't sign queues nothing.
 abbrev pub requested_by : StageFacts → Order → Option SessionState → Turn
@@ -132,39 +97,17 @@ abbrev pub digest_named : StageFacts → Option (ClientId × ℕ) → Option (Li
 digest_named s None = Some (sha256 [])
 digest_named s (Some named) = option_map (λ (made : Made). made.digest.0) (find (is_request named) s.made)
 
-abbrev pub vote_body : VoteKind → ForgedVote → List ℕ → Body
-vote_body votes.PrePrepare v digest = bodies.PrePrepare (record { view = v.view; number = v.number; digest = record { 0 = digest } })
-vote_body votes.Prepare v digest = bodies.Prepare (record { view = v.view; number = v.number; digest = record { 0 = digest } })
-vote_body votes.Commit v digest = bodies.Commit (record { view = v.view; number = v.number; digest = record { 0 = digest } })
-
--- a ViewChange that proves nothing
-abbrev pub bare_view_change : View → ViewChange
-bare_view_change view = record { view = view; low = record { 0 = 0 }; checkpoints = []; certificates = [] }
-
 -- What a forged message says. A vote for a request that was never made is none.
 abbrev pub forged_body : StageFacts → ForgedMessage → Option Body
 forged_body s (forged.Vote v) = option_map (vote_body v.kind v) (digest_named s v.request)
 forged_body s (forged.Checkpoint number digest) = Some (bodies.Checkpoint (record { number = number; digest = digest }))
 forged_body s (forged.ViewChange view) = Some (bodies.ViewChange (bare_view_change view))
 
-abbrev pub forged_message : SigningState → Forgery → Body → Signed Body
-forged_message signer f body = sealed_message signer roles.Replica f.from.0 body
-
-abbrev pub is_forger : ReplicaId → Forger → Bool
-is_forger id g = g.id.0 == id.0
-
-abbrev pub after_forging : Forger → Forger
-after_forging g = record g { signer = after_signing g.signer }
-
 abbrev pub with_forged : StageFacts → Forgery → Body → Forger → StageFacts
 with_forged s f body g = record s {
   forgers = at_first (is_forger f.from) after_forging s.forgers;
   queue = s.queue ++ copies (letter_of (Replica f.from) (forged_message g.signer f body)) f.to;
 }
-
--- the forger of this id that can still sign
-abbrev pub signing_forger : List Forger → ReplicaId → Option Forger
-signing_forger forgers id = if_it_signs (λ (g : Forger). g.signer) (find (is_forger id) forgers)
 
 -- A replica that can't sign queues nothing.
 abbrev pub forged_by : StageFacts → Forgery → Body → Option Forger → Turn
@@ -242,18 +185,6 @@ pub record Receives (s : StageFacts) (id : ReplicaId) (bytes : List ℕ) (text :
 
 abbrev pub AtReplica : StageFacts → ReplicaId → List ℕ → List ℕ → StageFacts → Type 0
 AtReplica s id bytes text t = Where (is_running s.world id) (Receives s id bytes text t) ((text, t) ≡ quiet s)
-
--- what is printed of a reply that a client accepts now
-abbrev pub accepted_now : Option Reply → Option Reply → List ℕ
-accepted_now before None = []
-accepted_now before (Some reply) = if is_some before then [] else reply_line reply
-
-abbrev pub text_at : Option SessionState → Signed Body → List ℕ
-text_at None m = []
-text_at (Some session) m = accepted_now (accepted_by session) (accepted_by (offered session m))
-
-abbrev pub after_offer : List SessionState → ClientId → Signed Body → List SessionState
-after_offer sessions client m = at_first (is_of client) (λ (x : SessionState). offered x m) sessions
 
 -- a client passes over bytes that are no message
 abbrev pub at_client : StageFacts → ClientId → Result CheckedMessage SealFault → Turn

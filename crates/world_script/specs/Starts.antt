@@ -5,10 +5,10 @@ use Rattle.std.specs.Ordering.{nat_cmp}
 use Rattle.host_types.specs.declared.ReplicaId.{ReplicaId}
 use Rattle.lms_tree.specs.SigningState.{SigningState}
 use Rattle.byz_world.specs.Worlds.{first_world}
-use Rattle.client_session.specs.Sessions.{SessionState}
+use Rattle.world_queue.specs.Sessions.{SessionState}
 use Rattle.script_text.specs.Heads.{HeadFacts}
-use Rattle.script_text.specs.declared.script.Client.{Client}
-use Rattle.world_script.specs.declared.forging.Forger.{Forger}
+use Rattle.script_text.specs.Client.{Client}
+use Rattle.world_queue.specs.declared.forging.Forger.{Forger}
 use Rattle.world_script.specs.Keys.{client_signer, configuration_of, correct_from, replica_signers}
 use Rattle.world_script.specs.Facts.{StageFacts}
 

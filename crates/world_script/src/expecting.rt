@@ -1,8 +1,7 @@
 //! What an `expect` compares.
 
 ghost use Rattle.std.specs.Prelude.{◌≡◌, IfOk, string_bytes};
-ghost use Rattle.world_script.specs.Expecting.{differing_line};
-ghost use Rattle.world_script.specs.Lines.{unexpected_line};
+ghost use Rattle.world_script.specs.Expecting.{differing_line, unexpected_line};
 
 use std::alloc::{AllocError, Global};
 

@@ -5,7 +5,8 @@ ghost use Rattle.host_types.specs.Configuration.{replicas_for};
 ghost use Rattle.host_types.specs.declared.config.ClientEntry.{ClientEntry};
 ghost use Rattle.lms_tree.specs.Keys.{leaf_count};
 ghost use Rattle.script_text.specs.KeyShapes.{leaves_of};
-ghost use Rattle.world_script.specs.Keys.{AreKeys, client_signer, configuration_of, entry_of, key_hash, key_of, keys_of, mark_of, number_of, part_number, replica_signers, signer_of};
+ghost use Rattle.world_script.specs.Keys.{AreKeys, client_signer, configuration_of, entry_of, key_hash, keys_of, mark_of, number_of, part_number, replica_signers, signer_of};
+ghost use Rattle.world_queue.specs.Parties.{key_of};
 
 use crate::progress::{Progress, Unwatched};
 use host_types::{ClientEntry, ClientId, Config, PublicKey, ReplicaId};

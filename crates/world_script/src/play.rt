@@ -2,7 +2,7 @@
 
 ghost use Rattle.std.specs.Prelude.{◌≡◌, ◌≢◌, ◌⊎◌, ◌++◌, OnOk, IfErr, IsOk, string_bytes};
 ghost use Rattle.std.specs.Io.KnownBytes.{Appends};
-ghost use Rattle.script_text.specs.declared.fault.ScriptKind.TheVariants as kinds;
+ghost use Rattle.script_text.specs.ScriptKind.TheVariants as kinds;
 ghost use Rattle.world_script.specs.Running.{Compares, PlaysWhatIsRead, Reports, RunsSteps, StepEnds};
 ghost use Rattle.world_script.specs.Scripts.{WritesWhatIsRead};
 ghost use Rattle.world_script.specs.Stages.{after_naming};

@@ -8,10 +8,11 @@ ghost use Rattle.std.specs.FinSet as set;
 ghost use Rattle.byz_world.specs.Worlds.{first_world, member_of};
 ghost use Rattle.world_script.specs.Starts.{forgers_from, numbers_of, start_of};
 ghost use Rattle.script_text.specs.declared.script.Step.TheVariants as steps;
-ghost use Rattle.script_text.specs.declared.script.Node.TheVariants as nodes;
+ghost use Rattle.script_text.specs.Node.TheVariants as nodes;
 ghost use Rattle.world_script.specs.Endings.{Ends};
-ghost use Rattle.world_script.specs.Keys.{correct_from, key_of, keys_of};
-ghost use Rattle.world_script.specs.Letters.{copies, first_meant, letter_of, meant_count};
+ghost use Rattle.world_script.specs.Keys.{correct_from, keys_of};
+ghost use Rattle.world_queue.specs.Parties.{key_of};
+ghost use Rattle.world_queue.specs.Letters.{copies, first_meant, meant_count};
 ghost use Rattle.byz_world.specs.declared.event.Event.TheVariants as events;
 ghost use Rattle.world_script.specs.Parts.{DeliversNext, Performs, Happened, HasMore, ahead, with_message};
 ghost use Rattle.pbft_codec.specs.declared.body.Body.TheVariants as bodies;
@@ -20,22 +21,15 @@ ghost use Rattle.pbft_codec.specs.WellFormed.{BodyWellFormed};
 ghost use Rattle.world_script.specs.Stages.{AllTimeOut, Delivers, HandsTo, TimesOut, AtReplica, at_client, digest_named, forged_body, forges, is_request, is_running, letters_in, letters_of, lacked_memory, halt_in, refusal_of, all_replicas, after_naming, message_of, queued, requested};
 ghost use Rattle.seal.specs.Opening.{opening};
 
-use crate::drawing::{drawn, next_state};
 use crate::fault::RunFault;
-use crate::forging::{Forger, checkpoint_body, forge, view_change_body, vote_body};
 use crate::keys::KeySources;
-use crate::lines::{line_of_nothing_queued, line_of_refusal};
 use crate::made::Made;
-use crate::named::Named;
 use crate::progress::{Progress, Unwatched};
-use crate::queue::{Letter, Queue};
-use crate::sessions::Sessions;
 use crate::writing::write_text;
-use byz_world::{Event, World};
+use byz_world::{Dest, Event, Halt, Output, Row, World};
 use host_types::{Bytes, ClientId, Config, Digest, ReplicaId, ReplicaSet};
 use lms_tree::Signer;
 use pbft_codec::Body;
-use replica_core::{Dest, Halt, Output, Row};
 use script_text::{
     Filter, ForgedMessage, Forgery, Head, Kind, NamedStep, Node, Order, Printout, Step,
 };
@@ -46,6 +40,10 @@ use std::io::Write;
 use std::marker::Model;
 use std::mem::swap;
 use std::sync::Arc;
+use world_queue::{
+    Forger, Letter, Named, Queue, Sessions, checkpoint_body, drawn, forge, letter_of,
+    line_of_nothing_queued, line_of_refusal, next_state, view_change_body, vote_body,
+};
 
 /// The most deliveries of one step.
 const MAX_DELIVERIES: u32 = 1_000_000;
@@ -551,14 +549,6 @@ fn find_made(made: &[Made], client: ClientId, time: u64) -> Option<&Made>
 {
     made.iter()
         .find(|made| made.client.0 == client.0 && made.time == time)
-}
-
-/// A message as a letter, addressed to its sender.
-fn letter_of(alloc: Global, from: Node, message: &Checked) -> Result<Letter, AllocError>
-    ensures { IfOk result (λ l. l ≡ letter_of from message.now.message) }
-{
-    let kind = Kind::of(message.body());
-    Letter::new(alloc, from, Some(from), Some(kind), message.bytes())
 }
 
 /// All replicas, ids ascending.

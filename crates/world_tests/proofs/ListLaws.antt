@@ -7,7 +7,7 @@ use Rattle.lms_tree.specs.Keys.{IsKeyOf}
 use Rattle.lms_tree.specs.SigningState.{SigningState}
 use Rattle.pbft_codec.specs.declared.signed.Role.TheVariants as roles
 use Rattle.seal.specs.Signers.{key_of}
-use Rattle.byz_world.specs.Worlds.{AreListed}
+use Rattle.world_script.specs.Worlds.{AreListed}
 
 -- the correct ids from this one on, below n
 abbrev pub ids_from : (ℕ → Bool) → ℕ → ℕ → List ℕ

@@ -2,15 +2,14 @@
 
 use crate::group::{CLIENT, Group, set_of};
 use crate::runs::{FIRST, SECOND, report_of};
-use byz_world::{Event, History, World, audit};
 use host_types::{Bytes, ClientId, Digest, ReplicaId, Request, SeqNo, View};
 use pbft_codec::{Body, Checkpoint, Commit, PrePrepare, Prepare, Snapshot};
-use replica_core::Row;
 use service_core::State;
 use std::alloc::Global;
 use std::sync::Arc;
 use std::test::Fail;
 use view_change::null_digest;
+use world_script::{Event, History, Row, World, audit};
 
 /// Replica 1 alone is correct: the others have it do what a test asks for.
 #[derive(Drop)]

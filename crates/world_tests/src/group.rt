@@ -1,7 +1,6 @@
 //! Four replicas, of which one may be faulty, and a client.
 
 use crate::listed::are_listed;
-use byz_world::{Event, Report, World, WorldFault, run_world};
 use host_types::{Bytes, ClientEntry, ClientId, Config, Digest, ReplicaId, ReplicaSet, TenantId};
 use lms_tree::{Height, Signer};
 use pbft_codec::{Body, CodecFault, RequestBody, Role, Signed, signed_bytes};
@@ -9,6 +8,7 @@ use seal::{open, request_digest};
 use std::alloc::{AllocError, Global};
 use std::sync::Arc;
 use std::test::Fail;
+use world_script::{Event, Report, World, WorldFault, run_world};
 
 /// The one client.
 pub const CLIENT: u32 = 16;

@@ -2,22 +2,22 @@
 
 ghost use Rattle.std.specs.Prelude.{◌≡◌, ◌++◌, ◌↔◌, ℕ, IfOk, OnOk, string_bytes};
 ghost use Rattle.std.specs.List.{Contains};
-ghost use Rattle.blame.specs.Claims.{IsConflict, claim_of};
+ghost use Rattle.conflicts.specs.Claims.{IsConflict, claim_of};
 ghost use Rattle.pbft_codec.specs.Reading.{reading};
-ghost use Rattle.trace_lines.specs.Changes.{changes};
-ghost use Rattle.trace_lines.specs.Lines.{happening_line};
-ghost use Rattle.trace_lines.specs.Sayings.{said_in};
+ghost use Rattle.world_lines.specs.Changes.{changes};
+ghost use Rattle.world_lines.specs.Lines.{happening_line};
+ghost use Rattle.world_lines.specs.Sayings.{said_in};
 
 use crate::group::Group;
-use blame::{Claim, Topic, claim_of, conflicts};
+use conflicts::{Claim, Topic, claim_of, conflicts};
 use host_types::{Digest, ReplicaId, SeqNo, View};
 use pbft_codec::{Body, Checkpoint};
-use replica_core::Status;
 use script_text::{Kind, Node};
 use seal::{Checked, open};
 use std::alloc::{AllocError, Global};
 use std::test::Fail;
-use trace_lines::{Happening, Saying, Standing, changes, line_of, saying_in};
+use world_lines::{Happening, Saying, Standing, changes, line_of, saying_in};
+use world_script::Status;
 
 /// The line of what happened.
 fn told(alloc: Global, happening: &Happening) -> Result<String, AllocError>

@@ -5,7 +5,7 @@ ghost use Rattle.std.specs.FinSet as set;
 ghost use Rattle.lms_tree.specs.Keys.{IsKeyOf};
 ghost use Rattle.pbft_codec.specs.declared.signed.Role.TheVariants as roles;
 ghost use Rattle.seal.specs.Signers.{key_of};
-ghost use Rattle.byz_world.specs.Worlds.{AreListed, correct_ids};
+ghost use Rattle.world_script.specs.Worlds.{AreListed, correct_ids};
 
 use host_types::{Config, ReplicaId, ReplicaSet};
 use lms_tree::Signer;

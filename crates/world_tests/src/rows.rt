@@ -1,10 +1,9 @@
 //! What replicas did, in words, and whether two reports are the same.
 
-use byz_world::{Outcome, Report, WorldFault};
 use pbft_codec::Body;
-use replica_core::{Done, Output, Row};
 use std::alloc::{AllocError, Global};
 use std::test::Fail;
+use world_script::{Done, Outcome, Output, Report, Row, WorldFault};
 
 fn kind(body: &Body) -> &'static str {
     match body {

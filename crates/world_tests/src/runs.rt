@@ -2,11 +2,10 @@
 
 use crate::group::{Group, set_of};
 use crate::rows::are_same;
-use byz_world::{Event, Report, World, WorldFault};
 use host_types::ReplicaId;
-use replica_core::Halt;
 use std::process::Abort;
 use std::test::Fail;
+use world_script::{Event, Halt, Report, World, WorldFault};
 
 /// Replica 3 is faulty. The primary has the first request alone with replica 1, which passes it on.
 pub const FIRST: &str = "

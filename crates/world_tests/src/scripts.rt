@@ -11,9 +11,9 @@
 
 use crate::group::Group;
 use crate::rows::answer_text;
-use byz_world::{Event, World};
 use host_types::{Bytes, ReplicaId};
 use std::test::Fail;
+use world_script::{Event, World};
 
 fn halves<'a>(text: &'a str, between: &str) -> Result<(&'a str, &'a str), Fail> {
     match text.split_once(between) {

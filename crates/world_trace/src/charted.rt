@@ -6,8 +6,7 @@ use crate::tracer::Tracer;
 use script_text::{Script, ScriptFault, ScriptKind};
 use std::alloc::{AllocError, Global};
 use std::io::{Read, Write};
-use trace_lines::Happening;
-use world_chart::{Chart, Lanes};
+use world_chart::{Chart, Happening, Lanes};
 use world_script::{Played, Progress, RunFault, report, write_text};
 
 /// How a chart is written.

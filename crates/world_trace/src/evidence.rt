@@ -1,9 +1,9 @@
 //! What replicas were seen to say.
 
-use blame::{Claim, claim_of, conflicts};
-use replica_core::{Input, Row};
+use conflicts::{Claim, claim_of, conflicts};
 use seal::{Checked, nested};
 use std::alloc::{AllocError, Global};
+use world_script::{Input, Row};
 
 /// Messages that claim something, each claim once, with those that are nested in others.
 #[derive(Drop)]

@@ -6,14 +6,12 @@ ghost use Rattle.world_script.specs.Keys.{keys_of};
 use crate::evidence::Evidence;
 use crate::runner::Runner;
 use crate::watcher::Watcher;
-use blame::Claim;
-use byz_world::AuditFault;
+use conflicts::Claim;
 use host_types::ReplicaId;
-use replica_core::Row;
 use script_text::{NamedStep, Node, Script, ScriptFault, ScriptKind};
 use std::alloc::{AllocError, Global};
-use trace_lines::Cause;
-use world_script::{KeySources, Letter, Stage};
+use world_chart::Cause;
+use world_script::{AuditFault, KeySources, Letter, Row, Stage};
 
 /// The seeds from the first on, without the last.
 #[derive(Clone, Copy, Debug, PartialEq, Eq)]

@@ -5,13 +5,13 @@ ghost use Rattle.world_script.specs.Keys.{keys_of};
 
 use crate::explore::{Explored, Outcome, Seeds, explore_seed};
 use crate::trace::read_whole;
-use blame::Claim;
+use conflicts::Claim;
 use script_text::{Script, ScriptFault, ScriptKind};
 use std::alloc::{AllocError, Global};
 use std::cmp::min;
 use std::io::{Read, Write};
 use std::thread::{self, Threads};
-use trace_lines::{Happening, line_of};
+use world_chart::{Happening, line_of};
 use world_script::{KeySources, Progress, RunFault, report, write_text};
 
 /// What came of a script under all seeds.

@@ -19,4 +19,4 @@ pub use charted::{ChartForm, chart_script};
 pub use explore::{Explored, Outcome, Seeds, explore_seed};
 pub use findings::{Searched, explore_script, explore_side_by_side};
 pub use trace::trace_script;
-pub use world_script::{Played, ScriptFault, ScriptKind};
+pub use world_script::{Played, ScriptFault, ScriptKind, Unwatched, run_script};

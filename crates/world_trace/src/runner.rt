@@ -7,7 +7,7 @@ use crate::watcher::Watcher;
 use host_types::ReplicaId;
 use script_text::{Filter, ForgedMessage, Forgery, Head, NamedStep, Node, QueueEdit, Step};
 use std::alloc::{AllocError, Global};
-use trace_lines::Cause;
+use world_chart::Cause;
 use world_script::{
     Played, Progress, RunFault, Stage, differing_line, drawn, line_of_unexpected, next_state,
 };

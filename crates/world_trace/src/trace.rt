@@ -5,7 +5,7 @@ use crate::tracer::Tracer;
 use script_text::{NamedStep, Script, ScriptFault, ScriptKind, read_script};
 use std::alloc::Global;
 use std::io::{Read, Write};
-use trace_lines::line_of;
+use world_chart::line_of;
 use world_script::{Played, Progress, RunFault, read_input, report, write_text};
 
 /// Reads a script to the end of the reader and runs its steps. Of each step it writes a line for each thing that

@@ -4,13 +4,12 @@ use crate::evidence::Evidence;
 use crate::refusal::faulty_part;
 use crate::watcher::Watcher;
 use host_types::{Config, ReplicaId};
-use replica_core::{Done, Row, Status};
 use script_text::{Kind, Node};
 use seal::{SealFault, open};
 use std::alloc::{AllocError, Global};
 use std::sync::Arc;
-use trace_lines::{Cause, Happening, Standing, changes, saying_in};
-use world_script::{Letter, Stage};
+use world_chart::{Cause, Happening, Standing, changes, saying_in};
+use world_script::{Done, Letter, Row, Stage, Status};
 
 /// Notes what happens, in order.
 #[derive(Drop)]

@@ -1,11 +1,10 @@
 //! Who is told what happens while a script runs.
 
 use host_types::ReplicaId;
-use replica_core::Row;
 use script_text::Node;
 use std::alloc::AllocError;
-use trace_lines::Cause;
-use world_script::{Letter, Stage};
+use world_chart::Cause;
+use world_script::{Letter, Row, Stage};
 
 /// Is told of each event of a script, before and behind it.
 pub(crate) trait Watcher {

@@ -3,7 +3,7 @@
 use anyhow::{Result, anyhow};
 use bench_common::{Measures, ProcessorTime};
 use std::alloc::{AllocError, Global};
-use world_script::{Played, run_script};
+use world_trace::{Played, run_script};
 
 /// Four replicas, of which replica 3 is faulty, and a client. Each key has 32 leaves, and the secret is zeros.
 const HEAD: &str = "\

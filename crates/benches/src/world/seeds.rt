@@ -5,8 +5,7 @@ use crate::world::scripts::{CALLS, OPENED, SIGNED, requests};
 use anyhow::{Result, anyhow};
 use bench_common::ratio::{Comparison, Limit, require_within_limits};
 use bench_common::{Measures, ProcessorTime};
-use world_script::Unwatched;
-use world_trace::{Searched, Seeds, explore_script};
+use world_trace::{Searched, Seeds, Unwatched, explore_script};
 
 const ROUNDS: u32 = 5;
 

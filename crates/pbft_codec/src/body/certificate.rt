@@ -7,7 +7,7 @@ use crate::lists::{MAX_SIGNERS, put_list, read_ascending, read_signed};
 use crate::sequence::Sequence;
 use crate::signed::Signed;
 use crate::try_clone::TryClone;
-use message_fields::ReadError;
+use codec_fields::ReadError;
 use std::alloc::{AllocError, Global};
 
 /// At most 10, ids strictly ascending.

@@ -7,8 +7,8 @@ use crate::message_body::{MessageBody, put_body, read_body};
 use crate::sender::Sender;
 use crate::try_clone::TryClone;
 use crate::writing::{put_digest, put_u64};
+use codec_fields::{ReadError, read_digest, read_sequence_number};
 use host_types::{Digest, SeqNo};
-use message_fields::{ReadError, read_digest, read_sequence_number};
 use std::alloc::{AllocError, Global};
 
 /// The digest of a replica's state after a number.

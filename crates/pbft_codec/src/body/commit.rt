@@ -6,8 +6,8 @@ use crate::message_body::MessageBody;
 use crate::sender::Sender;
 use crate::try_clone::TryClone;
 use crate::writing::put_proposal;
+use codec_fields::{ReadError, read_digest, read_sequence_number, read_view};
 use host_types::{Digest, SeqNo, View};
-use message_fields::{ReadError, read_digest, read_sequence_number, read_view};
 use std::alloc::{AllocError, Global};
 
 /// A replica has seen enough Prepares for a proposal.

@@ -6,8 +6,8 @@ use crate::message_body::MessageBody;
 use crate::sender::Sender;
 use crate::try_clone::TryClone;
 use crate::writing::{put_digest, put_u64};
+use codec_fields::{CodecFault, ReadError, read_digest, read_sequence_number};
 use host_types::{Digest, SeqNo};
-use message_fields::{CodecFault, ReadError, read_digest, read_sequence_number};
 use std::alloc::{AllocError, Global};
 
 /// A replica asks for what it lacks.

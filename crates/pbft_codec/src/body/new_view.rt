@@ -11,8 +11,8 @@ use crate::sequence::Sequence;
 use crate::signed::Signed;
 use crate::try_clone::TryClone;
 use crate::writing::put_u32;
+use codec_fields::{ReadError, read_view};
 use host_types::View;
-use message_fields::{ReadError, read_view};
 use std::alloc::{AllocError, Global};
 
 /// At most 10, ids strictly ascending.

@@ -7,8 +7,8 @@ use crate::message_body::{MessageBody, put_body, read_body};
 use crate::sender::Sender;
 use crate::try_clone::TryClone;
 use crate::writing::put_proposal;
+use codec_fields::{ReadError, read_digest, read_sequence_number, read_view};
 use host_types::{Digest, SeqNo, View};
-use message_fields::{ReadError, read_digest, read_sequence_number, read_view};
 use std::alloc::{AllocError, Global};
 
 /// A backup agrees with a proposal.

@@ -6,10 +6,8 @@ use crate::message_body::MessageBody;
 use crate::sender::Sender;
 use crate::try_clone::TryClone;
 use crate::writing::{put_length_prefixed, put_u32, put_u64};
+use codec_fields::{ReadError, read_bytes, read_client, read_sequence_number, read_u64, read_view};
 use host_types::{Bytes, ClientId, SeqNo, View};
-use message_fields::{
-    ReadError, read_bytes, read_client, read_sequence_number, read_u64, read_view,
-};
 use std::alloc::{AllocError, Global};
 
 /// A replica answers a client's request.

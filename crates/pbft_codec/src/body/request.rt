@@ -6,8 +6,8 @@ use crate::message_body::MessageBody;
 use crate::sender::Sender;
 use crate::try_clone::TryClone;
 use crate::writing::{put_length_prefixed, put_u64};
+use codec_fields::{ReadError, read_bytes, read_u64};
 use host_types::Bytes;
-use message_fields::{ReadError, read_bytes, read_u64};
 use std::alloc::{AllocError, Global};
 
 /// A client asks for an operation.

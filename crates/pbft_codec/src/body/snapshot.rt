@@ -6,8 +6,8 @@ use crate::message_body::MessageBody;
 use crate::sender::Sender;
 use crate::try_clone::TryClone;
 use crate::writing::{put_length_prefixed, put_u64};
+use codec_fields::{ReadError, read_bytes, read_sequence_number};
 use host_types::{Bytes, SeqNo};
-use message_fields::{ReadError, read_bytes, read_sequence_number};
 use std::alloc::{AllocError, Global};
 
 /// The bytes of a state, and the number after which it stood.

@@ -1,16 +1,13 @@
 //! What the steps print that change nothing, and the text of their lines.
 
-ghost use Rattle.std.specs.Prelude.{◌≡◌, IfOk, filter as kept, flat_map, string_bytes};
-ghost use Rattle.world_script.specs.Letters.{is_meant};
-ghost use Rattle.world_script.specs.Printing.{Audits, Shows, Upgrades, digest_line, digest_printed, ids_of, kind_or_dash, letter_line, line_printed, no_state_line, state_line, state_printed, status_line, status_printed, upgraded_line};
+ghost use Rattle.std.specs.Prelude.{◌≡◌, IfOk, flat_map, string_bytes};
+ghost use Rattle.world_script.specs.Printing.{Audits, Shows, Upgrades, digest_line, digest_printed, ids_of, line_printed, no_state_line, state_line, state_printed, status_line, status_printed, upgraded_line};
 
-use crate::lines::line_of_audit;
-use crate::queue::{Letter, Queue};
+use crate::auditing::line_of_audit;
 use crate::stage::Stage;
+use byz_world::{State, StateFault, Status};
 use host_types::ReplicaId;
-use replica_core::Status;
-use script_text::{Filter, Kind, Printout, node_text};
-use service_core::{State, StateFault};
+use script_text::Printout;
 use std::alloc::{AllocError, Global};
 use std::sync::Arc;
 
@@ -102,46 +99,6 @@ impl Stage {
         ensures { IfOk result (λ text. Audits self.now.world (string_bytes text)) }
     {
         line_of_audit(self.alloc, &self.world.audit())
-    }
-}
-
-impl Queue {
-    /// The lines of the letters that are meant, the oldest first.
-    fn lines(&self, filter: &Filter) -> Result<String, AllocError>
-        ensures { IfOk result (λ text. string_bytes text ≡ flat_map letter_line (kept (is_meant filter.now) self.now)) }
-    {
-        let mut text = String::new(self.alloc);
-        for index in 0..self.letters.len() {
-            if let Some(letter) = self.letters.get(index) {
-                if letter.is_meant_by(filter) {
-                    text.push_str(&letter.line(self.alloc)?)?;
-                }
-            }
-        }
-        Ok(text)
-    }
-}
-
-impl Letter {
-    /// Its line: the sender, the addressee, the kind and the bytes.
-    fn line(&self, alloc: Global) -> Result<String, AllocError>
-        ensures { IfOk result (λ line. string_bytes line ≡ letter_line self.now) }
-    {
-        let from = node_text(alloc, self.from)?;
-        let to = node_text(alloc, Some(self.to))?;
-        let kind = kind_or_dash(self.kind);
-        let bytes = hex::encode(alloc, self.bytes())?;
-        format!(in alloc; "queue {from} {to} {kind} {bytes}\n")
-    }
-}
-
-/// The name of a kind, or a dash where there is none.
-fn kind_or_dash(kind: Option<Kind>) -> &'static str
-    ensures { result.now ≡ kind_or_dash kind }
-{
-    match kind {
-        Some(kind) => kind.name(),
-        None => "-",
     }
 }
 

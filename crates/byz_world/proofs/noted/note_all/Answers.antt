@@ -1,5 +1,5 @@
 use Rattle.std.proofs.Common.{List, ◌≡◌, suc, ◌++◌, ◌∷◌, map, take, drop, Bor, arith, sym, subst}
-use Rattle.replica_core.specs.declared.row.Done.{Done}
+use Rattle.replica_journal.specs.Done.{Done}
 use Rattle.byz_world.specs.declared.audit_fault.AuditFault.{AuditFault}
 use Rattle.byz_world.specs.Audits.{SaysOther, SomeDiffer}
 use Rattle.byz_world.specs.Noting.{IsNoted, IsRefusal}

@@ -1,5 +1,5 @@
 use Rattle.std.proofs.Common.{List, ◌++◌, map, take}
-use Rattle.replica_core.specs.declared.row.Done.{Done}
+use Rattle.replica_journal.specs.Done.{Done}
 use Rattle.byz_world.specs.Noting.{IsNoted}
 use Rattle.byz_world.proofs.noted.note_all.Given as goal
 

@@ -1,9 +1,9 @@
 use Rattle.std.proofs.Common.{◌≡◌, suc, List, ◌++◌, map, take, drop, get_or, Bor, Vec, Global, sym, ◌∙◌, ap, subst, arith}
 use Rattle.std.proofs.lemmas.List.{take_all}
 use Rattle.host_types.specs.declared.ReplicaId.{ReplicaId}
-use Rattle.replica_core.specs.Facts.{RowFacts}
-use Rattle.replica_core.specs.declared.row.Done.{Done}
-use Rattle.replica_core.specs.declared.row.Row.{Row}
+use Rattle.replica_journal.specs.Facts.{RowFacts}
+use Rattle.replica_journal.specs.Done.{Done}
+use Rattle.replica_journal.specs.Row.{Row}
 use Rattle.byz_world.specs.Audits.{Agree, all_done, all_rise, done_in}
 use Rattle.byz_world.specs.Noting.{IsNoted}
 use Rattle.byz_world.proofs.AuditLaws.{audit_made, audit_refused, done_whole}

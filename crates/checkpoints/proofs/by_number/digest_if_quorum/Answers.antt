@@ -1,6 +1,5 @@
 use Rattle.std.proofs.Common.{sym, ap, ◌∙◌, cond, Some, None}
 use Rattle.std.specs.Option.{option_copied}
-use Rattle.sha2.specs.Sha256.{sha256}
 use Rattle.ballots.specs.Ballots.{digest_in}
 use Rattle.checkpoints.proofs.Voting.{listed, quorum_said}
 use Rattle.checkpoints.proofs.by_number.digest_if_quorum.Goals as goal
@@ -11,11 +10,11 @@ has_quorum-requires c = listed c.args.config.now c.args.number.0 c.args.votes.no
 pub returns-then-has_quorum : goal.returns-then-has_quorum
 returns-then-has_quorum c =
     sym (quorum_said c.args.config.now c.args.number.0 c.args.votes.now c.args.signer.0 c.in_ok-get.field-0.now c.in_ok-digest.digest c.has_quorum.result c.requires
-    (sym c.get.ensures ∙ ap option_copied c.in_ok-get.was) (sym (c.digest_named.ensures ∙ ap digest_in c.body.ensures.value) ∙ c.in_ok-digest.was) (c.has_quorum.ensures sha256)
+    (sym c.get.ensures ∙ ap option_copied c.in_ok-get.was) (sym (c.digest_named.ensures ∙ ap digest_in c.body.ensures.value) ∙ c.in_ok-digest.was) (c.has_quorum.ensures)
     ∙ ap (λ b. cond b (Some c.in_ok-digest.digest) None) c.if-has_quorum.true)
 
 pub returns-else-has_quorum : goal.returns-else-has_quorum
 returns-else-has_quorum c =
     sym (quorum_said c.args.config.now c.args.number.0 c.args.votes.now c.args.signer.0 c.in_ok-get.field-0.now c.in_ok-digest.digest c.has_quorum.result c.requires
-    (sym c.get.ensures ∙ ap option_copied c.in_ok-get.was) (sym (c.digest_named.ensures ∙ ap digest_in c.body.ensures.value) ∙ c.in_ok-digest.was) (c.has_quorum.ensures sha256)
+    (sym c.get.ensures ∙ ap option_copied c.in_ok-get.was) (sym (c.digest_named.ensures ∙ ap digest_in c.body.ensures.value) ∙ c.in_ok-digest.was) (c.has_quorum.ensures)
     ∙ ap (λ b. cond b (Some c.in_ok-digest.digest) None) c.if-has_quorum.false)

@@ -1,5 +1,5 @@
 use Rattle.std.proofs.Common.{Ok, Err, arith}
-use Rattle.message_fields.specs.declared.fault.CodecFault.TheVariants.{Truncated, Trailing}
+use Rattle.codec_fields.specs.declared.fault.CodecFault.TheVariants.{Truncated, Trailing}
 use Rattle.pbft_codec.specs.Reading.{reading}
 use Rattle.pbft_codec.proofs.MessageLaws.{is_found, answers, reading_only, reading_cut, reading_behind}
 use Rattle.pbft_codec.proofs.message.decode.Goals as goal

@@ -1,7 +1,7 @@
 use Rattle.std.proofs.Common.{map}
 use Rattle.pbft_model.specs.Core.{start_of}
 use Rattle.pbft_model.proofs.Leaves.{signer_rows}
-use Rattle.view_change.specs.Setups.{setup_of}
+use Rattle.pbft_model.specs.Setup.{setup_of}
 use Rattle.replica_core.specs.Facts.{row_of}
 use Rattle.replica_journal.proofs.law.a_core_is_the_journals_replay.Goals as goal
 

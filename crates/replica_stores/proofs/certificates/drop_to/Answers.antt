@@ -2,7 +2,7 @@ use Rattle.std.proofs.Common.{◌≡◌, rules, ap, subst, sym, ◌∙◌}
 use Rattle.std.specs.Prelude.{nat_lt}
 use Rattle.std.proofs.lemmas.Map.Made.{filter_same_pairs}
 use Rattle.pbft_model.specs.Tables.{is_above, number_key}
-use Rattle.quorum_log.specs.Log.{as_checked}
+use Rattle.view_change.specs.Log.{as_checked}
 use Rattle.replica_stores.specs.Certificates.{AreCheckedCertificates, certificate_in}
 use Rattle.replica_stores.specs.Entries.{table_of}
 use Rattle.replica_stores.proofs.Entries.{all_filtered, table_keep}

@@ -1,7 +1,7 @@
 use Rattle.std.proofs.Common.{◌≡◌, ap, subst, sym, ◌∙◌}
 use Rattle.std.specs.Ordering.{nat_cmp}
 use Rattle.pbft_model.specs.Tables.{number_key}
-use Rattle.quorum_log.specs.Log.{as_checked}
+use Rattle.view_change.specs.Log.{as_checked}
 use Rattle.replica_stores.specs.Certificates.{AreCheckedCertificates, certificate_in}
 use Rattle.replica_stores.specs.Entries.{table_of}
 use Rattle.replica_stores.proofs.Certifying.{number_keyed}

@@ -1,7 +1,7 @@
 use Rattle.std.proofs.Common.{Err, ap}
 use Rattle.std.specs.Prelude.{codes}
 use Rattle.toml.specs.View.{table_view}
-use Rattle.script_text.specs.Forms.{forged_kind, needed_key, pair_of}
+use Rattle.script_values.specs.Forms.{forged_kind, needed_key, pair_of}
 use Rattle.script_text.specs.Steps.{forgery_from, forgery_of, route_in}
 use Rattle.script_text.proofs.Unless.{fault_itself, goes_on, memory_pair}
 use Rattle.script_text.proofs.forgery_keys.read_forgery.Goals as goal

@@ -1,6 +1,6 @@
 use Rattle.std.proofs.Common.{map}
 use Rattle.toml.specs.View.{table_view}
-use Rattle.script_text.specs.Forms.{pair_of, only_keys}
+use Rattle.script_values.specs.Forms.{pair_of, only_keys}
 use Rattle.script_text.specs.Steps.{route_in}
 use Rattle.script_text.proofs.forgery_keys.read_message.Goals as goal
 

@@ -1,7 +1,7 @@
 use Rattle.std.proofs.Common.{ℕ, codes, subst}
 use Rattle.toml.specs.View.{table_view}
-use Rattle.script_text.specs.Faults.{IsUnlessMemory}
-use Rattle.script_text.specs.Forms.{list_of, optional_key, replica}
+use Rattle.script_values.specs.Faults.{IsUnlessMemory}
+use Rattle.script_values.specs.Forms.{list_of, optional_key, replica}
 use Rattle.script_text.proofs.head.read_faulty.Goals as goal
 
 pub returns : goal.returns

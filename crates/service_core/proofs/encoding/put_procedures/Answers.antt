@@ -1,7 +1,7 @@
 use Rattle.std.proofs.Common.{◌++◌, ap, ◌∙◌, sym, List, ℕ, length, map}
 use Rattle.std.specs.Prelude.{flat_map}
 use Rattle.std.proofs.lemmas.List.{append-nil, length-map}
-use Rattle.bpf_verifier.specs.Verified.{Verified}
+use Rattle.tenant_parts.specs.Verified.{Verified}
 use Rattle.service_model.specs.Words.{u32_bytes}
 use Rattle.service_model.specs.declared.version.Version.TheVariants.{Second}
 use Rattle.service_model.specs.Encoding.{encoded_procedure}

@@ -8,7 +8,7 @@ use Rattle.view_change.specs.Sealable.{IsSealable}
 use Rattle.view_change.proofs.Sealing.{made_is_sealable}
 use Rattle.view_change.proofs.ValidParts.{made_valid}
 use Rattle.view_change.specs.Made.{IsValidChange}
-use Rattle.view_change.specs.Setups.{setup_of}
+use Rattle.pbft_model.specs.Setup.{setup_of}
 use Rattle.view_change.proofs.making.make.Goals as goal
 
 pub returns-clause-made : goal.returns-clause-made

@@ -10,7 +10,7 @@ use Rattle.seal.specs.Parts.{as_message}
 use Rattle.std.specs.List.{flat_map}
 use Rattle.view_change.specs.Reports.{reported_certificates}
 use Rattle.view_change.specs.Proposals.{left_from}
-use Rattle.view_change.specs.Setups.{setup_of}
+use Rattle.pbft_model.specs.Setup.{setup_of}
 use Rattle.view_change.proofs.Entering.{signed_is_valid, within_span}
 use Rattle.view_change.proofs.Giving.{many_left}
 use Rattle.view_change.proofs.Reported.{lows_reported, certificates_reported, messages_under}

@@ -7,7 +7,7 @@ use Rattle.pbft_model.specs.Rules.{pre_prepare_of}
 use Rattle.seal.specs.Lists.{messages_of}
 use Rattle.seal.specs.Parts.{as_message}
 use Rattle.view_change.specs.Proposals.{left_from}
-use Rattle.view_change.specs.Setups.{setup_of}
+use Rattle.pbft_model.specs.Setup.{setup_of}
 use Rattle.view_change.proofs.opening.proposals.Given as goal
 
 abbrev pub invariant-loop-below : goal.invariant-loop-below

@@ -2,12 +2,12 @@ use Rattle.std.proofs.Common.{◌≡◌, ◌++◌, ◌∷◌, [], List, map, ap,
 use Rattle.std.specs.List.{range_with_len}
 use Rattle.lms_tree.specs.SigningState.{SigningState}
 use Rattle.script_text.specs.KeyShapes.{shape_at}
-use Rattle.script_text.specs.declared.replica_keys.KeyShape.{KeyShape}
-use Rattle.script_text.specs.declared.script.Secret.{Secret}
+use Rattle.script_text.specs.KeyShape.{KeyShape}
+use Rattle.script_text.specs.Secret.{Secret}
 use Rattle.world_script.specs.declared.keys.Owner.{Owner}
 use Rattle.world_script.specs.declared.keys.Owner.TheVariants as owners
 use Rattle.world_script.specs.Keys.{replica_signer, signer_of}
-use Rattle.world_script.proofs.Lists.{mapped_push}
+use Rattle.world_script.proofs.Ranges.{mapped_push}
 use Rattle.world_script.proofs.keys.replica_sources.Goals as goal
 
 pub loop-id-preserved : goal.loop-id-preserved

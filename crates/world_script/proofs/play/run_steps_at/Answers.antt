@@ -1,7 +1,7 @@
 use Rattle.std.proofs.Common.{◌≡◌, ℕ, ◌+◌, ◌<◌, List, length, get_or, sym, subst, arith}
 use Rattle.std.specs.Prelude.{min}
 use Rattle.std.specs.String.{string_bytes}
-use Rattle.script_text.specs.declared.fault.ScriptKind.{ScriptKind}
+use Rattle.script_text.specs.ScriptKind.{ScriptKind}
 use Rattle.script_text.specs.declared.script.NamedStep.{NamedStep}
 use Rattle.world_script.specs.Expecting.{Scene}
 use Rattle.world_script.specs.Running.{Fails}

@@ -1,9 +1,9 @@
 use Rattle.std.proofs.Common.{◌≡◌, ℕ, ◌+◌, ◌++◌, ◌∷◌, [], List, map, ap, sym, ◌∙◌, arith}
 use Rattle.std.specs.List.{range_with_len}
 use Rattle.std.proofs.lemmas.List.{map-append}
-use Rattle.script_text.specs.declared.script.Node.{Node}
-use Rattle.script_text.specs.declared.script.Node.TheVariants.{Replica}
-use Rattle.world_script.proofs.Lists.{range_push}
+use Rattle.script_text.specs.Node.{Node}
+use Rattle.script_text.specs.Node.TheVariants.{Replica}
+use Rattle.world_script.proofs.Ranges.{range_push}
 use Rattle.world_script.proofs.stage.everyone.Goals as goal
 
 abbrev node_at : ℕ → Node

@@ -1,6 +1,6 @@
 use Rattle.std.proofs.Common.{◌≡◌, ℕ, map}
 use Rattle.std.specs.List.{range_with_len}
-use Rattle.script_text.specs.declared.script.Node.TheVariants.{Replica}
+use Rattle.script_text.specs.Node.TheVariants.{Replica}
 use Rattle.world_script.proofs.stage.everyone.Given as goal
 
 abbrev pub invariant-loop-id : goal.invariant-loop-id

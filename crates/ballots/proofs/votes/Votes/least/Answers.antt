@@ -1,6 +1,6 @@
 use Rattle.std.proofs.Common.{◌≡◌, Bool, true, false, cond, Option, Some, None, sym, ap, ◌∙◌, ◌++◌, ◌∷◌, [], arith}
 use Rattle.std.specs.Option.{option_copied}
-use Rattle.seal.specs.Opening.{CheckedMessage}
+use Rattle.pbft_model.specs.Opening.{CheckedMessage}
 use Rattle.ballots.proofs.Least.{took, passed, left_out}
 use Rattle.ballots.proofs.votes.Votes.least.Goals as goal
 use Rattle.ballots.proofs.votes.Votes.least.Goals.{in-Some, then-seen-many+in_ok-copy+in_ok-push, else-seen-many, in_default}

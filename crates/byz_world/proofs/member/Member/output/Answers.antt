@@ -1,7 +1,7 @@
 use Rattle.std.proofs.Common.{◌≡◌, ◌+◌, ◌-◌, ◌≤◌, arith, drop, List, get_or, length, sym, ap, subst, ◌<◌, ◌∙◌}
 use Rattle.std.specs.Prelude.{slice_get}
-use Rattle.replica_core.specs.Facts.{RowFacts}
-use Rattle.replica_core.specs.declared.row.Output.{Output}
+use Rattle.replica_journal.specs.Facts.{RowFacts}
+use Rattle.replica_journal.specs.Output.{Output}
 use Rattle.byz_world.proofs.OutputLaws.{in_row, outputs_in, past_row}
 use Rattle.byz_world.proofs.member.Member.output.Goals as goal
 

@@ -1,6 +1,6 @@
 use Rattle.std.proofs.Common.{List, ◌≡◌, ℕ, ◌++◌, ◌∷◌, [], refl, sym, ◌∙◌, ap, subst}
 use Rattle.std.specs.Prelude.{max}
-use Rattle.replica_core.specs.declared.row.Done.{Done}
+use Rattle.replica_journal.specs.Done.{Done}
 use Rattle.byz_world.specs.declared.noted.Noted.{Noted}
 use Rattle.byz_world.specs.Audits.{execution}
 use Rattle.byz_world.specs.Noting.{IsFirst, IsNoted}

@@ -1,6 +1,6 @@
 use Rattle.std.proofs.Common.{◌≡◌, eqb, set, sym, ap, subst, ◌∙◌}
 use Rattle.std.proofs.lemmas.List.Quantifiers.{position-Some}
-use Rattle.replica_core.specs.declared.row.Input.TheVariants as inputs
+use Rattle.replica_journal.specs.Input.TheVariants as inputs
 use Rattle.byz_world.specs.Handing.{UnlessMemory, index_in}
 use Rattle.byz_world.specs.Worlds.{Comes, MemberFacts, WorldFacts}
 use Rattle.byz_world.proofs.HandingLaws.{comes_at, comes_none, config_at, members_kept}

@@ -1,5 +1,5 @@
 use Rattle.std.proofs.Common.{◌≡◌, set, sym, ap, subst, ◌∙◌}
-use Rattle.replica_core.specs.declared.row.Input.TheVariants as inputs
+use Rattle.replica_journal.specs.Input.TheVariants as inputs
 use Rattle.byz_world.specs.Handing.{UnlessMemory, index_in}
 use Rattle.byz_world.specs.Worlds.{Comes, WorldFacts}
 use Rattle.byz_world.proofs.HandingLaws.{comes_at, comes_none, members_kept}

@@ -2,7 +2,7 @@ use Rattle.std.proofs.Common.{ap, sym, subst, ◌∙◌, T}
 use Rattle.std.specs.Iterator.Adapters.{rev_source}
 use Rattle.std.specs.BTreeMap as tree
 use Rattle.std.specs.FinMap.{is_sorted}
-use Rattle.quorum_log.proofs.Tables.{by, sorted_by}
+use Rattle.ballots.proofs.Tables.{by, sorted_by}
 use Rattle.pbft_model.specs.Tables.{at, number_key}
 use Rattle.checkpoints.specs.Kept.{KeptCheckpoints}
 use Rattle.checkpoints.specs.Reading.{bytes_at_key, number_keys}

@@ -17,6 +17,6 @@ certificate-requires-clause-under c =
     (votes_under c.args.self.now.config c.args.view.0 c.args.number.0 kinds.Prepare c.in-Some.slot.now.prepares c.in-Some.ensures.represents.is.prepares)
 
 pub returns-in_ok-certificate-in-Some-clause-certificate : goal.returns-in_ok-certificate-in-Some-clause-certificate
-returns-in_ok-certificate-in-Some-clause-certificate c = λ hash.
+returns-in_ok-certificate-in-Some-clause-certificate c =
     c.in_ok-certificate-in-Some.ensures ∙ ap (λ k. certificate_here k c.args.view.0 c.in-Some.slot.now) (ap (λ k. k.config) c.self.view_is)
-    ∙ certificate_is c.args.self.now.config hash c.args.self.now.log c.args.view.0 c.args.number.0 c.in-Some.slot.now c.slot.ensures.legal c.in-Some.ensures.represents
+    ∙ certificate_is c.args.self.now.config c.args.self.now.log c.args.view.0 c.args.number.0 c.in-Some.slot.now c.slot.ensures.legal c.in-Some.ensures.represents

@@ -16,6 +16,6 @@ is_committed-requires-clause-commits c =
     (votes_listed c.args.self.now.config c.args.view.0 c.args.number.0 kinds.Commit c.in-Some.slot.now.commits c.in-Some.ensures.represents.is.commits)
 
 pub returns-in-Some : goal.returns-in-Some
-returns-in-Some c = λ hash.
+returns-in-Some c =
     c.is_committed.ensures ∙ ap (λ k. is_committed_here k c.args.view.0 c.in-Some.slot.now) (c.deref.ensures ∙ ap (λ k. k.config) c.self.view_is)
-    ∙ committed_is c.args.self.now.config hash c.args.self.now.log c.args.view.0 c.args.number.0 c.in-Some.slot.now c.slot.ensures.legal c.in-Some.ensures.represents
+    ∙ committed_is c.args.self.now.config c.args.self.now.log c.args.view.0 c.args.number.0 c.in-Some.slot.now c.slot.ensures.legal c.in-Some.ensures.represents

@@ -11,6 +11,6 @@ is_certified-requires c =
     (votes_listed c.args.self.now.config c.args.view.0 c.args.number.0 kinds.Prepare c.in-Some.slot.now.prepares c.in-Some.ensures.represents.is.prepares)
 
 pub returns-in-Some : goal.returns-in-Some
-returns-in-Some c = λ hash.
+returns-in-Some c =
     c.is_certified.ensures ∙ ap (λ k. is_certified_here k c.args.view.0 c.in-Some.slot.now) (c.deref.ensures ∙ ap (λ k. k.config) c.self.view_is)
-    ∙ certified_is c.args.self.now.config hash c.args.self.now.log c.args.view.0 c.args.number.0 c.in-Some.slot.now c.slot.ensures.legal c.in-Some.ensures.represents
+    ∙ certified_is c.args.self.now.config c.args.self.now.log c.args.view.0 c.args.number.0 c.in-Some.slot.now c.slot.ensures.legal c.in-Some.ensures.represents

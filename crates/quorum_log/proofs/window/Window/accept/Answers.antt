@@ -1,6 +1,7 @@
 use Rattle.std.proofs.Common.{subst, ap, sym, ◌∙◌}
 use Rattle.std.specs.Prelude.{IfErr, slice_set}
-use Rattle.quorum_log.specs.Slots.{IsRefusal, is_for_other, met_by, with_vote}
+use Rattle.quorum_log.specs.Slots.{IsRefusal, met_by, with_vote}
+use Rattle.ballots.specs.Ballots.{is_for_other}
 use Rattle.quorum_log.specs.Windows.{HasSlotAt}
 use Rattle.quorum_log.proofs.Windows.{at_index, slot_set, same_set, on_ok, on_err}
 use Rattle.quorum_log.proofs.window.Window.accept.Goals as goal

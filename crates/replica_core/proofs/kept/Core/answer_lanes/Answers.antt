@@ -2,7 +2,7 @@ use Rattle.std.proofs.Common.{subst, ◌∙◌}
 use Rattle.std.proofs.lemmas.Result.{err_from_is_err_and}
 use Rattle.pbft_model.specs.Rows.{Received}
 use Rattle.seal.specs.Opening.{CheckedMessage}
-use Rattle.view_change.specs.Setups.{setup_of}
+use Rattle.pbft_model.specs.Setup.{setup_of}
 use Rattle.replica_core.specs.Answering.{IsRowOf}
 use Rattle.replica_core.specs.declared.row.Input.TheVariants as inputs
 use Rattle.replica_core.proofs.Reacting.{begun_soundly, gives, short_of_memory, stops_for}

@@ -1,6 +1,6 @@
 use Rattle.std.proofs.Common.{◌≡◌, ◌+◌, ◌-◌, ◌%◌, ◌<◌, ◌^◌, false, length}
 use Rattle.std.specs.Prelude.{◌==◌}
-use Rattle.view_change.specs.Setups.{setup_of}
+use Rattle.pbft_model.specs.Setup.{setup_of}
 use Rattle.replica_core.specs.Batching.{IsBatch}
 use Rattle.replica_core.proofs.kept.Core.committed_batch.Given as goal
 

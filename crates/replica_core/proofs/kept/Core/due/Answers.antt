@@ -1,4 +1,4 @@
-use Rattle.view_change.specs.Setups.{setup_of}
+use Rattle.pbft_model.specs.Setup.{setup_of}
 use Rattle.replica_core.proofs.Owed.{is_fetch_state, is_in_view, is_join, is_last, is_open}
 use Rattle.replica_core.proofs.kept.Core.due.Goals as goal
 

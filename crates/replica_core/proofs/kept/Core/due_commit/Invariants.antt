@@ -1,5 +1,5 @@
 use Rattle.pbft_model.specs.Duties.{commit_for}
-use Rattle.view_change.specs.Setups.{setup_of}
+use Rattle.pbft_model.specs.Setup.{setup_of}
 use Rattle.replica_core.proofs.Owed.{NoneYet}
 use Rattle.replica_core.proofs.kept.Core.due_commit.Given as goal
 

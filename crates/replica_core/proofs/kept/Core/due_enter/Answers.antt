@@ -3,7 +3,7 @@ use Rattle.std.specs.Result.{is_ok}
 use Rattle.host_types.specs.Configuration.{Configuration}
 use Rattle.pbft_model.specs.Validity.{new_view_fault}
 use Rattle.view_change.specs.Faults.{answer}
-use Rattle.view_change.specs.Setups.{setup_of}
+use Rattle.pbft_model.specs.Setup.{setup_of}
 use Rattle.replica_core.specs.Replicas.{KeptReplica}
 use Rattle.replica_core.proofs.Arrivals.{enter_elsewhere, enter_faulty, enter_here}
 use Rattle.replica_core.proofs.kept.Core.due_enter.Goals as goal

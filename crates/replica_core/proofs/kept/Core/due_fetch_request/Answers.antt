@@ -1,5 +1,5 @@
 use Rattle.std.proofs.Common.{Some, ◌≡◌, ℕ, ◌<◌, arith, subst, ◌∙◌}
-use Rattle.view_change.specs.Setups.{setup_of}
+use Rattle.pbft_model.specs.Setup.{setup_of}
 use Rattle.replica_core.specs.Meanings.{fetch_for}
 use Rattle.replica_core.specs.declared.duties.Duty.TheVariants as duties
 use Rattle.replica_core.proofs.Owed.{fetch_active, found_inside, none_inside, same_due}

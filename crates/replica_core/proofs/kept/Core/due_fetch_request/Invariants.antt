@@ -1,4 +1,4 @@
-use Rattle.view_change.specs.Setups.{setup_of}
+use Rattle.pbft_model.specs.Setup.{setup_of}
 use Rattle.replica_core.specs.Meanings.{fetch_for}
 use Rattle.replica_core.proofs.Owed.{NoneYet}
 use Rattle.replica_core.proofs.kept.Core.due_fetch_request.Given as goal

@@ -1,5 +1,5 @@
 use Rattle.std.proofs.Common.{ℕ, ◌<◌, subst, sym, ◌∙◌}
-use Rattle.view_change.specs.Setups.{setup_of}
+use Rattle.pbft_model.specs.Setup.{setup_of}
 use Rattle.replica_core.proofs.Arrivals.{is_over, none_stable}
 use Rattle.replica_core.proofs.Owed.{none_here}
 use Rattle.replica_core.proofs.kept.Core.due_install.Goals as goal

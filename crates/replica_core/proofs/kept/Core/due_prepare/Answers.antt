@@ -1,6 +1,6 @@
 use Rattle.std.proofs.Common.{Some, ◌≡◌, ℕ, ◌<◌, arith, subst, ◌∙◌}
 use Rattle.pbft_model.specs.Duties.{prepare_for}
-use Rattle.view_change.specs.Setups.{setup_of}
+use Rattle.pbft_model.specs.Setup.{setup_of}
 use Rattle.replica_core.specs.declared.duties.Duty.TheVariants as duties
 use Rattle.replica_core.proofs.Owed.{as_backup, found_inside, none_inside, same_due}
 use Rattle.replica_core.proofs.kept.Core.due_prepare.Goals as goal

@@ -6,7 +6,7 @@ use Rattle.std.proofs.lemmas.Map.Keys.{le_from_not_gt}
 use Rattle.seal.specs.Lists.{CheckedMessages}
 use Rattle.seal.specs.Opening.{CheckedMessage}
 use Rattle.seal.specs.Parts.{pre_prepares_of}
-use Rattle.view_change.specs.Setups.{setup_of}
+use Rattle.pbft_model.specs.Setup.{setup_of}
 use Rattle.replica_core.proofs.Entering.{are_proposals, are_small, enters, entered_one, floor_small, gt_is, left_above, left_not}
 use Rattle.replica_core.proofs.kept.Core.enter.Goals as goal
 use Rattle.replica_core.proofs.kept.Core.enter.Goals.{then-gt+in_ok-leave_for, else-gt}

@@ -1,4 +1,4 @@
-use Rattle.view_change.specs.Setups.{setup_of}
+use Rattle.pbft_model.specs.Setup.{setup_of}
 use Rattle.replica_core.specs.declared.duties.Duty.TheVariants as duties
 use Rattle.replica_core.proofs.Asking.{as_duty}
 use Rattle.replica_core.proofs.Batching.{executing}

@@ -1,7 +1,7 @@
 use Rattle.pbft_model.specs.Core.{held_with}
 use Rattle.pbft_model.specs.Sequential.{last_reply_of}
 use Rattle.pbft_model.specs.Tables.{at, number_key}
-use Rattle.view_change.specs.Setups.{setup_of}
+use Rattle.pbft_model.specs.Setup.{setup_of}
 use Rattle.replica_core.specs.declared.duties.Duty.TheVariants as duties
 use Rattle.replica_core.proofs.Asking as asking
 use Rattle.replica_core.proofs.Asking.{as_duty, checkpoint_kept, commits_low, executes_low, executes_next, fetches_low, following, higher, has_last_reply, leading, low_number, prepares_low, proposes_low, reads, request_held, rises_above, rises_to_reached, rises_to_stable, snapshot_kept, snapshot_low, snapshot_short, sound}

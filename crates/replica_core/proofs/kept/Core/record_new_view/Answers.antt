@@ -2,7 +2,7 @@ use Rattle.std.proofs.Common.{true, false, ap, subst, sym, ◌≡◌, ◌∙◌}
 use Rattle.std.specs.List.{flat_map}
 use Rattle.seal.specs.Lists.{CheckedMessages}
 use Rattle.pbft_model.specs.Validity.{is_valid_new_view}
-use Rattle.view_change.specs.Setups.{setup_of}
+use Rattle.pbft_model.specs.Setup.{setup_of}
 use Rattle.replica_core.proofs.Admitting.{on_ok}
 use Rattle.replica_core.proofs.Taking.{in_new_view, new_view_checkpoints, new_view_recorded, new_view_valid}
 use Rattle.replica_core.proofs.kept.Core.record_new_view.Goals as goal

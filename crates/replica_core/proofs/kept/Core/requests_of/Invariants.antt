@@ -2,7 +2,7 @@ use Rattle.std.proofs.Common.{◌≡◌, ◌<◌, ◌^◌, map, take}
 use Rattle.std.specs.Prelude.{All, IfSome, IsSome}
 use Rattle.host_types.specs.Configuration.{entry_of}
 use Rattle.pbft_model.specs.Core.{request_of}
-use Rattle.view_change.specs.Setups.{setup_of}
+use Rattle.pbft_model.specs.Setup.{setup_of}
 use Rattle.replica_core.proofs.kept.Core.requests_of.Given as goal
 
 abbrev pub invariant-loop-digest : goal.invariant-loop-digest

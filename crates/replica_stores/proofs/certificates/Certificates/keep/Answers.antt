@@ -1,6 +1,6 @@
 use Rattle.std.proofs.Common.{ap, subst, sym, ◌∙◌}
 use Rattle.pbft_model.specs.Tables.{number_key, with_entry}
-use Rattle.quorum_log.specs.Log.{as_checked}
+use Rattle.view_change.specs.Log.{as_checked}
 use Rattle.replica_stores.specs.Certificates.{AreCheckedCertificates, certificate_in}
 use Rattle.replica_stores.specs.Stores.{KeptCertificates}
 use Rattle.replica_stores.proofs.Certifying.{certificate_again, is_checked}

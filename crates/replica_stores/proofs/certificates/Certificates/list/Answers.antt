@@ -1,6 +1,6 @@
 use Rattle.std.proofs.Common.{ap, map, sym, ◌++◌, ◌∙◌}
 use Rattle.pbft_model.specs.Tables.{entries_in, number_key}
-use Rattle.quorum_log.specs.Log.{as_checked}
+use Rattle.view_change.specs.Log.{as_checked}
 use Rattle.replica_stores.specs.Certificates.{certificate_in}
 use Rattle.replica_stores.specs.Stores.{KeptCertificates}
 use Rattle.replica_stores.proofs.Certifying.{values_checked}

@@ -1,6 +1,6 @@
 use Rattle.std.proofs.Common.{◌≡◌, ◌++◌, map}
 use Rattle.pbft_model.specs.Tables.{entries_in}
-use Rattle.quorum_log.specs.Log.{as_checked}
+use Rattle.view_change.specs.Log.{as_checked}
 use Rattle.replica_stores.proofs.certificates.Certificates.list.Given as goal
 
 abbrev pub invariant-loop-certificate : goal.invariant-loop-certificate

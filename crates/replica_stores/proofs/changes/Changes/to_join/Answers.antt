@@ -4,8 +4,7 @@ use Rattle.std.specs.FinSet as set
 use Rattle.std.proofs.lemmas.Bool.{le-leb, lt-leb}
 use Rattle.host_types.specs.Configuration.{Configuration, replicas_for}
 use Rattle.pbft_model.specs.Duties.{change_to}
-use Rattle.pbft_model.specs.Setup.{count}
-use Rattle.view_change.specs.Setups.{setup_of}
+use Rattle.pbft_model.specs.Setup.{count, setup_of}
 use Rattle.replica_stores.specs.Changes.{is_ahead}
 use Rattle.replica_stores.specs.Stores.{KeptChanges}
 use Rattle.replica_stores.proofs.Joining.{join_is, lowest, origin_of, to_view}

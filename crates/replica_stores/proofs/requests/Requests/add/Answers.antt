@@ -3,7 +3,7 @@ use Rattle.std.specs.Prelude.{is_some}
 use Rattle.std.specs.Option.{option_map}
 use Rattle.pbft_model.specs.Acts.{with_body}
 use Rattle.pbft_model.specs.Core.{held_with}
-use Rattle.view_change.specs.Setups.{setup_of}
+use Rattle.pbft_model.specs.Setup.{setup_of}
 use Rattle.replica_stores.specs.Requests.{as_request, requests_in}
 use Rattle.replica_stores.proofs.Holding.{add_new, digest_is, request_is, request_of, checked_under}
 use Rattle.replica_stores.proofs.Lists.{map_append}

@@ -2,7 +2,7 @@ use Rattle.std.proofs.Common.{ap, find, ◌∙◌}
 use Rattle.std.specs.Prelude.{bytes_eq}
 use Rattle.std.specs.Option.{option_map}
 use Rattle.pbft_model.specs.Core.{held_with}
-use Rattle.view_change.specs.Setups.{setup_of}
+use Rattle.pbft_model.specs.Setup.{setup_of}
 use Rattle.replica_stores.specs.Stores.{KeptRequests}
 use Rattle.replica_stores.proofs.Holding.{find_none, find_some, checked_under}
 use Rattle.replica_stores.proofs.requests.Requests.find.Goals as goal

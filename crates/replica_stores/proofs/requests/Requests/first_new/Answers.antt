@@ -1,9 +1,8 @@
 use Rattle.std.proofs.Common.{Bool, ◌&&◌, ap, find, not, sym, ◌∙◌}
 use Rattle.std.specs.Option.{option_map}
 use Rattle.pbft_model.specs.Core.{is_new}
-use Rattle.pbft_model.specs.Setup.{digest_of}
+use Rattle.pbft_model.specs.Setup.{digest_of, setup_of}
 use Rattle.pbft_model.specs.Tables.{entries_in}
-use Rattle.view_change.specs.Setups.{setup_of}
 use Rattle.replica_stores.specs.Requests.{as_request}
 use Rattle.replica_stores.specs.Stores.{KeptRequests, is_proposed_in}
 use Rattle.replica_stores.specs.declared.requests.Held.{Held}

@@ -2,7 +2,7 @@ use Rattle.std.proofs.Common.{◌||◌, ap, subst, sym, ◌∙◌}
 use Rattle.pbft_model.specs.Acts.{still_held}
 use Rattle.pbft_model.specs.Core.{is_new, names}
 use Rattle.pbft_model.specs.Tables.{entries_in}
-use Rattle.view_change.specs.Setups.{setup_of}
+use Rattle.pbft_model.specs.Setup.{setup_of}
 use Rattle.replica_stores.specs.Requests.{AreHeld, IsHeld, as_request, requests_in}
 use Rattle.replica_stores.proofs.Entries.{all_filtered}
 use Rattle.replica_stores.proofs.Holding.{still_found}

@@ -1,5 +1,5 @@
 use Rattle.std.proofs.Common.{◌≤◌, length, rules, subst, sym}
-use Rattle.replica_core.specs.declared.replica.Status.{Status}
+use Rattle.byz_world.specs.Status.{Status}
 use Rattle.replica_threads.specs.Stations.{IsReported}
 use Rattle.replica_threads.proofs.StationLaws.{reported_as}
 use Rattle.replica_threads.proofs.locked.Locked.report.Goals as goal

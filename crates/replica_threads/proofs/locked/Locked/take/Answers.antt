@@ -1,5 +1,5 @@
 use Rattle.std.proofs.Common.{◌≤◌, length, rules}
-use Rattle.replica_core.specs.declared.row.Input.TheVariants as inputs
+use Rattle.byz_world.specs.Input.TheVariants as inputs
 use Rattle.replica_threads.proofs.StationLaws.{answered}
 use Rattle.replica_threads.proofs.locked.Locked.take.Goals as goal
 

@@ -4,10 +4,11 @@ use Rattle.std.proofs.lemmas.List.{length-map}
 use Rattle.host_types.specs.Configuration.{Configuration, replicas_for}
 use Rattle.host_types.specs.declared.config.ClientEntry.{ClientEntry}
 use Rattle.lms_tree.specs.SigningState.{SigningState}
-use Rattle.world_script.specs.Keys.{KeyFacts, client_signer, key_of, replica_signer, replica_signers, unkeyed}
+use Rattle.world_script.specs.Keys.{KeyFacts, client_signer, replica_signer, replica_signers, unkeyed}
+use Rattle.world_queue.specs.Parties.{key_of}
 use Rattle.world_script.proofs.Entries.{their_keys, without_keys}
 use Rattle.world_script.proofs.Legal.{never}
-use Rattle.world_script.proofs.Lists.{length_range}
+use Rattle.world_script.proofs.Ranges.{length_range}
 use Rattle.world_script.proofs.keys.KeySources.keys.Goals as goal
 
 pub unreachable-requires : goal.unreachable-requires

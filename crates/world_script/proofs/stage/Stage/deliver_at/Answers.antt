@@ -1,7 +1,7 @@
 use Rattle.std.proofs.Common.{◌≡◌, ◌<◌, sym, subst}
 use Rattle.std.specs.String.{string_bytes}
 use Rattle.std.proofs.lemmas.Result.{IfOk-weaker}
-use Rattle.world_script.specs.Letters.{meant_count}
+use Rattle.world_queue.specs.Letters.{meant_count}
 use Rattle.world_script.specs.Facts.{StageFacts}
 use Rattle.world_script.specs.Stages.{Delivers}
 use Rattle.world_script.proofs.Delivering.{delivered_at}

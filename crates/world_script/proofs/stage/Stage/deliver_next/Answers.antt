@@ -1,7 +1,7 @@
 use Rattle.std.proofs.Common.{◌≡◌, ◌++◌, None, sym, ap, subst, ◌∙◌}
 use Rattle.std.specs.Prelude.{is_some}
 use Rattle.std.specs.String.{string_bytes}
-use Rattle.world_script.specs.Letters.{first_meant}
+use Rattle.world_queue.specs.Letters.{first_meant}
 use Rattle.world_script.specs.Parts.{ahead}
 use Rattle.world_script.specs.Facts.{StageFacts}
 use Rattle.world_script.specs.Stages.{Delivers}

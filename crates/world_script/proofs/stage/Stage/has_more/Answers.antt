@@ -1,5 +1,5 @@
 use Rattle.std.proofs.Common.{◌≡◌, ◌++◌, None, sym, ap, subst, ◌∙◌}
-use Rattle.world_script.specs.Letters.{first_meant}
+use Rattle.world_queue.specs.Letters.{first_meant}
 use Rattle.world_script.specs.Parts.{ahead}
 use Rattle.world_script.specs.Facts.{StageFacts}
 use Rattle.world_script.proofs.Delivering.{no_more, restored}

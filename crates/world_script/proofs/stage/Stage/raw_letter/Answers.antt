@@ -1,7 +1,7 @@
 use Rattle.std.proofs.Common.{List, find, bytes_eq, ap, sym, ◌∙◌}
-use Rattle.world_script.specs.Edits.{raw_letter}
+use Rattle.world_queue.specs.Changes.{raw_letter}
 use Rattle.world_script.specs.Facts.{StageFacts}
-use Rattle.world_script.specs.declared.named.Named.{Named}
+use Rattle.world_queue.specs.declared.named.Named.{Named}
 use Rattle.world_script.proofs.Naming.{message_letter}
 use Rattle.world_script.proofs.stage.Stage.raw_letter.Goals as goal
 

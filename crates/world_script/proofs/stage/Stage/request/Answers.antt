@@ -1,6 +1,6 @@
 use Rattle.std.proofs.Common.{◌≡◌, List, ℕ, [], Option, Some, sym, subst, ◌∙◌}
 use Rattle.seal.specs.Opening.{CheckedMessage}
-use Rattle.world_script.specs.Parts.{Requests}
+use Rattle.world_queue.specs.Effects.{Requests}
 use Rattle.world_script.specs.Facts.{StageFacts}
 use Rattle.world_script.specs.Stages.{Turn, requested}
 use Rattle.world_script.proofs.Turns.{request_queued}

@@ -4,9 +4,9 @@ use Rattle.std.specs.Ordering.{nat_cmp}
 use Rattle.host_types.specs.Configuration.{Configuration}
 use Rattle.lms_tree.specs.SigningState.{SigningState}
 use Rattle.byz_world.specs.Worlds.{WorldFacts, first_world}
-use Rattle.world_script.specs.declared.forging.Forger.{Forger}
+use Rattle.world_queue.specs.declared.forging.Forger.{Forger}
 use Rattle.world_script.specs.Keys.{configuration_of, correct_from, replica_signers}
-use Rattle.world_script.specs.Parts.{fresh_sessions}
+use Rattle.world_queue.specs.Effects.{fresh_sessions}
 use Rattle.world_script.specs.Starts.{forgers_from, numbers_of, start_of}
 use Rattle.world_script.proofs.Entries.{sessions_of}
 use Rattle.world_script.proofs.stage.Stage.with_keys.Goals as goal

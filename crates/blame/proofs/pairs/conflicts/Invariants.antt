@@ -1,5 +1,0 @@
-use Rattle.blame.specs.Gathering.{HasBelow}
-use Rattle.blame.proofs.pairs.conflicts.Given as goal
-
-abbrev pub invariant-loop-second : goal.invariant-loop-second
-invariant-loop-second l = HasBelow l.messages l.second l.pairs.items

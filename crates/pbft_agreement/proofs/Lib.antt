@@ -1,0 +1,16 @@
+pub mod Working
+pub mod Texts
+pub mod Stepping
+pub mod ByNumber
+pub mod Reporting
+pub mod Rising
+pub mod Within
+pub mod OverJournals
+pub mod Digests
+pub mod Example
+pub mod ExampleRows
+pub mod Turns
+pub mod Episode
+pub mod EpisodeRows
+pub mod RowRules
+pub mod Giving

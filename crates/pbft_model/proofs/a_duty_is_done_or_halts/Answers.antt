@@ -1,5 +1,0 @@
-use Rattle.pbft_model.proofs.Stepping.{continues, row_continues}
-use Rattle.pbft_model.proofs.a_duty_is_done_or_halts.Goals as goal
-
-pub returns : goal.returns
-returns k = record { acts = continues; rows = row_continues }

@@ -1,6 +1,0 @@
--- As `proofs/Working.antt` has it.
-use Rattle.pbft_model.proofs.Working.{installs}
-use Rattle.pbft_model.proofs.a_snapshot_is_installed.Goals as goal
-
-pub returns : goal.returns
-returns c = installs

@@ -1,6 +1,0 @@
--- Agreement over journals, as `proofs/OverJournals.antt` has it.
-use Rattle.pbft_model.proofs.OverJournals.{agrees_over}
-use Rattle.pbft_model.proofs.agreement.Goals as goal
-
-pub returns : goal.returns
-returns c = agrees_over

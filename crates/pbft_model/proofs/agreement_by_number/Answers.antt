@@ -1,6 +1,0 @@
--- Agreement by number, as `proofs/ByNumber.antt` has it.
-use Rattle.pbft_model.proofs.ByNumber.{agrees}
-use Rattle.pbft_model.proofs.agreement_by_number.Goals as goal
-
-pub returns : goal.returns
-returns c = agrees

@@ -1,5 +1,0 @@
-use Rattle.pbft_model.proofs.Stepping.{service_steps, execution_goes}
-use Rattle.pbft_model.proofs.an_execution_has_a_step.Goals as goal
-
-pub returns : goal.returns
-returns k = record { step = service_steps; act = execution_goes }

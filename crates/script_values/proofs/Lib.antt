@@ -1,0 +1,3 @@
+mod Keys
+mod KeyLemmas
+mod Founds

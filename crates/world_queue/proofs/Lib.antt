@@ -1,0 +1,3 @@
+mod Clients
+pub mod Lists
+mod Parties

@@ -1,0 +1,25 @@
+//! Messages on their way between the replicas and the clients of a script: the queue, which of its letters a step means,
+//! how steps change them, and who makes them, clients by their sessions and faulty replicas by their signers.
+//!
+//!     queue.send(&letter, &everyone)?;
+//!     if let Some(letter) = queue.take_meant(&filter, drawn(state, queue.count_meant(&filter))) {
+//!         hand_over(letter.to(), letter.bytes())?;
+//!     }
+#![tactic(auto)]
+
+mod drawing;
+mod edits;
+mod forging;
+mod lines;
+mod listing;
+mod named;
+mod queue;
+mod sessions;
+
+pub use drawing::{drawn, next_state};
+pub use edits::{changed, find_named};
+pub use forging::{Forger, checkpoint_body, forge, view_change_body, vote_body};
+pub use lines::{line_of_nothing_queued, line_of_refusal, line_of_reply};
+pub use named::Named;
+pub use queue::{Letter, Queue, letter_of};
+pub use sessions::{Sessions, open_sessions};

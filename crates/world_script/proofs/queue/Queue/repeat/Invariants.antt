@@ -1,6 +1,0 @@
-use Rattle.std.proofs.Common.{◌≡◌, ◌++◌, filter, take}
-use Rattle.world_script.specs.Letters.{is_meant}
-use Rattle.world_script.proofs.queue.Queue.repeat.Given as goal
-
-abbrev pub invariant-loop-index : goal.invariant-loop-index
-invariant-loop-index l = l.self ≡ l.fn.self ++ filter (is_meant l.filter) (take l.index l.fn.self)
