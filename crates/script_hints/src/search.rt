@@ -1,24 +1,43 @@
 //! Which keys of a table a fault is about.
 
-use crate::keys::{Key, key_at, keys_at};
+use crate::keys::{HEAD, Key, key_at, keys_at};
 use crate::probe::{Probe, set};
 use script_text::ScriptKind;
 use std::alloc::AllocError;
-use toml::Table;
+use toml::{Table, Value};
 
 /// The key that has no meaning in the table: without it, and perhaps others like it, the reader finds no such fault.
 pub(crate) fn unknown_key(probe: &Probe) -> Result<Option<String>, AllocError> {
-    let mut left = probe.table.clone()?;
-    for key in probe.table.keys() {
+    unknown_in(probe, &probe.table)
+}
+
+/// The same of a table in place of the probe's own. Where without one of two keys the other is taken, it is the one whose
+/// value the reader passes over.
+fn unknown_in(probe: &Probe, table: &Table) -> Result<Option<String>, AllocError> {
+    let mut left = table.clone()?;
+    let mut judged = None;
+    for key in table.keys() {
         let mut trial = left.clone()?;
         trial.remove(key.as_str());
         match probe.fault_with(&trial)? {
             Some(ScriptKind::UnknownKey) => left = trial,
             Some(ScriptKind::MissingKey | ScriptKind::WrongValue) => {}
-            _ => return Ok(Some(key.clone()?)),
+            _ => {
+                if !is_judged(probe, &left, key.as_str())? {
+                    return Ok(Some(key.clone()?));
+                }
+                judged = Some(key.clone()?);
+            }
         }
     }
-    Ok(None)
+    Ok(judged)
+}
+
+/// Whether the reader judges a key's value: `false`, which no key takes, is a wrong one.
+fn is_judged(probe: &Probe, table: &Table, key: &str) -> Result<bool, AllocError> {
+    let mut trial = table.clone()?;
+    set(probe.alloc, &mut trial, key, Value::Boolean(false))?;
+    is_refused_for(probe, &trial, ScriptKind::WrongValue)
 }
 
 /// What is wrong with a key.
@@ -33,14 +52,16 @@ pub(crate) enum Wrong {
 /// The key whose value is wrong: with another value, or without it, the reader finds no such fault. Others before it may
 /// be wrong, too. Where no other value can be had, the key for which the script has none.
 pub(crate) fn wrong_key(probe: &Probe, keys: &[Key]) -> Result<Option<Wrong>, AllocError> {
-    if is_no_step(probe)? {
-        return Ok(key_at(keys, probe.place_name(), "do").map(Wrong::Value));
+    if let Some(name) = wrong_selector(probe)? {
+        return Ok(key_at(keys, probe.place_name(), name).map(Wrong::Value));
     }
     let mut mended = probe.table.clone()?;
     let mut lacking = None;
-    for name in probe.table.keys() {
-        match key_at(keys, probe.place_name(), name.as_str()) {
-            Some(key) if key.name != "do" => {
+    for name in names_in_turn(probe)? {
+        match key_at(keys, probe.place_name(), name) {
+            // With another kind a key may be missing, which is judged before a wrong value.
+            Some(key) if key.name == "kind" && lacking.is_some() => {}
+            Some(key) => {
                 if let Some(wrong) = mend(probe, key, &mut mended)? {
                     return Ok(Some(wrong));
                 }
@@ -48,10 +69,57 @@ pub(crate) fn wrong_key(probe: &Probe, keys: &[Key]) -> Result<Option<Wrong>, Al
                     lacking = Some(Wrong::Value(key));
                 }
             }
-            _ => {}
+            None => {}
         }
     }
     Ok(lacking)
+}
+
+/// The key by whose value the others are judged, where that value is wrong.
+fn wrong_selector(probe: &Probe) -> Result<Option<&'static str>, AllocError> {
+    if is_no_step(probe)? {
+        return Ok(Some("do"));
+    }
+    match probe.table.get("f") {
+        Some(Value::Integer(_)) | None => Ok(None),
+        Some(_) if probe.place_name() == HEAD => Ok(Some("f")),
+        Some(_) => Ok(None),
+    }
+}
+
+/// The names of a table's keys, in the order in which they are given other values: `spent` first, since other heights may
+/// leave it too few leaves, and `kind` last, since another one needs other keys. Without those by which the others are
+/// judged: as many entries as `f` says are a list's.
+fn names_in_turn(probe: &Probe) -> Result<Vec<&str>, AllocError> {
+    let mut names = Vec::new(probe.alloc);
+    for turn in [Turn::First, Turn::Next, Turn::Last] {
+        for key in probe.table.keys() {
+            if Turn::of(key.as_str()) == Some(turn) {
+                names.push(key.as_str())?;
+            }
+        }
+    }
+    Ok(names)
+}
+
+/// When a key is given another value.
+#[derive(Clone, Copy, Debug, PartialEq, Eq)]
+enum Turn {
+    First,
+    Next,
+    Last,
+}
+
+impl Turn {
+    /// The turn of a key of this name; none of one by which the others are judged.
+    fn of(name: &str) -> Option<Turn> {
+        match name {
+            "do" | "f" => None,
+            "spent" => Some(Turn::First),
+            "kind" => Some(Turn::Last),
+            _ => Some(Turn::Next),
+        }
+    }
 }
 
 /// Whether there is no step of the table's name.
@@ -68,16 +136,31 @@ fn is_no_step(probe: &Probe) -> Result<bool, AllocError> {
 fn mend(probe: &Probe, key: Key, table: &mut Table) -> Result<Option<Wrong>, AllocError> {
     let mut without = table.clone()?;
     without.remove(key.name);
-    if let Some(value) = probe.sample(key.sample)? {
-        set(probe.alloc, table, key.name, value)?;
-        if !is_refused_for(probe, table, ScriptKind::WrongValue)? {
-            return Ok(Some(Wrong::Value(key)));
-        }
+    match fault_with_sample(probe, key, table)? {
+        Some(ScriptKind::WrongValue) => match probe.fault_with(&without)? {
+            Some(ScriptKind::WrongValue | ScriptKind::MissingKey) => Ok(None),
+            _ => Ok(Some(Wrong::Presence(key))),
+        },
+        Some(ScriptKind::UnknownKey) => match unknown_in(probe, table)? {
+            Some(name) if name.as_str() == key.name => Ok(Some(Wrong::Presence(key))),
+            _ => Ok(Some(Wrong::Value(key))),
+        },
+        _ => Ok(Some(Wrong::Value(key))),
     }
-    match probe.fault_with(&without)? {
-        Some(ScriptKind::WrongValue | ScriptKind::MissingKey) => Ok(None),
-        _ => Ok(Some(Wrong::Presence(key))),
-    }
+}
+
+/// What the reader refuses the script for once a key of the table has a value that it takes. Where the script has no such
+/// value, the value stays wrong.
+fn fault_with_sample(
+    probe: &Probe,
+    key: Key,
+    table: &mut Table,
+) -> Result<Option<ScriptKind>, AllocError> {
+    let Some(value) = probe.sample(key.sample)? else {
+        return Ok(Some(ScriptKind::WrongValue));
+    };
+    set(probe.alloc, table, key.name, value)?;
+    probe.fault_with(table)
 }
 
 /// The keys of which one is needed: with any of them the reader misses none. Where several are needed at once, none.
