@@ -45,7 +45,7 @@ Examples:
   bpf_host world --trace < script.toml
   bpf_host explore script.toml --seeds 0..1000 --workers 4
   bpf_host run < requests.toml
-  bpf_host check examples/worlds
+  bpf_host check crates/bpf_host/data
 
 Status: 0 done, 1 refused, 2 a fault of the command line, 3 out of memory, 4 a read or write failed";
 
