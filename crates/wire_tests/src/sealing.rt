@@ -1,11 +1,13 @@
 //! Messages that are sealed, opened and refused.
 
 use crate::codec::layouts::kind;
-use host_types::{Bytes, ClientEntry, ClientId, Config, PublicKey, TenantId};
+use host_types::{
+    Bytes, ClientEntry, ClientId, Config, Digest, PublicKey, ReplicaId, SeqNo, TenantId, View,
+};
 use lms_tree::{Height, SignFault, Signer};
-use pbft_codec::{Body, RequestBody, Role, Signed, signed_bytes};
+use pbft_codec::{Body, Prepare, RequestBody, Role, Signed, signed_bytes};
 use seal::{Checked, nested, open, parts, request_digest, seal};
-use sha2::{Digest, Sha256};
+use sha2::{Digest as _, Sha256};
 use std::alloc::{AllocError, Global};
 use std::process::Abort;
 use std::sync::Arc;
@@ -363,5 +365,41 @@ fn a_signer_seals_until_it_is_exhausted(rt: HostRuntime) -> Result<(), Fail> {
     let mut signer = client(alloc)?;
     let config = config(alloc, &[PublicKey::Lms([0; 56]); 4], signer.public_key())?;
     assert!(rt; seals_32(&rt, alloc, &config, &mut signer, &bytes)?);
+    Ok(())
+}
+
+/// Seals a Prepare of replica 1, after what the caller of `seal` owes was tested.
+fn sealed_prepare(
+    rt: &impl Abort,
+    alloc: Global,
+    config: &Arc<Config>,
+    signer: &mut Signer,
+) -> Result<Checked, Fail> {
+    let Some(key) = config.replica_key(ReplicaId(1)) else {
+        return Err("no key")?;
+    };
+    assert!(rt; *key == signer.public_key());
+    assert!(rt; config.primary(View(0)).0 != 1);
+    let unsigned = Signed {
+        role: Role::Replica,
+        id: 1,
+        body: Body::Prepare(Prepare {
+            view: View(0),
+            number: SeqNo(1),
+            digest: Digest([7; 32]),
+        }),
+        sig: Bytes::from_vec(Vec::new(alloc)),
+    };
+    assert!(rt; signed_bytes(alloc, &unsigned)?.len() < 8_000_000);
+    Ok(seal(alloc, config, signer, Role::Replica, 1, unsigned.body)?)
+}
+
+#[test]
+fn a_sealed_prepare_has_one_part(rt: HostRuntime) -> Result<(), Fail> {
+    let alloc = rt.alloc();
+    let mut signer = Box::new(alloc, signer(alloc, [1; 16], [5; 32])?)?;
+    let config = config(alloc, &[signer.public_key(); 4], PublicKey::Lms([0; 56]))?;
+    let sealed = Box::new(alloc, sealed_prepare(&rt, alloc, &config, &mut signer)?)?;
+    assert!(rt; parts_of(alloc, &sealed)?.as_str() == "1:3 ");
     Ok(())
 }
