@@ -30,6 +30,7 @@ ten signature 2188 01 => Mismatch\n\
 5/5:0 => -\n\
 5/5:1023 => -\n\
 5/10:1024 => -\n\
+10/5:1024 => -\n\
 10/10 length 0 => Length\n\
 10/10 key 3 03 => WrongType\n\
 10/10 signature 3 00 => WrongType\n\

@@ -239,9 +239,18 @@ fn heights_5_and_5_to_the_end(rt: HostRuntime) -> Result<(), Fail> {
     Ok(())
 }
 
-/// The identifier and the seed of the case `5/10:1024`.
-const ACROSS: &str =
-    "5 10 5f030a95bfb844172579dd390947ff98 0ff810360b83d29a13e47e7f3c6f655876b0d8321dab2daed779b5a4914b90af 0000000200000005000000035f030a95bfb844172579dd390947ff98dc6245832ff70ada05db785342d5efa4d5c7625b645af0747925d4157c8aff9a";
+/// Cases whose signature is their signer's 1,025th, the first of another bottom tree: the case's name, and then what
+/// a line of `KEYS` has.
+const ACROSS: &str = "\
+5/10:1024 5 10 \
+5f030a95bfb844172579dd390947ff98 \
+0ff810360b83d29a13e47e7f3c6f655876b0d8321dab2daed779b5a4914b90af \
+0000000200000005000000035f030a95bfb844172579dd390947ff98dc6245832ff70ada05db785342d5efa4d5c7625b645af0747925d4157c8aff9a\n\
+10/5:1024 10 5 \
+000102030405060708090a0b0c0d0e0f \
+2222222222222222222222222222222222222222222222222222222222222222 \
+000000020000000600000003000102030405060708090a0b0c0d0e0f51284c545277537a0cc7352b07269b5925b8ee4bfd605703b08655e0820ae6ad\n\
+";
 
 /// Uses so many leaves of a signer.
 fn use_leaves(signer: &mut Signer, many: u32) -> Result<(), SignFault> {
@@ -256,13 +265,21 @@ fn signs_as(signer: &mut Signer, case: &Case) -> Result<bool, Fail> {
     Ok(signer.sign(&case.message)?.as_slice() == case.signature.as_slice())
 }
 
+/// Whether the 1,025th signature of a line's signer is its case's.
+fn changes_trees(alloc: Global, line: &str) -> Result<bool, Fail> {
+    let (name, rest) = halves(line);
+    let case = valid_case(alloc, name)?;
+    let (mut signer, key) = signer_of(alloc, rest)?;
+    let is_same_key = signer.public_key() == key && key == case.key;
+    use_leaves(&mut signer, 1024)?;
+    Ok(is_same_key && signs_as(&mut signer, &case)? && signer.next_leaf() == 1025)
+}
+
 #[test]
 fn heights_5_and_10_across_a_change_of_trees(rt: HostRuntime) -> Result<(), Fail> {
-    let case = valid_case(rt.alloc(), "5/10:1024")?;
-    let (mut signer, key) = signer_of(rt.alloc(), ACROSS)?;
-    assert!(rt; signer.public_key() == key && key == case.key);
-    use_leaves(&mut signer, 1024)?;
-    assert!(rt; signs_as(&mut signer, &case)? && signer.next_leaf() == 1025);
+    for line in ACROSS.lines() {
+        assert!(rt; changes_trees(rt.alloc(), line)?, "{line}");
+    }
     Ok(())
 }
 
