@@ -1,6 +1,6 @@
 -- What a client accepts is what the service answered.
 use Rattle.std.proofs.Common.{◌≡◌, ◌⊎◌, ℕ, zero, suc, ◌+◌, ◌-◌, ◌<◌, ◌≤◌, inl, inr, Bool, true, false, ◌&&◌, cond, List, [], ◌∷◌, ◌++◌, length, map, take, find, Option, Some, None, refl, sym, ap, subst, ◌∙◌, arith}
-use Rattle.std.specs.Prelude.{◌==◌, IsTrue, bytes_eq, nat_lt, is_none, is_some, slice_get}
+use Rattle.std.specs.Prelude.{◌==◌, IsTrue, bytes_eq, is_none, is_some, slice_get}
 use Rattle.std.specs.Option.{option_map}
 use Rattle.std.proofs.lemmas.Bool.{and_parts, eqb-true, false≢true, ltb-true, or_cases}
 use Rattle.std.proofs.lemmas.Option.{same_Some}
@@ -34,6 +34,7 @@ use Rattle.pbft_model.specs.Setup.{Setup, count, replicas, request_in}
 use Rattle.client_session.specs.Accepted.{AreReal, IsAnswered, IsReplyTo, after_offers}
 use Rattle.client_session.specs.Sessions.{SessionState, accepted_by, after_offer, answer_in, awaits, backers, has_said, is_vouched_answer, offered, reply_to, says}
 use Rattle.client_session.specs.declared.answer.Answer.{Answer}
+use Rattle.client_session.proofs.Hearing.{Same, offer_same, offers_same}
 use Rattle.client_session.proofs.LastReplies.{Point, answered_in, none_at_first, numbers_follow}
 
 -- ---- lists
@@ -94,24 +95,6 @@ pub record IsOffered (s : SessionState) (ms : List (Signed Body)) (a : Answer) :
   pub client_is : body.client.0 ≡ s.client.0
   pub time_is : body.time ≡ s.time
 
--- an offer keeps all but the answers
-abbrev Same : SessionState → SessionState → Type 0
-Same s t = (t.config ≡ s.config) × (t.client ≡ s.client) × (t.time ≡ s.time)
-
-offer_same : (s : SessionState) (replica : ℕ) (body : Body) → Same s (after_offer s replica body)
-offer_same s replica (bodies.Reply b) = split (awaits s b) where
-  split : (e : Bool) → Same s (cond e (record s { answers = s.answers ++ answer_in replica b ∷ [] }) s)
-  split true = (refl, refl, refl)
-  split false = (refl, refl, refl)
-offer_same s replica _ = (refl, refl, refl)
-
-offers_same : (s : SessionState) (ms : List (Signed Body)) → Same s (after_offers s ms)
-offers_same s [] = (refl, refl, refl)
-offers_same s (m ∷ ms) =
-    let first = offer_same s m.id m.body in
-    let rest = offers_same (offered s m) ms in
-    (rest.0 ∙ first.0, rest.1 ∙ first.1, rest.2 ∙ first.2)
-
 offer_adds : (s : SessionState) (m : Signed Body) (body : Body) (a : Answer) → m.body ≡ body → IsIn a (after_offer s m.id body).answers → IsIn a s.answers ⊎ IsOffered s (m ∷ []) a
 offer_adds s m (bodies.Reply b) a is at = split (awaits s b) refl at where
   split : (e : Bool) → awaits s b ≡ e → IsIn a (cond e (record s { answers = s.answers ++ answer_in m.id b ∷ [] }) s).answers → IsIn a s.answers ⊎ IsOffered s (m ∷ []) a
@@ -120,7 +103,7 @@ offer_adds s m (bodies.Reply b) a is at = split (awaits s b) refl at where
     | inl old ↦ inl old
     | inr (inr none) ↦ absurd none
     | inr (inl new) ↦
-        let open_one = and_parts (is_none (accepted_by s)) ((b.client.0 == s.client.0) && (b.time == s.time)) (and_parts (nat_lt 0 s.time) (is_none (accepted_by s) && ((b.client.0 == s.client.0) && (b.time == s.time))) e).1 in
+        let open_one = and_parts (is_none (accepted_by s)) ((b.client.0 == s.client.0) && (b.time == s.time)) (and_parts (is_some s.request) (is_none (accepted_by s) && ((b.client.0 == s.client.0) && (b.time == s.time))) e).1 in
         let fits = and_parts (b.client.0 == s.client.0) (b.time == s.time) open_one.1 in
         inr (record { message = m; among = inl refl; body = b; body_is = is; answer_is = new; client_is = eqb-true b.client.0 s.client.0 fits.0; time_is = eqb-true b.time s.time fits.1 })
   ]

@@ -1,4 +1,5 @@
 mod Accepting
+pub mod Hearing
 mod Signing
 mod LastReplies
 mod Rising

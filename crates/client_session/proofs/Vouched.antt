@@ -1,6 +1,6 @@
 -- One more answer: what was not vouched for before is now only if the answer says it.
 use Rattle.std.proofs.Common.{◌≡◌, ℕ, zero, suc, ◌+◌, Bool, true, false, ◌&&◌, ◌||◌, cond, List, [], ◌∷◌, ◌++◌, Option, Some, None, refl, sym, ap, subst, ◌∙◌, arith}
-use Rattle.std.specs.Prelude.{nat_lt, ◌==◌, bytes_eq, find, is_none}
+use Rattle.std.specs.Prelude.{nat_lt, ◌==◌, bytes_eq, find, is_none, is_some}
 use Rattle.std.specs.Option.{option_map}
 use Rattle.std.proofs.lemmas.Bool.{false≢true, and_parts, eqb-true}
 use Rattle.std.proofs.lemmas.List.Folds.{list_any-append}
@@ -164,7 +164,7 @@ repeats s a answers is none before =
 
 -- where a reply is awaited, none is accepted
 pub awaits-none : (s : SessionState) (b : ReplyBody) → awaits s b ≡ true → accepted_by s ≡ None
-awaits-none s b e = is_none-None (accepted_by s) (and_parts (is_none (accepted_by s)) ((b.client.0 == s.client.0) && (b.time == s.time)) (and_parts (nat_lt 0 s.time) (is_none (accepted_by s) && ((b.client.0 == s.client.0) && (b.time == s.time))) e).1).0 where
+awaits-none s b e = is_none-None (accepted_by s) (and_parts (is_none (accepted_by s)) ((b.client.0 == s.client.0) && (b.time == s.time)) (and_parts (is_some s.request) (is_none (accepted_by s) && ((b.client.0 == s.client.0) && (b.time == s.time))) e).1).0 where
   is_none-None : (o : Option Reply) → is_none o ≡ true → o ≡ None
   is_none-None None h = refl
   is_none-None (Some x) h = absurd (false≢true h)

@@ -22,6 +22,12 @@ abbrev pub after_offers : SessionState → List (Signed Body) → SessionState
 after_offers s [] = s
 after_offers s (m ∷ ms) = after_offers (offered s m) ms
 
+-- A session has come from another by offers of authentic messages.
+pub record HasHeard (s t : SessionState) : Type 0 where
+  pub messages : List (Signed Body)
+  pub authentic : (m : Signed Body) → IsIn m messages → IsAuthentic s.config m
+  pub is : t ≡ after_offers s messages
+
 -- The messages are authentic, and nobody forged: what names a correct replica as its signer, that one gave.
 pub record AreReal (c : Setup) (j : Journals) (ms : List (Signed Body)) : Type 0 where
   pub authentic : (m : Signed Body) → IsIn m ms → IsAuthentic c.config m

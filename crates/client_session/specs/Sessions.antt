@@ -1,7 +1,7 @@
 -- Statement: a client's session (Castro and Liskov 1999, section 4.1): the requests that it makes, and the
 -- reply that it accepts.
 use Rattle.std.proofs.Common.{zero, suc}
-use Rattle.std.specs.Prelude.{◌≡◌, ℕ, ◌+◌, ◌++◌, ◌==◌, Bool, ◌&&◌, cond, nat_lt, List, [], ◌∷◌, find, Option, Some, is_none, bytes_eq, if◌then◌else◌}
+use Rattle.std.specs.Prelude.{◌≡◌, ℕ, ◌+◌, ◌++◌, ◌==◌, Bool, ◌&&◌, cond, nat_lt, List, [], ◌∷◌, find, Option, Some, None, is_none, is_some, bytes_eq, if◌then◌else◌}
 use Rattle.std.specs.List.{list_any}
 use Rattle.std.specs.Option.{option_map}
 use Rattle.host_types.specs.Configuration.{Configuration, replicas_for}
@@ -24,10 +24,16 @@ pub record SessionState : Type 0 where
   pub config : Configuration
   pub client : ClientId
   pub signer : SigningState
-  -- the time of the last request: 0 before the first
+  -- the time of the last request; before the first, the time that it goes on behind, which is 0 for a new client
   pub time : ℕ
   -- what was replied to the open request, in the order of the offers, until a reply was accepted
   pub answers : List Answer
+  -- the last request that was made, which is open until a reply is accepted
+  pub request : Option (Signed Body)
+
+-- a session that has made no request, and whose first one has the time behind this one
+abbrev pub session_behind : Configuration → ClientId → SigningState → ℕ → SessionState
+session_behind config client signer time = record { config = config; client = client; signer = signer; time = time; answers = []; request = None }
 
 -- The session's signer has the key that is listed for the client.
 pub record MaySign (s : SessionState) : Type 0 where
@@ -44,9 +50,9 @@ request_of s op = bodies.Request (record { time = s.time + 1; op = op })
 abbrev pub next_request : SessionState → List ℕ → Signed Body
 next_request s op = sealed_message s.signer Client s.client.0 (request_of s op)
 
--- a session that has made a request, with this signer then
-abbrev pub asked : SessionState → SigningState → SessionState
-asked s signer = record s { signer = signer; time = s.time + 1; answers = [] }
+-- a session that has made the request of an operation, with this signer then
+abbrev pub asked : SessionState → List ℕ → SigningState → SessionState
+asked s op signer = record s { signer = signer; time = s.time + 1; answers = []; request = Some (next_request s op) }
 
 -- ---- replies
 
@@ -79,7 +85,7 @@ accepted_by s = option_map (reply_to s) (find (is_vouched_answer s.config.f s.an
 
 -- It is a reply to the open request, and none is accepted yet.
 abbrev pub awaits : SessionState → ReplyBody → Bool
-awaits s b = nat_lt 0 s.time && (is_none (accepted_by s) && ((b.client.0 == s.client.0) && (b.time == s.time)))
+awaits s b = is_some s.request && (is_none (accepted_by s) && ((b.client.0 == s.client.0) && (b.time == s.time)))
 
 abbrev pub answer_in : ℕ → ReplyBody → Answer
 answer_in replica b = record { replica = replica; number = b.number; result = b.result }

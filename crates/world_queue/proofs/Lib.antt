@@ -1,3 +1,4 @@
 mod Clients
+pub use Rattle.client_session.proofs.Hearing
 pub mod Lists
 mod Parties

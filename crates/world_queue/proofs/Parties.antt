@@ -38,13 +38,13 @@ by_leaf old new client op x b made is r =
     subst (λ (c : Bool). RequestsBy (if c then None else Some x) old client op new made) (sym is) r
 
 pub asks : (old new : List SessionState) (client : ClientId) (op : List ℕ) (i : ℕ) (x : SessionState) (m : CheckedMessage) → position (is_of client) old ≡ Some i → x ≡ get_or old i x
-    → (x.signer.next_leaf ≡ leaf_count x.signer → ⊥) → m.message ≡ next_request x op → new ≡ set old i (asked x (after_signing x.signer)) → Requests old client op new (Some m)
+    → (x.signer.next_leaf ≡ leaf_count x.signer → ⊥) → m.message ≡ next_request x op → new ≡ set old i (asked x op (after_signing x.signer)) → Requests old client op new (Some m)
 asks old new client op i x m at read can next is =
     subst (λ (o : Option SessionState). RequestsBy (if_it_signs (λ (x : SessionState). x.signer) o) old client op new (Some m))
     (sym (found_at (is_of client) old i x at read))
     (by_leaf old new client op x false (Some m) (signs x.signer can) (
       record { message = m; is = refl; next = next },
-      is ∙ changes_first (is_of client) after_asking old i x at read,
+      is ∙ changes_first (is_of client) (after_asking op) old i x at read,
     ))
 
 pub asks_exhausted : (old new : List SessionState) (client : ClientId) (op : List ℕ) (i : ℕ) (x : SessionState) → position (is_of client) old ≡ Some i → x ≡ get_or old i x

@@ -4,7 +4,7 @@ use Rattle.host_types.specs.Configuration.{Configuration}
 use Rattle.host_types.specs.declared.ClientId.{ClientId}
 use Rattle.host_types.specs.declared.config.ClientEntry.{ClientEntry}
 use Rattle.lms_tree.specs.SigningState.{SigningState}
-use Rattle.client_session.specs.Sessions.{SessionState, next_request}
+use Rattle.client_session.specs.Sessions.{SessionState, next_request, session_behind}
 use Rattle.seal.specs.Opening.{CheckedMessage}
 use Rattle.seal.specs.declared.fault.SealFault.{SealFault}
 use Rattle.script_text.specs.declared.script.Filter.{Filter}
@@ -23,7 +23,7 @@ pub record IsRequestOf (session : SessionState) (op : List ℕ) (made : Option C
 
 abbrev pub RequestsBy : Option SessionState → List SessionState → ClientId → List ℕ → List SessionState → Option CheckedMessage → Type 0
 RequestsBy None old client op new made = (made ≡ None) × (new ≡ old)
-RequestsBy (Some session) old client op new made = IsRequestOf session op made × (new ≡ at_first (is_of client) after_asking old)
+RequestsBy (Some session) old client op new made = IsRequestOf session op made × (new ≡ at_first (is_of client) (after_asking op) old)
 
 -- A client asks for an operation, unless it can't sign.
 abbrev pub Requests : List SessionState → ClientId → List ℕ → List SessionState → Option CheckedMessage → Type 0
@@ -60,7 +60,7 @@ pub record IsTaken (f : Filter) (passed : ℕ) (old : List LetterFacts) (letter 
 
 -- a client's session before its first request, which signs by this signer
 abbrev pub fresh_session : Configuration → ClientEntry → SigningState → SessionState
-fresh_session c e s = record { config = c; client = e.id; signer = s; time = 0; answers = [] }
+fresh_session c e s = session_behind c e.id s 0
 
 abbrev pub fresh_sessions : Configuration → List ClientEntry → List SigningState → List SessionState
 fresh_sessions c [] ss = []

@@ -43,8 +43,8 @@ if_it_signs signer (Some x) = if has_no_leaf (signer x) then None else Some x
 abbrev pub is_of : ClientId → SessionState → Bool
 is_of client s = s.client.0 == client.0
 
-abbrev pub after_asking : SessionState → SessionState
-after_asking session = asked session (after_signing session.signer)
+abbrev pub after_asking : List ℕ → SessionState → SessionState
+after_asking op session = asked session op (after_signing session.signer)
 
 -- the session of a client that can still sign
 abbrev pub signing_session : List SessionState → ClientId → Option SessionState

@@ -1,7 +1,7 @@
 -- The entries of a head's clients, with their keys and without.
 use Rattle.std.proofs.Common.{◌≡◌, List, [], ◌∷◌, map, refl, ap}
 use Rattle.host_types.specs.Configuration.{Configuration}
-use Rattle.world_queue.specs.Sessions.{SessionState}
+use Rattle.world_queue.specs.Sessions.{SessionState, session_behind}
 use Rattle.world_queue.specs.Effects.{fresh_sessions}
 use Rattle.host_types.specs.declared.config.ClientEntry.{ClientEntry}
 use Rattle.host_types.specs.declared.key.PublicKey.{PublicKey}
@@ -21,7 +21,7 @@ their_keys h (c ∷ cs) = ap (λ (ks : List PublicKey). key_of (client_signer h 
 -- ---- sessions
 
 abbrev session_under : Configuration → HeadFacts → Client → SessionState
-session_under g h c = record { config = g; client = c.id; signer = client_signer h c; time = 0; answers = [] }
+session_under g h c = session_behind g c.id (client_signer h c) 0
 
 pub sessions_of : (g : Configuration) (h : HeadFacts) (cs : List Client) → fresh_sessions g (map (entry_of h) cs) (map (client_signer h) cs) ≡ map (session_under g h) cs
 sessions_of g h [] = refl

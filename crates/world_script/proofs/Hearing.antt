@@ -6,7 +6,6 @@ use Rattle.host_types.specs.Configuration.{Configuration, replicas_for}
 use Rattle.host_types.specs.declared.ClientId.{ClientId}
 use Rattle.host_types.specs.declared.ReplicaId.{ReplicaId}
 use Rattle.pbft_codec.specs.declared.body.Body.{Body}
-use Rattle.pbft_codec.specs.declared.body.Body.TheVariants as bodies
 use Rattle.codec_fields.specs.declared.fault.CodecFault.{CodecFault}
 use Rattle.pbft_codec.specs.declared.signed.Signed.{Signed}
 use Rattle.pbft_codec.specs.Reading.{reading}
@@ -23,8 +22,7 @@ use Rattle.byz_world.specs.Worlds as worlds
 use Rattle.byz_world.specs.Worlds.{Answer, Comes, Forwards, Gives, Hands, MemberFacts, Passes as PassesBy, Where, WorldFacts, member_of, output_of}
 use Rattle.byz_world.specs.declared.event.Event.{Event}
 use Rattle.byz_world.specs.declared.event.Event.TheVariants as events
-use Rattle.world_queue.specs.Accepted.{after_offers}
-use Rattle.world_queue.specs.Sessions.{SessionState, after_offer as after_offer_of, awaits, answer_in, offered}
+use Rattle.world_queue.specs.Sessions.{SessionState, offered}
 use Rattle.script_text.specs.Client.{Client}
 use Rattle.script_text.specs.declared.script.Filter.{Filter}
 use Rattle.script_text.specs.declared.script.Forgery.{Forgery}
@@ -46,6 +44,7 @@ use Rattle.world_script.specs.Scripts.{Plays}
 use Rattle.world_script.specs.Facts.{StageFacts}
 use Rattle.world_script.specs.Stages.{AllTimeOut, Deliveries, Delivers, HandsTo, Occurs, Prints, Receives, TimesOut, Turn, at_client, forged_body, forged_by, forged_for, is_running, message_of, quiet, requested_by, with_named, with_queue}
 use Rattle.world_queue.specs.Parties.{after_asking, at_first, is_of, signing_forger, signing_session}
+use Rattle.world_queue.proofs.Hearing.{heard_more, heard_none, offer_same}
 use Rattle.world_script.specs.Starts.{session_for, start_of}
 
 -- ---- an event keeps the configuration
@@ -105,34 +104,17 @@ opened_authentic c bytes x is = verified_authentic c (reading bytes) x is
 
 -- ---- one session
 
-offer_config : (s : SessionState) (replica : ℕ) (body : Body) → (after_offer_of s replica body).config ≡ s.config
-offer_config s replica (bodies.Reply b) = split (awaits s b) where
-  split : (e : Bool) → (cond e (record s { answers = s.answers ++ answer_in replica b ∷ [] }) s).config ≡ s.config
-  split true = refl
-  split false = refl
-offer_config s replica _ = refl
-
-offers_more : (s : SessionState) (ms : List (Signed Body)) (m : Signed Body) → after_offers s (ms ++ m ∷ []) ≡ offered (after_offers s ms) m
-offers_more s [] m = refl
-offers_more s (x ∷ ms) m = offers_more (offered s x) ms m
-
-one_more : (c : Configuration) (ms : List (Signed Body)) (m : Signed Body) → AllByRecursion (IsAuthentic c) ms → IsAuthentic c m → AllByRecursion (IsAuthentic c) (ms ++ m ∷ [])
-one_more c [] m all one = (one, tt)
-one_more c (x ∷ ms) m all one = (all.0, one_more c ms m all.1 one)
-
 heard_offer : (c : Configuration) (m : Signed Body) → IsAuthentic c m → (x : SessionState) → HasHeard c x → HasHeard c (offered x m)
 heard_offer c m authentic x h = record {
-  config = offer_config x m.id m.body ∙ h.config;
+  config = (offer_same x m.id m.body).0 ∙ h.config;
   asking = h.asking;
   under = h.under;
   fresh = h.fresh;
-  messages = h.messages ++ m ∷ [];
-  authentic = one_more c h.messages m h.authentic authentic;
-  is = ap (λ (y : SessionState). offered y m) h.is ∙ sym (offers_more h.asking h.messages m);
+  heard = heard_more h.asking x m h.heard (subst (λ (k : Configuration). IsAuthentic k m) (sym h.under) authentic);
 }
 
 heard_fresh : (c : Configuration) (x : SessionState) → x.config ≡ c → x.answers ≡ [] → HasHeard c x
-heard_fresh c x config fresh = record { config = config; asking = x; under = config; fresh = fresh; messages = []; authentic = tt; is = refl }
+heard_fresh c x config fresh = record { config = config; asking = x; under = config; fresh = fresh; heard = heard_none x }
 
 -- ---- all sessions
 
@@ -200,7 +182,7 @@ requested_hears : (c : Configuration) (s : StageFacts) (o : Order) (session : Op
 requested_hears c s o None h = h
 requested_hears c s o (Some session) h = record {
   config = h.config;
-  heard = at_first_heard c (is_of o.client) after_asking s.sessions (λ x heard. heard_fresh c (after_asking x) heard.config refl) h.heard;
+  heard = at_first_heard c (is_of o.client) (after_asking o.op) s.sessions (λ x heard. heard_fresh c (after_asking o.op x) heard.config refl) h.heard;
 }
 
 forged_hears : (c : Configuration) (s : StageFacts) (f : Forgery) (body : Body) (g : Option Forger) → Hears c s → Hears c (forged_by s f body g).1

@@ -4,13 +4,10 @@ use Rattle.std.specs.List.{AllByRecursion}
 use Rattle.host_types.specs.Configuration.{Configuration}
 use Rattle.host_types.specs.declared.ReplicaId.{ReplicaId}
 use Rattle.lms_tree.specs.SigningState.{SigningState}
-use Rattle.pbft_codec.specs.declared.body.Body.{Body}
-use Rattle.pbft_codec.specs.declared.signed.Signed.{Signed}
-use Rattle.seal.specs.Signers.{IsAuthentic}
 use Rattle.byz_world.specs.Leading.{IsSoundWorld}
 use Rattle.byz_world.specs.Worlds.{Runs, first_world}
 use Rattle.byz_world.specs.declared.event.Event.{Event}
-use Rattle.world_queue.specs.Accepted.{after_offers}
+use Rattle.world_queue.specs.Accepted.{HasHeard as HasHeardSince}
 use Rattle.world_queue.specs.Sessions.{SessionState}
 use Rattle.script_text.specs.Heads.{HeadFacts}
 use Rattle.script_text.specs.declared.script.NamedStep.{NamedStep}
@@ -48,15 +45,13 @@ pub record Passes (script : Script) (t : StageFacts) : Type 0 where
 abbrev pub correct_signers : HeadFacts → List SigningState
 correct_signers h = correct_from (is_faulty h) 0 (replica_signers h)
 
--- A session made its open request, or none yet, and was then offered these messages, which all opened.
+-- A session made its open request, or none yet, and was then offered messages, which all opened.
 pub record HasHeard (c : Configuration) (x : SessionState) : Type 0 where
   pub config : x.config ≡ c
   pub asking : SessionState
   pub under : asking.config ≡ c
   pub fresh : asking.answers ≡ []
-  pub messages : List (Signed Body)
-  pub authentic : AllByRecursion (IsAuthentic c) messages
-  pub is : x ≡ after_offers asking messages
+  pub heard : HasHeardSince asking x
 
 -- Events lead to the stage's world from the head's first one, none of them refused; and the world is sound. Each session
 -- has heard authentic messages.

@@ -74,7 +74,7 @@ made_by client session op = record {
 
 abbrev pub with_request : StageFacts → Order → SessionState → StageFacts
 with_request s o session = record s {
-  sessions = at_first (is_of o.client) after_asking s.sessions;
+  sessions = at_first (is_of o.client) (after_asking o.op) s.sessions;
   made = s.made ++ made_by o.client session o.op ∷ [];
   queue = s.queue ++ copies (letter_of (Client o.client) (next_request session o.op)) (receivers s.world.config o.to);
 }

@@ -5,7 +5,7 @@ use Rattle.std.specs.Ordering.{nat_cmp}
 use Rattle.host_types.specs.declared.ReplicaId.{ReplicaId}
 use Rattle.lms_tree.specs.SigningState.{SigningState}
 use Rattle.byz_world.specs.Worlds.{first_world}
-use Rattle.world_queue.specs.Sessions.{SessionState}
+use Rattle.world_queue.specs.Sessions.{SessionState, session_behind}
 use Rattle.script_text.specs.Heads.{HeadFacts}
 use Rattle.script_text.specs.Client.{Client}
 use Rattle.world_queue.specs.declared.forging.Forger.{Forger}
@@ -27,7 +27,7 @@ forgers_from faulty i (s ∷ ss) =
 
 -- a client's session before its first request
 abbrev pub session_for : HeadFacts → Client → SessionState
-session_for h c = record { config = configuration_of h; client = c.id; signer = client_signer h c; time = 0; answers = [] }
+session_for h c = session_behind (configuration_of h) c.id (client_signer h c) 0
 
 -- A world before its first event, fresh sessions, and nothing on its way.
 abbrev pub start_of : HeadFacts → StageFacts
