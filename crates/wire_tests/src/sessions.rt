@@ -1,6 +1,7 @@
 //! A session of client 16: its requests, and the replies that it accepts.
 
-ghost use Rattle.std.specs.Prelude.{◌≡◌, ◌<◌, IfOk};
+ghost use Rattle.std.specs.Prelude.{◌≡◌, ◌^◌, ◌<◌, ◌≤◌, IfOk};
+ghost use Rattle.std.specs.Option.{ForSome};
 
 use crate::replies::{Fields, config, fields_of, reply, signer, signers};
 use client_session::{Session, SessionFault};
@@ -12,13 +13,24 @@ use std::alloc::Global;
 use std::sync::Arc;
 use std::test::Fail;
 
-/// The session of client 16 before its first request, where the signer has the key that is listed for it.
-fn session(alloc: Global, config: &Arc<Config>, signer: Signer) -> Result<Box<Session>, Fail>
+/// The session of client 16 before its first request, where the signer has the key that is listed for it:
+/// a new one, or one that goes on behind a time.
+fn session(
+    alloc: Global,
+    config: &Arc<Config>,
+    signer: Signer,
+    behind: Option<u64>,
+) -> Result<Box<Session>, Fail>
+    requires { ForSome behind (λ time. time ≤ 2 ^ 63) }
     ensures { IfOk result (λ s. s.value.config ≡ config.now.value) }
 {
-    match config.client(ClientId(16)) {
+    let client = ClientId(16);
+    match config.client(client) {
         Some(entry) if entry.key == signer.public_key() => {
-            let session = Session::new(alloc, config, ClientId(16), signer)?;
+            let session = match behind {
+                None => Session::new(alloc, config, client, signer)?,
+                Some(time) => Session::resume(alloc, config, client, signer, time)?,
+            };
             Ok(Box::new(alloc, session)?)
         }
         _ => Err(Fail::new("not the client's key")),
@@ -122,14 +134,18 @@ const LATER: &str = "\
 2 0 16 2 5 8 => accepted\n\
 ";
 
-/// The replicas' signers, the configuration and the session.
-fn parties(alloc: Global) -> Result<(Vec<Signer>, Arc<Config>, Box<Session>), Fail>
+/// The replicas' signers, the configuration and the session, a new one or one that goes on behind a time.
+fn parties(
+    alloc: Global,
+    behind: Option<u64>,
+) -> Result<(Vec<Signer>, Arc<Config>, Box<Session>), Fail>
+    requires { ForSome behind (λ time. time ≤ 2 ^ 63) }
     ensures { IfOk result (λ r. r.2.value.config ≡ r.1.value) }
 {
     let replicas = signers(alloc)?;
     let signer = signer(alloc, 16)?;
     let config = config(alloc, &replicas, signer.public_key())?;
-    let session = session(alloc, &config, signer)?;
+    let session = session(alloc, &config, signer, behind)?;
     Ok((replicas, config, session))
 }
 
@@ -157,7 +173,7 @@ fn accepts_two_of_four(
 
 #[test]
 fn what_2_replicas_reply_is_accepted(rt: HostRuntime) -> Result<(), Fail> {
-    let (mut replicas, config, mut session) = parties(rt.alloc())?;
+    let (mut replicas, config, mut session) = parties(rt.alloc(), None)?;
     assert!(rt; accepts_two_of_four(rt.alloc(), &config, &mut replicas, &mut session)?);
     Ok(())
 }
@@ -195,7 +211,54 @@ fn stays_open(
 
 #[test]
 fn a_refused_request_leaves_the_open_one(rt: HostRuntime) -> Result<(), Fail> {
-    let (mut replicas, config, mut session) = parties(rt.alloc())?;
+    let (mut replicas, config, mut session) = parties(rt.alloc(), None)?;
     assert!(rt; stays_open(rt.alloc(), &config, &mut replicas, &mut session)?);
+    Ok(())
+}
+
+/// Replies to the request of time 7, which another session of the client made.
+const EARLIER: &str = "\
+0 0 16 7 5 7 => -\n\
+1 0 16 7 5 7 => -\n\
+";
+
+/// Such replies that still come behind the request of time 8, and replies to this one.
+const RESUMED: &str = "\
+2 0 16 7 5 7 => -\n\
+3 0 16 7 5 7 => -\n\
+2 0 16 8 5 7 => -\n\
+3 0 16 8 5 7 => accepted\n\
+";
+
+/// Whether the session's last request is this one.
+fn is_last(session: &Session, request: &Checked) -> bool {
+    match session.last_request() {
+        Some(last) => last.bytes() == request.bytes(),
+        None => false,
+    }
+}
+
+/// Whether a session that goes on behind time 7 makes the request of time 8 and keeps it, and accepts what
+/// is replied to it alone.
+fn goes_on_behind_7(
+    alloc: Global,
+    config: &Arc<Config>,
+    replicas: &mut [Signer],
+    session: &mut Session,
+) -> Result<bool, Fail>
+    requires { session.old.config ≡ config.now.value }
+{
+    let is_first = session.last_request().is_none();
+    let is_earlier = answers(alloc, config, replicas, session, &EARLIER)?;
+    let request = ask(alloc, session)??;
+    let is_next = is_request(&request, 8) && is_last(session, &request);
+    let is_resumed = answers(alloc, config, replicas, session, &RESUMED)?;
+    Ok(is_first && is_earlier && is_next && is_resumed && is_last(session, &request))
+}
+
+#[test]
+fn a_session_goes_on_behind_a_time(rt: HostRuntime) -> Result<(), Fail> {
+    let (mut replicas, config, mut session) = parties(rt.alloc(), Some(7))?;
+    assert!(rt; goes_on_behind_7(rt.alloc(), &config, &mut replicas, &mut session)?);
     Ok(())
 }
