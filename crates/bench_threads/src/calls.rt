@@ -4,23 +4,20 @@ ghost use Rattle.std.specs.Prelude.{◌≡◌, IfOk};
 ghost use Rattle.std.specs.List.{All};
 
 use anyhow::{Result, anyhow};
-use bench_common::members::{FIRST_CLIENT, config, signers};
+use bench_common::members::{FIRST_CLIENT, config, signers, signers_of_levels};
 use bench_common::operations::{PUT, call as call_of, installation, large_code, put};
 use bench_common::{Measures, NoGate};
-use host_client::{Host, Row, Session, SessionFault, call};
+use host_client::{Host, Row, Session, call, call_or_idle};
 use host_types::{Bytes, ClientId, Config, ReplicaId};
 use lms_tree::{Height, Signer};
 use std::alloc::Global;
 use std::sync::{Arc, Wait};
 use std::thread;
 use std::thread::Threads;
-use std::time::Instant;
+use std::time::{Clock, Instant};
 
 /// The replicas where one may be faulty.
 pub(crate) const REPLICAS: u8 = 4;
-
-/// The interval between checkpoints.
-const INTERVAL: u8 = 8;
 
 /// The rows that a journal has room for.
 const MAX_ROWS: u32 = 65_536;
@@ -53,10 +50,12 @@ impl Work {
 }
 
 /// Clients that call at the same time, the tenants that they are of in turn, how often each calls and for
-/// what, and the openers of each replica.
+/// what, the openers of each replica, and the interval between checkpoints.
 #[derive(Clone, Copy)]
 pub(crate) struct Setup {
+    /// Of the keys of one tree, the clients'; and the replicas', unless these are of two levels.
     pub(crate) height: Height,
+    pub(crate) interval: u8,
     pub(crate) clients: u8,
     pub(crate) tenants: u8,
     pub(crate) calls: u32,
@@ -78,7 +77,7 @@ pub(crate) struct Run {
 struct Caller {
     host: Arc<Host>,
     session: Session,
-    ghost same: { session.config ≡ host.value },
+    ghost same: { session.config ≡ host.value.config },
 }
 
 impl Caller {
@@ -108,6 +107,25 @@ impl Caller {
         }
     }
 
+    /// Calls as often as is set, while a reply may come. Whether each call was answered.
+    fn call_while_it_goes<R: Wait + Clock>(
+        &mut self,
+        rt: &R,
+        alloc: Global,
+        setup: Setup,
+    ) -> Result<bool> {
+        for number in 0..setup.calls {
+            let op = Bytes::from_vec(setup.work.call(alloc, number)?);
+            if op.as_slice().len() > 1_048_576 {
+                return Err(anyhow!("the operation is too long"));
+            }
+            if call_or_idle(rt, alloc, &self.host, &mut self.session, op).is_err() {
+                return Ok(false);
+            }
+        }
+        Ok(true)
+    }
+
     /// Calls as often as is set.
     fn call_all<R: Wait>(&mut self, rt: &R, alloc: Global, setup: Setup) -> Result<()> {
         for number in 0..setup.calls {
@@ -125,6 +143,9 @@ fn start_host<R: Threads + Wait + Copy + Send + Sync + Drop + 'static>(
     replicas: Vec<Signer>,
     openers: u8,
 ) -> Result<Arc<Host>> {
+    if openers == 0 || openers > 4 {
+        return Err(anyhow!("a replica has 1 to 4 openers"));
+    }
     let gate = Arc::new(alloc, NoGate)?;
     let host = Host::start(rt, alloc, config, replicas, MAX_ROWS, openers, gate)?;
     Ok(Arc::new(alloc, host)?)
@@ -156,9 +177,19 @@ fn start<R: Threads + Wait + Copy + Send + Sync + Drop + 'static>(
     setup: Setup,
 ) -> Result<(Arc<Host>, Vec<Caller>)> {
     let replicas = signers(alloc, setup.height, 0, REPLICAS)?;
+    start_with(rt, alloc, setup, replicas)
+}
+
+/// Starts a host of replicas with these signers and its clients, likewise.
+fn start_with<R: Threads + Wait + Copy + Send + Sync + Drop + 'static>(
+    rt: &R,
+    alloc: Global,
+    setup: Setup,
+    replicas: Vec<Signer>,
+) -> Result<(Arc<Host>, Vec<Caller>)> {
     let clients = signers(alloc, setup.height, FIRST_CLIENT, setup.clients)?;
     let tenants = u32::from(setup.tenants);
-    let config = config(alloc, 1, INTERVAL, &replicas, &clients, tenants)?;
+    let config = config(alloc, 1, setup.interval, &replicas, &clients, tenants)?;
     let host = start_host(rt, alloc, &config, replicas, setup.openers)?;
     let mut callers = callers_of(alloc, &host, clients)?;
     install(rt, alloc, setup, &mut callers)?;
@@ -208,4 +239,28 @@ pub(crate) fn measure<R: Measures + Threads + Wait + Copy + Send + Sync + Drop +
         nanoseconds,
         journals,
     })
+}
+
+/// Whether all calls of a host are answered, whose replicas' keys are of two levels and whose clients call at the same time;
+/// and its journals.
+pub(crate) fn goes_on<
+    R: Clock + AllocGlobal + Threads + Wait + Copy + Send + Sync + Drop + 'static,
+>(rt: &R, setup: Setup) -> Result<(bool, Vec<(ReplicaId, Vec<Row>)>)> {
+    let alloc = rt.alloc();
+    let replicas = signers_of_levels(alloc, REPLICAS)?;
+    let (host, callers) = start_with(rt, alloc, setup, replicas)?;
+    let mut crew = Vec::new(alloc);
+    for caller in callers {
+        let rt = *rt;
+        let job = move || {
+            let mut caller = caller;
+            matches!(caller.call_while_it_goes(&rt, alloc, setup), Ok(true))
+        };
+        crew.push(thread::spawn(&rt, job)?)?;
+    }
+    let mut all = true;
+    while let Some(thread) = crew.pop() {
+        all = thread.join(rt) && all;
+    }
+    Ok((all, host.close(rt)?))
 }

@@ -21,6 +21,7 @@ pub(crate) fn print_memory<
 >(rt: &R) -> Result<()> {
     let setup = Setup {
         height: Height::H10,
+        interval: 8,
         clients: 1,
         tenants: 1,
         calls: REQUESTS - 1,

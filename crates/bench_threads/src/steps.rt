@@ -123,6 +123,8 @@ fn nanoseconds_at<K: Named, R: Measures + Wait + Threads + Sync>(
     requires id { 1 ≡ K.id }
     requires replica { 1 < replicas_for config.now.value.f }
     requires key { IsSomeAnd (key_of config.now.value roles.Replica 1) (λ key. IsKeyOf key signer) }
+    requires signer { signer ≡ K.signer }
+    requires limit { 65536 ≡ K.limit }
 {
     let (station, seat) = Station::<K>::new(rt.alloc(), blank, config, BACKUP, signer, 65_536)?;
     let mut seat = seat;

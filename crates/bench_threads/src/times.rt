@@ -32,6 +32,7 @@ const ROUNDS: u32 = 5;
 fn host_of(clients: u8, openers: u8) -> Setup {
     Setup {
         height: Height::H10,
+        interval: 8,
         clients,
         tenants: 1,
         calls: REQUESTS / u32::from(clients).max(1),
@@ -163,6 +164,7 @@ pub(crate) fn print_small<R: Measures + Threads + Wait + Copy + Send + Sync + Dr
 ) -> Result<()> {
     let setup = Setup {
         height: Height::H5,
+        interval: 8,
         clients: 1,
         tenants: 1,
         calls: 2,

@@ -10,6 +10,7 @@ use std::io::Write;
 use std::rt::Files;
 use std::sync::Wait;
 use std::thread::Threads;
+use std::time::Clock;
 use std::{fs, io};
 use thiserror::Error;
 
@@ -54,7 +55,7 @@ struct Ending {
 /// Runs the scripts and rows of a folder, by their names ascending. Writes a line for each run that comes to something else,
 /// and at the end how many passed and failed.
 pub(crate) fn check<
-    R: Files + AllocGlobal + Threads + Wait + Copy + Send + Sync + Drop + 'static,
+    R: Files + AllocGlobal + Threads + Wait + Clock + Copy + Send + Sync + Drop + 'static,
     O: Write,
 >(rt: &R, folder: &str, writer: &mut O) -> Result<(), Failure> {
     let mut counts = Counts::default();
@@ -142,7 +143,7 @@ fn shown_by(name: &str) -> Option<(&str, &'static [&'static str])> {
 
 /// Runs a script and compares what it prints.
 fn check_script<
-    R: Files + AllocGlobal + Threads + Wait + Copy + Send + Sync + Drop + 'static,
+    R: Files + AllocGlobal + Threads + Wait + Clock + Copy + Send + Sync + Drop + 'static,
     O: Write,
 >(
     rt: &R,
@@ -177,7 +178,7 @@ fn wanted_of<R: Files + AllocGlobal>(
 
 /// Runs the rows of a file, one after another, and compares what they print and their status.
 fn check_rows<
-    R: Files + AllocGlobal + Threads + Wait + Copy + Send + Sync + Drop + 'static,
+    R: Files + AllocGlobal + Threads + Wait + Clock + Copy + Send + Sync + Drop + 'static,
     O: Write,
 >(rt: &R, folder: &str, name: &str, counts: &mut Counts, writer: &mut O) -> Result<(), Failure> {
     let text = text_of(rt, folder, name)?;
@@ -194,7 +195,7 @@ fn check_rows<
 
 /// Runs a row, and returns whether it came to what it is to.
 fn check_row<
-    R: Files + AllocGlobal + Threads + Wait + Copy + Send + Sync + Drop + 'static,
+    R: Files + AllocGlobal + Threads + Wait + Clock + Copy + Send + Sync + Drop + 'static,
     O: Write,
 >(rt: &R, name: &str, number: u32, line: &str, writer: &mut O) -> Result<bool, Failure> {
     let alloc = rt.alloc();
@@ -224,11 +225,10 @@ fn check_row<
 }
 
 /// Runs the program's words over an input.
-fn ending_of<'a, R: Files + AllocGlobal + Threads + Wait + Copy + Send + Sync + Drop + 'static>(
-    rt: &R,
-    words: &'a [&'a str],
-    input: &[u8],
-) -> Ending {
+fn ending_of<
+    'a,
+    R: Files + AllocGlobal + Threads + Wait + Clock + Copy + Send + Sync + Drop + 'static,
+>(rt: &R, words: &'a [&'a str], input: &[u8]) -> Ending {
     let mut reader = input;
     let mut output = Vec::new(rt.alloc());
     let mut errors = Vec::new(rt.alloc());

@@ -11,7 +11,7 @@ use crate::worlds::{explore, explore_command, has_file, play, world_command};
 use clap::error::ErrorKind;
 use clap::{Arg, ArgAction, ArgMatches, Command, value_parser};
 use code_commands::{Profile, asm, disasm, exec, verify};
-use host_script::{Audited, Progress, Unwatched, run_threads};
+use host_script::{Audited, Progress, Unwatched, run_threads_watched};
 use host_types::ClientId;
 use script_hints::keys_help;
 use std::alloc::{AllocError, Global};
@@ -19,6 +19,7 @@ use std::io::{self, Read, Write};
 use std::rt::Files;
 use std::sync::Wait;
 use std::thread::Threads;
+use std::time::Clock;
 
 /// The program's version.
 const VERSION: &str = "1.0.0";
@@ -54,7 +55,7 @@ Status: 0 done, 1 refused, 2 a fault of the command line, 3 out of memory, 4 a r
 /// lines, faults too, go to the writer. `run` waits until its requests are executed.
 pub fn run_command<
     'a,
-    R: Files + AllocGlobal + Threads + Wait + Copy + Send + Sync + Drop + 'static,
+    R: Files + AllocGlobal + Threads + Wait + Clock + Copy + Send + Sync + Drop + 'static,
     I: Read,
     O: Write,
 >(rt: &R, words: &'a [&'a str], reader: &mut I, writer: &mut O) -> u8
@@ -68,7 +69,7 @@ pub fn run_command<
 /// can't be written there is lost.
 pub fn run_explained<
     'a,
-    R: Files + AllocGlobal + Threads + Wait + Copy + Send + Sync + Drop + 'static,
+    R: Files + AllocGlobal + Threads + Wait + Clock + Copy + Send + Sync + Drop + 'static,
     I: Read,
     O: Write,
     E: Write,
@@ -92,7 +93,7 @@ pub fn run_explained<
 /// Does the same as a run of a folder: `check`, and `explore` with a file, are faults of the command line there.
 pub(crate) fn run_in_folder<
     'a,
-    R: Files + AllocGlobal + Threads + Wait + Copy + Send + Sync + Drop + 'static,
+    R: Files + AllocGlobal + Threads + Wait + Clock + Copy + Send + Sync + Drop + 'static,
     I: Read,
     O: Write,
     E: Write,
@@ -218,7 +219,7 @@ fn check_command<'a>(alloc: Global) -> Result<Command<'a>, AllocError> {
 
 fn dispatch<
     'a,
-    R: Files + AllocGlobal + Threads + Wait + Copy + Send + Sync + Drop + 'static,
+    R: Files + AllocGlobal + Threads + Wait + Clock + Copy + Send + Sync + Drop + 'static,
     I: Read,
     O: Write,
     P: Progress,
@@ -241,7 +242,7 @@ fn dispatch<
 
 fn dispatch_in_folder<
     'a,
-    R: Files + AllocGlobal + Threads + Wait + Copy + Send + Sync + Drop + 'static,
+    R: Files + AllocGlobal + Threads + Wait + Clock + Copy + Send + Sync + Drop + 'static,
     I: Read,
     O: Write,
 >(rt: &R, words: &'a [&'a str], reader: &mut I, writer: &mut O) -> Result<(), Failure> {
@@ -275,7 +276,7 @@ fn parsed<'a, O: Write>(
 
 /// Does what the words that were read ask for, but for `check`.
 fn perform<
-    R: Files + AllocGlobal + Threads + Wait + Copy + Send + Sync + Drop + 'static,
+    R: Files + AllocGlobal + Threads + Wait + Clock + Copy + Send + Sync + Drop + 'static,
     I: Read,
     O: Write,
     P: Progress,
@@ -299,7 +300,7 @@ fn perform<
         )?),
         Some(("world", options)) => play(alloc, options, reader, writer, progress),
         Some(("explore", options)) => explore(rt, options, reader, writer, progress),
-        Some(("run", _)) => run(rt, reader, writer),
+        Some(("run", _)) => run(rt, reader, writer, progress),
         Some(("exec", options)) => call(alloc, options, reader, writer),
         Some(_) => Err(Failure::Nested),
         None => call(alloc, matches, reader, writer),
@@ -307,14 +308,16 @@ fn perform<
 }
 
 /// Runs a script on replicas in threads.
-fn run<R: AllocGlobal + Threads + Wait + Copy + Send + Sync + 'static, I: Read, O: Write>(
-    rt: &R,
-    reader: &mut I,
-    writer: &mut O,
-) -> Result<(), Failure> {
-    match run_threads(rt, rt.alloc(), reader, writer)? {
+fn run<
+    R: AllocGlobal + Threads + Wait + Clock + Copy + Send + Sync + 'static,
+    I: Read,
+    O: Write,
+    P: Progress,
+>(rt: &R, reader: &mut I, writer: &mut O, progress: &mut P) -> Result<(), Failure> {
+    match run_threads_watched(rt, rt.alloc(), reader, writer, progress)? {
         Audited::Agreed => Ok(()),
         Audited::Refused => Err(Failure::Refused),
+        Audited::Unanswered(why) => Err(Failure::Unanswered(why)),
     }
 }
 

@@ -45,6 +45,10 @@ impl<E: Write> Progress for Counter<'_, E> {
         self.show("step", u64::from(number), all as u64);
     }
 
+    fn requests(&mut self, answered: u64, all: u64) {
+        self.show("requests answered:", answered, all);
+    }
+
     fn seeds(&mut self, done: u64, all: u64) {
         self.show("seeds:", done, all);
     }

@@ -20,6 +20,9 @@ pub enum Failure {
     /// written already.
     #[error("the journals don't agree, or other lines were expected")]
     Refused,
+    /// A request to running replicas can't be answered any more; the line of the audit is written already.
+    #[error("{0}")]
+    Unanswered(String),
     /// A folder's runs can't be read.
     #[error("{0}")]
     Check(CheckFault),
@@ -60,7 +63,7 @@ impl Failure {
                 ScriptKind::Read | ScriptKind::Write => 4,
                 _ => 1,
             },
-            Failure::Check(_) | Failure::Differs | Failure::Refused => 1,
+            Failure::Check(_) | Failure::Differs | Failure::Refused | Failure::Unanswered(_) => 1,
             Failure::Nested | Failure::BadSeeds | Failure::CommandLine(_) | Failure::WordNotUtf8 =>
                 2,
             Failure::Memory => 3,
@@ -82,7 +85,8 @@ impl Failure {
     pub(crate) fn is_reported(&self) -> bool {
         match self {
             Failure::Code(failure) => failure.is_reported(),
-            Failure::Script(_) | Failure::Differs | Failure::Refused => false,
+            Failure::Script(_) | Failure::Differs | Failure::Refused | Failure::Unanswered(_) =>
+                false,
             _ => self.status() < 3,
         }
     }

@@ -21,6 +21,7 @@ use std::process::ExitCode;
 use std::rt::{Env, Files};
 use std::sync::Wait;
 use std::thread::Threads;
+use std::time::Clock;
 use std::{env, io};
 
 fn main(rt: HostRuntime) -> ExitCode {
@@ -44,6 +45,7 @@ where
         + AllocGlobal
         + Threads
         + Wait
+        + Clock
         + Copy
         + Send
         + Sync

@@ -43,7 +43,7 @@ fn why<'a, R: Files + AllocGlobal>(
     }
 }
 
-/// That memory ran out, or why a stream failed.
+/// That memory ran out, why a stream failed, or why a request can't be answered.
 fn of_the_system(alloc: Global, failure: &Failure) -> Result<Option<String>, Failure> {
     let text = match failure {
         Failure::Memory | Failure::Code(CodeFailure::Memory) => {
@@ -52,6 +52,7 @@ fn of_the_system(alloc: Global, failure: &Failure) -> Result<Option<String>, Fai
         Failure::Stream(error) | Failure::Code(CodeFailure::Stream(error)) => {
             format!(in alloc; "a read or a write failed: {error}")?
         }
+        Failure::Unanswered(why) => format!(in alloc; "no reply can come: {why}")?,
         Failure::Script(fault) => match fault.kind {
             ScriptKind::Memory => String::from_str(alloc, "memory ran out")?,
             ScriptKind::Read => String::from_str(alloc, "standard input can't be read")?,

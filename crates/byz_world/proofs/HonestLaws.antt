@@ -11,7 +11,7 @@ use Rattle.lms_tree.specs.Keys.{IsKeyOf}
 use Rattle.pbft_codec.specs.declared.signed.Role.TheVariants as roles
 use Rattle.pbft_model.specs.Core.{Core, start_of}
 use Rattle.pbft_model.specs.Histories.{IsIn}
-use Rattle.pbft_agreement.specs.Journals.{Agrees, ComesTo, Journals}
+use Rattle.pbft_agreement.specs.Journals.{Agrees, ComesTo, IsHonestFamily, Journals}
 use Rattle.pbft_model.specs.Rows.{IsLawfulFrom, IsListed, IsNext, Row}
 use Rattle.pbft_model.specs.Setup.{Setup, setup_of}
 use Rattle.pbft_model.specs.Words.{SigningState}
@@ -222,8 +222,9 @@ module _ (c : Configuration) (faulty : ℕ → Bool) (signers : List SigningStat
       let is = reported c j.signer t.members i kept in
       (is.0, subst (λ (rs : List Row). IsLawfulFrom (setup_of c) i (start_of (setup_of c) (j.signer i)) rs is.0) (sym (of.reported.rows_are i)) is.1)
 
-  pub world_agrees : IsConfiguration c → AreListed c (correct_ids c faulty) signers → IsHonestReport (setup_of c) j → Agrees (setup_of c) j
-  world_agrees legal listed honest = agrees_over (setup_of c) j (record {
+  -- Where its premises hold that no code gives, the journals are an honest family.
+  pub world_family : IsConfiguration c → AreListed c (correct_ids c faulty) signers → IsHonestReport (setup_of c) j → IsHonestFamily (setup_of c) j
+  world_family legal listed honest = record {
     configuration = legal;
     few = honest.few;
     listed = λ i is. listed_in c (correct_ids c faulty) signers j i listed of.signed
@@ -231,7 +232,10 @@ module _ (c : Configuration) (faulty : ℕ → Bool) (signers : List SigningStat
     lawful = λ i is. world_lawful i;
     real = honest.real;
     apart = honest.apart;
-  })
+  }
+
+  pub world_agrees : IsConfiguration c → AreListed c (correct_ids c faulty) signers → IsHonestReport (setup_of c) j → Agrees (setup_of c) j
+  world_agrees legal listed honest = agrees_over (setup_of c) j (world_family legal listed honest)
 
   pub world_told : (id : ℕ) (m : MemberFacts) → member_of t id ≡ Some m → IsToldOf c j id m
   world_told id m is =

@@ -10,3 +10,4 @@ mod ProcedureLaws
 mod RecordLaws
 mod JournalLaws
 pub mod RunLaws
+pub use Rattle.pbft_model.proofs.Leaves

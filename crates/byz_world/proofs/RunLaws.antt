@@ -24,7 +24,7 @@ use Rattle.byz_world.specs.declared.fault.WorldFault.TheVariants as faults
 use Rattle.byz_world.specs.Worlds.{Answer, AreListed, AtReplica, Comes, Delivers, Forwards, Gives, Hands, Happens, IsHonestReport, IsRefused, IsReported, IsSignedBy, MemberFacts, OutcomeFacts, Passes, Runs, WorldFacts, correct_ids, first_world, member_of, outcome_of, output_of}
 use Rattle.byz_world.specs.Procedures.{StaysSafe}
 use Rattle.byz_world.specs.Leading.{AreJournalsOf, IsSoundWorld, IsToldOf, LeadsTo, LeadsToSoundWorlds}
-use Rattle.byz_world.proofs.HonestLaws.{at_kept, world_agrees, world_lawful, world_told}
+use Rattle.byz_world.proofs.HonestLaws.{at_kept, world_agrees, world_family, world_lawful, world_told}
 use Rattle.byz_world.proofs.ProcedureLaws.{lawful_safe}
 
 runs_more : (w : WorldFacts) (es : List Event) (e : Event) (u v : WorldFacts) (row : Option RowFacts) → Runs w es u → Gives u e (Ok row) v → Runs w (es ++ e ∷ []) v
@@ -94,6 +94,7 @@ happened w event (Err faults.Memory) t remembers happens = absurd (remembers ref
 
 pub sound_worlds : (c : Configuration) (faulty : ℕ → Bool) (signers : List SigningState) → IsConfiguration c → AreListed c (correct_ids c faulty) signers → LeadsToSoundWorlds c faulty signers
 sound_worlds c faulty signers legal listed = λ es t leads. record {
+  family = λ j of honest. world_family c faulty signers es t leads j of legal listed honest;
   agrees = λ j of honest. world_agrees c faulty signers es t leads j of legal listed honest;
   safe = λ j of. lawful_safe (setup_of c) j legal (λ i correct. world_lawful c faulty signers es t leads j of i);
   told = λ j of id m is. world_told c faulty signers es t leads j of id m is;

@@ -2,7 +2,7 @@
 use Rattle.std.specs.Prelude.{◌≡◌, ℕ, Bool, List, [], ◌∷◌, map, Some}
 use Rattle.host_types.specs.Configuration.{Configuration}
 use Rattle.pbft_model.specs.Core.{Core}
-use Rattle.pbft_agreement.specs.Journals.{Agrees, ComesTo, Journals}
+use Rattle.pbft_agreement.specs.Journals.{Agrees, ComesTo, IsHonestFamily, Journals}
 use Rattle.pbft_model.specs.Words.{SigningState}
 use Rattle.pbft_model.specs.Setup.{setup_of}
 use Rattle.replica_journal.specs.Steps.{status_of}
@@ -28,10 +28,12 @@ pub record IsToldOf (c : Configuration) (j : Journals) (id : ℕ) (m : MemberFac
   pub core_is : (s : Core) → m.replica.core ≡ Some s → s ≡ last
   pub status_is : m.replica.status ≡ record (status_of last) { halted = m.replica.status.halted }
 
--- What holds of a world. Where at most f are faulty, nobody forged and no digests collided, one list of requests
--- accounts for all that the correct replicas did. Whoever is faulty and whatever was forged, no procedure can go wrong
--- that one of them has installed at any point; and what the world tells is of their journals.
+-- What holds of a world. Where at most f are faulty, nobody forged and no digests collided, the correct replicas'
+-- journals are an honest family, and one list of requests accounts for all that they did. Whoever is faulty and whatever
+-- was forged, no procedure can go wrong that one of them has installed at any point; and what the world tells is of their
+-- journals.
 pub record IsSoundWorld (c : Configuration) (faulty : ℕ → Bool) (signers : List SigningState) (t : WorldFacts) : Type 0 where
+  pub family : (j : Journals) → AreJournalsOf c faulty signers t j → IsHonestReport (setup_of c) j → IsHonestFamily (setup_of c) j
   pub agrees : (j : Journals) → AreJournalsOf c faulty signers t j → IsHonestReport (setup_of c) j → Agrees (setup_of c) j
   pub safe : (j : Journals) → AreJournalsOf c faulty signers t j → StaysSafe (setup_of c) j
   pub told : (j : Journals) → AreJournalsOf c faulty signers t j → (id : ℕ) (m : MemberFacts) → member_of t id ≡ Some m → IsToldOf c j id m

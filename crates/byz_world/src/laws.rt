@@ -57,9 +57,9 @@ pub fn honest_records_pass()
         → IsHonestFamily c j → AreRecords c j records → IsAudit records answer → FindsNoFault answer }
 {}
 
-/// Lawful journals of all replicas of a configuration agree unless somebody forged, whoever is faulty;
-/// where nobody is, an audit of them finds no fault.
+/// Lawful journals of all replicas of a configuration, from whatever signers on, agree unless somebody
+/// forged, whoever is faulty; where nobody is, an audit of them finds no fault.
 pub fn journals_of_all_replicas_agree()
-    ensures { (c : Configuration) (records : List (List RowFacts)) → AreJournals c 0 records → IsConfiguration c
-        → length records ≡ replicas_for c.f → AgreeUnlessForged c records }
+    ensures { (c : Configuration) (signer : ℕ → SigningState) (records : List (List RowFacts)) → AreJournals c signer records → IsConfiguration c
+        → length records ≡ replicas_for c.f → AgreeUnlessForged c signer records }
 {}

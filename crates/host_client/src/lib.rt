@@ -4,7 +4,13 @@
 #![tactic(auto)]
 
 mod calling;
+mod fault;
+mod law;
 
-pub use calling::call;
+pub use calling::{call, call_or_idle, call_or_stuck};
 pub use client_session::{Session, SessionFault};
-pub use replica_threads::{Dest, Host, HostFault, Input, Named, Replica, Row, Seat, Station};
+pub use fault::CallFault;
+pub use law::calls_are_answered;
+pub use replica_threads::{
+    Closed, Dest, Halt, Host, HostFault, Input, Named, Replica, Row, Seat, Station, Status, Ticker,
+};

@@ -5,11 +5,12 @@ ghost use Rattle.std.specs.List.{All};
 ghost use Rattle.host_types.specs.declared.config.ClientEntry.{ClientEntry};
 ghost use Rattle.world_script.specs.Parties.{key_of};
 
-use host_client::{Host, Session, SessionFault, call};
+use host_client::{CallFault, Host, Session, SessionFault, call_or_idle};
 use host_types::{Bytes, ClientId, Config, Reply};
 use lms_tree::Signer;
 use std::alloc::{AllocError, Global};
 use std::sync::{Arc, Wait};
+use std::time::Clock;
 use world_script::open_sessions;
 
 /// A session for each client of a host.
@@ -35,25 +36,26 @@ impl Callers {
         Ok(Callers { config, sessions })
     }
 
-    /// Calls for a client, and waits for the reply that it accepts. None where it has no leaf left.
-    pub(crate) fn call<R: Wait>(
+    /// Calls for a client, and waits for the reply that it accepts while the replicas may still give one. None
+    /// where it has no leaf left.
+    pub(crate) fn call<R: Wait + Clock>(
         &mut self,
         rt: &R,
         alloc: Global,
         host: &Host,
         client: ClientId,
         op: Bytes,
-    ) -> Result<Option<Reply>, SessionFault>
-        requires config { self.old.config.value ≡ host.now }
+    ) -> Result<Option<Reply>, CallFault>
+        requires config { self.old.config.value ≡ host.now.config }
         requires op { length op ≤ 1048576 }
         ensures config { self.new.config ≡ self.old.config }
     {
         let Some(index) = self.index_of(client) else {
             return Ok(None);
         };
-        match call(rt, alloc, host, &mut self.sessions[index], op) {
+        match call_or_idle(rt, alloc, host, &mut self.sessions[index], op) {
             Ok(reply) => Ok(Some(reply)),
-            Err(SessionFault::Exhausted) => Ok(None),
+            Err(CallFault::Session(SessionFault::Exhausted)) => Ok(None),
             Err(fault) => Err(fault),
         }
     }

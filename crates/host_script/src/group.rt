@@ -3,12 +3,13 @@
 ghost use Rattle.std.specs.Prelude.{◌≡◌};
 
 use crate::callers::Callers;
-use host_client::Host;
+use host_client::{CallFault, Host, Status};
 use host_types::{Bytes, Gate, ReplicaId};
 use script_text::{Head, Order, Step};
 use std::alloc::{AllocError, Global};
 use std::sync::{Arc, Wait};
 use std::thread::Threads;
+use std::time::Clock;
 use world_script::{Keys, audit, line_of_audit, line_of_reply, make_keys};
 
 /// The rows that the journal of a replica has room for.
@@ -27,11 +28,27 @@ impl Gate for NoGate {
     }
 }
 
-/// Whether an audit found that the replicas' journals agree.
-#[derive(Clone, Copy, Debug, PartialEq, Eq)]
+/// Whether an audit found that the replicas' journals agree, and all requests were answered.
+#[derive(Debug, Drop)]
 pub enum Audited {
     Agreed,
     Refused,
+    /// They agree, but a request can't be answered any more: why, and where each replica stands.
+    Unanswered(String),
+}
+
+/// Why a step prints nothing.
+#[derive(Clone, Copy, Debug, PartialEq, Eq)]
+pub(crate) enum StepFault {
+    Memory,
+    /// The request can't be answered any more.
+    Unanswered(CallFault),
+}
+
+impl From<AllocError> for StepFault {
+    fn from(_: AllocError) -> StepFault {
+        StepFault::Memory
+    }
 }
 
 /// Running replicas, and their clients.
@@ -40,7 +57,7 @@ pub(crate) struct Group {
     alloc: Global,
     host: Host,
     callers: Callers,
-    ghost same: { callers.config.value ≡ host },
+    ghost same: { callers.config.value ≡ host.config },
 }
 
 impl Group {
@@ -68,17 +85,21 @@ impl Group {
         }
     }
 
-    /// Runs a step, and returns what it prints: a request waits until its reply is accepted.
-    pub(crate) fn run<R: Wait>(&mut self, rt: &R, step: &Step) -> Result<String, AllocError> {
+    /// Runs a step, and returns what it prints: a request waits until its reply is accepted, or none can come any more.
+    pub(crate) fn run<R: Wait + Clock>(
+        &mut self,
+        rt: &R,
+        step: &Step,
+    ) -> Result<String, StepFault> {
         match step {
             Step::Request(order) => self.call(rt, order),
-            Step::Timeout(at) => self.time_out(rt, at.as_slice()),
+            Step::Timeout(at) => Ok(self.time_out(rt, at.as_slice())?),
             // The script has no other steps.
             _ => Ok(String::new(self.alloc)),
         }
     }
 
-    fn call<R: Wait>(&mut self, rt: &R, order: &Order) -> Result<String, AllocError> {
+    fn call<R: Wait + Clock>(&mut self, rt: &R, order: &Order) -> Result<String, StepFault> {
         let op = Vec::from_slice(self.alloc, order.op.as_slice())?;
         let Group {
             alloc,
@@ -86,19 +107,35 @@ impl Group {
             callers,
         } = self;
         match callers.call(rt, *alloc, host, order.client, Bytes::from_vec(op)) {
-            Ok(Some(reply)) => line_of_reply(*alloc, &reply),
-            Ok(None) => format!(in *alloc; "nothing queued\n"),
-            Err(_) => Err(AllocError),
+            Ok(Some(reply)) => Ok(line_of_reply(*alloc, &reply)?),
+            Ok(None) => Ok(format!(in *alloc; "nothing queued\n")?),
+            Err(CallFault::Session(_)) => Err(StepFault::Memory),
+            Err(fault) => Err(StepFault::Unanswered(fault)),
         }
     }
 
     fn time_out<R: Wait>(&self, rt: &R, at: &[ReplicaId]) -> Result<String, AllocError> {
         for id in at {
-            if self.host.tick(rt, *id).is_err() {
+            if id.0 < self.host.config().replica_count() && self.host.tick(rt, *id).is_err() {
                 return Err(AllocError);
             }
         }
         Ok(String::new(self.alloc))
+    }
+
+    /// Why no reply can come, and where each replica stands, in a sentence.
+    pub(crate) fn standings<R: Wait>(
+        &self,
+        rt: &R,
+        fault: CallFault,
+    ) -> Result<String, AllocError> {
+        let mut text = String::from_str(self.alloc, reason(fault))?;
+        for id in 0..self.host.config().replica_count() {
+            let stands = standing_text(self.alloc, self.host.status(rt, ReplicaId(id)))?;
+            let part = format!(in self.alloc; "; replica {id} {stands}")?;
+            text.push_str(&part)?;
+        }
+        Ok(text)
     }
 
     /// Stops the replicas, and returns what an audit of their journals prints.
@@ -113,4 +150,26 @@ impl Group {
             Err(_) => Ok((Audited::Refused, line)),
         }
     }
+}
+
+// Why no reply can come.
+fn reason(fault: CallFault) -> &'static str {
+    match fault {
+        CallFault::Stuck => "more replicas have halted than may be faulty",
+        _ => "nothing is under way, and the replicas of a script time out where it says so alone",
+    }
+}
+
+// Where a replica stands.
+fn standing_text(alloc: Global, status: Option<Status>) -> Result<String, AllocError> {
+    let Some(status) = status else {
+        return String::from_str(alloc, "has told nothing");
+    };
+    let view = status.view.0;
+    let executed = status.executed.0;
+    if let Some(halt) = status.halted {
+        return format!(in alloc; "halted ({halt}) in view {view} with {executed} executed");
+    }
+    let way = if status.active { "is in" } else { "changes to" };
+    format!(in alloc; "{way} view {view} with {executed} executed")
 }

@@ -1,34 +1,54 @@
 //! A script for running threads, from a reader to a writer.
 
-use crate::group::{Audited, Group};
-use script_text::{Script, ScriptFault, ScriptKind, read_thread_script};
+use crate::group::{Audited, Group, StepFault};
+use host_client::CallFault;
+use script_text::{Script, ScriptFault, ScriptKind, Step, read_thread_script};
 use std::alloc::Global;
 use std::io::{Read, Write};
 use std::sync::Wait;
 use std::thread::Threads;
-use world_script::{read_input, report, write_text};
+use std::time::Clock;
+use world_script::{Progress, Unwatched, read_input, report, write_text};
 
 /// Reads a script to the end of the reader, runs its replicas in threads of their own, and writes the line
 /// of each reply that a client accepts; at the end the line of an audit of the replicas' journals. Each
-/// request waits until its reply is accepted: forever, where the replicas can't execute it. A fault's line is
+/// request waits until its reply is accepted. Where none can come any more, since more than f replicas have
+/// halted or nothing is under way, the script ends there, with the audit of what ran. A fault's line is
 /// written too, but for that of a failed write.
-pub fn run_threads<R: Threads + Wait + Copy + Send + Sync + 'static, I: Read, O: Write>(
+pub fn run_threads<R: Threads + Wait + Clock + Copy + Send + Sync + 'static, I: Read, O: Write>(
     rt: &R,
     alloc: Global,
     reader: &mut I,
     writer: &mut O,
 ) -> Result<Audited, ScriptFault> {
-    match run(rt, alloc, reader, writer) {
+    run_threads_watched(rt, alloc, reader, writer, &mut Unwatched)
+}
+
+/// Does the same, and tells how many requests are answered of all.
+pub fn run_threads_watched<
+    R: Threads + Wait + Clock + Copy + Send + Sync + 'static,
+    I: Read,
+    O: Write,
+    P: Progress,
+>(
+    rt: &R,
+    alloc: Global,
+    reader: &mut I,
+    writer: &mut O,
+    progress: &mut P,
+) -> Result<Audited, ScriptFault> {
+    match run(rt, alloc, reader, writer, progress) {
         Ok(audited) => Ok(audited),
         Err(fault) => Err(report(fault, writer)),
     }
 }
 
-fn run<R: Threads + Wait + Copy + Send + Sync + 'static, I: Read, O: Write>(
+fn run<R: Threads + Wait + Clock + Copy + Send + Sync + 'static, I: Read, O: Write, P: Progress>(
     rt: &R,
     alloc: Global,
     reader: &mut I,
     writer: &mut O,
+    progress: &mut P,
 ) -> Result<Audited, ScriptFault> {
     let bytes = match read_input(alloc, reader) {
         Ok(bytes) => bytes,
@@ -36,31 +56,74 @@ fn run<R: Threads + Wait + Copy + Send + Sync + 'static, I: Read, O: Write>(
     };
     let script = read_thread_script(alloc, &bytes)?;
     match Group::start(rt, alloc, &script.head) {
-        Ok(group) => run_steps(rt, group, &script, writer),
+        Ok(group) => run_steps(rt, group, &script, writer, progress),
         Err(_) => Err(ScriptFault::at_head(ScriptKind::Memory)),
     }
 }
 
 // Runs the steps, and audits. Where a step has a fault, the replicas are stopped all the same.
-fn run_steps<R: Wait, O: Write>(
+fn run_steps<R: Wait + Clock, O: Write, P: Progress>(
     rt: &R,
     mut group: Group,
     script: &Script,
     writer: &mut O,
+    progress: &mut P,
 ) -> Result<Audited, ScriptFault> {
     let mut number: u32 = 0;
+    let all = count_requests(script);
+    let mut answered: u64 = 0;
     for step in script.steps.as_slice() {
         number = number.saturating_add(1);
         let kind = match group.run(rt, &step.step) {
             Ok(line) => write_line(writer, &line),
-            Err(_) => Err(ScriptKind::Memory),
+            Err(StepFault::Unanswered(fault)) => {
+                return end_unanswered(rt, &group, fault, number, writer);
+            }
+            Err(StepFault::Memory) => Err(ScriptKind::Memory),
         };
         if let Err(kind) = kind {
             let _ = group.close(rt);
             return Err(ScriptFault { kind, step: number });
         }
+        if is_request(&step.step) {
+            answered = answered.saturating_add(1);
+            progress.requests(answered, all);
+        }
     }
     end(rt, &group, number, writer)
+}
+
+fn count_requests(script: &Script) -> u64 {
+    let mut count: u64 = 0;
+    for step in script.steps.as_slice() {
+        if is_request(&step.step) {
+            count = count.saturating_add(1);
+        }
+    }
+    count
+}
+
+fn is_request(step: &Step) -> bool {
+    matches!(step, Step::Request(_))
+}
+
+// Stops the replicas behind a request that can't be answered, and writes the line of the audit.
+fn end_unanswered<R: Wait, O: Write>(
+    rt: &R,
+    group: &Group,
+    fault: CallFault,
+    step: u32,
+    writer: &mut O,
+) -> Result<Audited, ScriptFault> {
+    let why = group.standings(rt, fault);
+    match (end(rt, group, step, writer)?, why) {
+        (Audited::Agreed, Ok(why)) => Ok(Audited::Unanswered(why)),
+        (Audited::Agreed, Err(_)) => Err(ScriptFault {
+            kind: ScriptKind::Memory,
+            step,
+        }),
+        (audited, _) => Ok(audited),
+    }
 }
 
 // Stops the replicas behind the last step, and writes the line of the audit.

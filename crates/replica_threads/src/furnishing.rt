@@ -1,10 +1,12 @@
 //! What a host makes before its threads run.
 
-ghost use Rattle.std.specs.Prelude.{◌≡◌, ◌≤◌, ◌↔◌, IsSomeAnd, IsTrue};
+ghost use Rattle.std.specs.Prelude.{◌≡◌, ◌≤◌, ◌↔◌, IfOk, IsSomeAnd, IsTrue, map};
+ghost use Rattle.std.specs.List.{All};
 ghost use Rattle.std.specs.Option.{option_copied};
 ghost use Rattle.lms_tree.specs.Keys.{IsKeyOf};
 ghost use Rattle.replica_threads.specs.Hosts.{HasKeyAt, HaveKeys};
 
+use crate::board::Board;
 use crate::desk::Desk;
 use crate::links::{Letter, Links, Parcel, Posts};
 use crate::record::JournalRecord;
@@ -73,7 +75,8 @@ pub(crate) fn open_parts<G: Drop>(
     config: &Arc<Config>,
     gate: Arc<G>,
 ) -> Result<Parts<G>, AllocError> {
-    let (posts, inboxes) = open_posts(alloc, config.replica_count())?;
+    let board = Arc::new(alloc, Board::new(alloc, config.replica_count())?)?;
+    let (posts, inboxes) = open_posts(alloc, board, config.replica_count())?;
     let (senders, replies) = reply_queues(alloc, config.clients().len())?;
     let posts = Arc::new(alloc, posts)?;
     let records = open_records(alloc, config.replica_count())?;
@@ -107,8 +110,13 @@ fn open_links<G: Drop>(
 }
 
 // The queues that lead to replicas, and their other ends.
-fn open_posts(alloc: Global, replicas: u8) -> Result<(Posts, Vec<Inbox>), AllocError> {
+fn open_posts(
+    alloc: Global,
+    board: Arc<Board>,
+    replicas: u8,
+) -> Result<(Posts, Vec<Inbox>), AllocError> {
     let mut posts = Posts {
+        board,
         parcels: Vec::new(alloc),
         letters: Vec::new(alloc),
     };
@@ -128,7 +136,18 @@ fn open_inbox(alloc: Global, posts: &mut Posts) -> Result<Inbox, AllocError> {
     Ok(Inbox { parcels, letters })
 }
 
-/// A desk for each replica.
+/// The leaf that each signer uses next.
+pub(crate) fn next_leaves(alloc: Global, signers: &[Signer]) -> Result<Vec<u32>, AllocError>
+    ensures { IfOk result (λ leaves. leaves.items ≡ map (λ s. s.next_leaf) signers.now) }
+{
+    let mut leaves = Vec::new(alloc);
+    for signer in signers {
+        leaves.push(signer.next_leaf())?;
+    }
+    Ok(leaves)
+}
+
+/// A desk for each replica, whose journals take so many rows.
 pub(crate) fn furnish(
     alloc: Global,
     config: &Arc<Config>,
@@ -138,6 +157,7 @@ pub(crate) fn furnish(
 ) -> Result<Vec<Desk>, AllocError>
     requires limit { limit ≤ 65536 }
     requires listed { HaveKeys config.now.value.keys signers.items }
+    ensures limit { IfOk result (λ desks. All (λ d. d.journal.value.limit ≡ limit) desks.items) }
 {
     let mut signers = signers.into_iter();
     let mut inboxes = inboxes.into_iter();

@@ -7,25 +7,34 @@
 //!     let journals = host.close(&rt)?;
 #![tactic(auto)]
 
+mod board;
 mod desk;
 mod fault;
 mod furnishing;
 mod host;
+mod keeping;
 mod lane_gate;
+mod law;
 mod links;
 mod locked;
 mod named;
 mod opener;
 mod overseer;
 mod record;
+mod repeats;
 mod seat;
 mod serving;
+mod standing;
 mod station;
+mod ticker;
+mod waiting;
 
-pub use byz_world::{Dest, Input, Replica, Row};
+pub use byz_world::{Dest, Halt, Input, Replica, Row, Status};
 pub use fault::HostFault;
-pub use host::Host;
+pub use host::{Closed, Host};
+pub use law::a_stations_signer_has_used_its_rows_leaves;
 pub use locked::Locked;
 pub use named::Named;
 pub use seat::Seat;
 pub use station::Station;
+pub use ticker::Ticker;

@@ -3,6 +3,7 @@
 ghost use Rattle.std.specs.Prelude.{◌≡◌, ◌⊎◌, IfErr};
 ghost use Rattle.replica_threads.specs.declared.fault.HostFault.TheVariants as faults;
 
+use crate::board::Board;
 use crate::fault::HostFault;
 use crate::record::JournalRecord;
 use byz_world::{Dest, Row};
@@ -33,9 +34,11 @@ pub(crate) enum Letter {
     Stop,
 }
 
-/// The queues that lead to the replicas, by their ids.
+/// The queues that lead to the replicas, by their ids. What goes through them is counted on the board, until it is done
+/// with.
 #[derive(Drop)]
 pub(crate) struct Posts {
+    pub(crate) board: Arc<Board>,
     pub(crate) parcels: Vec<Sender<Parcel>>,
     pub(crate) letters: Vec<Sender<Letter>>,
 }
@@ -51,7 +54,7 @@ impl Posts {
         ensures { IfErr result (λ fault. (fault ≡ faults.Closed) ⊎ (fault ≡ faults.Memory)) }
     {
         match self.parcels.get(usize::from(to.0)) {
-            Some(queue) => send(rt, queue, parcel),
+            Some(queue) => self.send_counted(rt, queue, parcel),
             None => Err(HostFault::Closed),
         }
     }
@@ -66,9 +69,26 @@ impl Posts {
         ensures { IfErr result (λ fault. (fault ≡ faults.Closed) ⊎ (fault ≡ faults.Memory)) }
     {
         match self.letters.get(usize::from(to.0)) {
-            Some(queue) => send(rt, queue, letter),
+            Some(queue) => self.send_counted(rt, queue, letter),
             None => Err(HostFault::Closed),
         }
+    }
+
+    // What can't be sent isn't under way.
+    fn send_counted<R: Wait, T: Drop>(
+        &self,
+        rt: &R,
+        queue: &Sender<T>,
+        item: T,
+    ) -> Result<(), HostFault>
+        ensures { IfErr result (λ fault. (fault ≡ faults.Closed) ⊎ (fault ≡ faults.Memory)) }
+    {
+        self.board.begin();
+        let sent = send(rt, queue, item);
+        if sent.is_err() {
+            self.board.end();
+        }
+        sent
     }
 
     /// Tells all threads to end: each opener, so many for a replica, and each replica.
@@ -140,7 +160,8 @@ impl<G: Gate + Drop> Links<G> {
         }
     }
 
-    fn give_to_others<R: Wait>(&self, rt: &R, from: ReplicaId, message: &Checked) {
+    /// Posts a message to all other replicas.
+    pub(crate) fn give_to_others<R: Wait>(&self, rt: &R, from: ReplicaId, message: &Checked) {
         for id in 0..self.config.replica_count() {
             if id != from.0 {
                 self.give(rt, ReplicaId(id), message);
@@ -168,13 +189,18 @@ impl<G: Gate + Drop> Links<G> {
         }
     }
 
-    /// Opens bytes that came to a replica, and hands what they are to its thread. No lock is held.
+    /// Opens bytes that came to a replica, and hands what they are to its thread. No lock is held. Once the host is closed
+    /// or the replica has halted, they are dropped unopened.
     pub(crate) fn open_for<R: Wait>(&self, rt: &R, alloc: Global, to: ReplicaId, bytes: &[u8]) {
-        let opened = open(alloc, &self.config, bytes);
-        self.gate.opened(u32::from(to.0));
-        if let Ok(message) = opened {
-            let _ = self.posts.hand(rt, to, Letter::Message(message));
+        let board = &self.posts.board;
+        if !board.is_closed() && !board.has_halted(to) {
+            let opened = open(alloc, &self.config, bytes);
+            self.gate.opened(u32::from(to.0));
+            if let Ok(message) = opened {
+                let _ = self.posts.hand(rt, to, Letter::Message(message));
+            }
         }
+        board.end();
     }
 
     /// Files the journal of a replica that has ended.

@@ -6,7 +6,8 @@ use host_types::{Gate, ReplicaId};
 use std::alloc::Global;
 use std::sync::Wait;
 
-/// Opens parcels for a replica, until one says stop.
+/// Opens parcels for a replica, until one says stop. Once the host is closed or the replica has halted, they are dropped
+/// unopened.
 pub(crate) fn open_parcels<R: Wait, G: Gate + Drop>(
     rt: &R,
     alloc: Global,

@@ -12,7 +12,8 @@ use std::thread;
 use std::thread::{JoinHandle, Threads};
 
 /// Makes a thread at each desk and so many openers for each, says whether all could be made, and waits
-/// until they have ended. Where one can't be made, those that run are stopped.
+/// until they have ended. Where one can't be made, those that run are stopped. The queues to clients go
+/// before it reports its end by dropping `started`.
 pub(crate) fn oversee<
     R: Threads + Wait + Copy + Send + Sync + 'static,
     G: Gate + Send + Sync + Drop + 'static,
@@ -33,6 +34,8 @@ pub(crate) fn oversee<
     while let Some(thread) = crew.pop() {
         thread.join(&rt);
     }
+    drop(links);
+    drop(started);
 }
 
 fn hire_all<
@@ -51,7 +54,7 @@ fn hire_all<
     crew.reserve(threads)?;
     for desk in desks {
         hire_openers(rt, alloc, links, &desk, openers, crew)?;
-        crew.push(hire_replica(rt, links, desk)?)?;
+        crew.push(hire_replica(rt, alloc, links, desk)?)?;
     }
     Ok(())
 }
@@ -92,11 +95,11 @@ fn hire_opener<
 fn hire_replica<
     R: Threads + Wait + Copy + Send + Sync + 'static,
     G: Gate + Send + Sync + Drop + 'static,
->(rt: R, links: &Arc<Links<G>>, desk: Desk) -> Result<JoinHandle<()>, AllocError> {
+>(rt: R, alloc: Global, links: &Arc<Links<G>>, desk: Desk) -> Result<JoinHandle<()>, AllocError> {
     let links = Arc::try_clone(links)?;
     let job = move || {
         let id = desk.id;
-        let record = serve_at(&rt, &links, desk);
+        let record = serve_at(&rt, alloc, &links, desk);
         links.file(&rt, id, record);
     };
     Ok(thread::spawn(&rt, job)?)

@@ -6,6 +6,7 @@ ghost use Rattle.lms_tree.specs.Keys.{IsKeyOf};
 ghost use Rattle.pbft_codec.specs.declared.signed.Role.TheVariants as roles;
 ghost use Rattle.seal.specs.Signers.{key_of};
 ghost use Rattle.byz_world.specs.Input.TheVariants as inputs;
+ghost use Rattle.byz_world.specs.Keeping.{first_journal};
 ghost use Rattle.replica_threads.specs.Stations.{IsAnswered, IsClosed, IsReported, counted_by};
 
 use crate::lane_gate::LaneGate;
@@ -36,8 +37,9 @@ pub struct Station<K: Named> {
 impl<K: Named> Station<K> {
     /// A station of the replica that its name stands for, before its first message, and a seat with all
     /// parts of its ledger. Its journal takes at most so many rows, 1 to 65,536. The signer's key is the
-    /// one that the configuration lists for the replica. It is refused only where memory ran out, and the
-    /// signer is then dropped.
+    /// one that the configuration lists for the replica; every journal that the station tells of begins with
+    /// this signer, at the leaf that it has here. It is refused only where memory ran out, and the signer is
+    /// then dropped.
     pub fn new(
         alloc: Global,
         blank: Blank,
@@ -52,7 +54,8 @@ impl<K: Named> Station<K> {
         requires id { id.0 ≡ K.id }
         requires replica { id.0 < replicas_for config.now.value.f }
         requires key { IsSomeAnd (key_of config.now.value roles.Replica id.0) (λ key. IsKeyOf key signer) }
-        requires limit { limit ≤ 65536 }
+        requires signer { signer ≡ K.signer }
+        requires limit { (limit ≡ K.limit) × (limit ≤ 65536) }
         ensures { IfOk result (λ made. made.1 ≡ record { rows = 0; parts = 65536 }) }
     {
         let journal = Journal::new(alloc, config, id, signer, limit as usize)?;
@@ -63,9 +66,7 @@ impl<K: Named> Station<K> {
     pub(crate) fn of(blank: Blank, id: ReplicaId, journal: Journal) -> (Station<K>, Seat<K>)
         requires name { blank.name ≡ K.name }
         requires parts { (blank.parts ≡ K.parts) × (blank.parts ≡ 65536) }
-        requires config { journal.replica.config ≡ K.config }
-        requires id { journal.replica.me ≡ K.id }
-        requires fresh { journal.rows ≡ [] }
+        requires fresh { journal ≡ first_journal K.config K.id K.signer K.limit }
         requires limit { journal.limit ≤ 65536 }
         ensures { result.1 ≡ record { rows = 0; parts = 65536 } }
     {
@@ -89,7 +90,7 @@ impl<K: Named> Station<K> {
         gate: &G,
     ) -> Result<Row, Halt>
         requires config { message.now.config ≡ K.config }
-        ensures answered { IfOk result (λ row. IsAnswered K.config K.id seat.old.rows (inputs.Message message.now) row) }
+        ensures answered { IfOk result (λ row. IsAnswered K.config K.id K.signer K.limit seat.old.rows (inputs.Message message.now) row) }
         ensures counted { seat.new ≡ counted_by seat.old result }
     {
         let mut locked = self.locked.lock(rt);
@@ -106,7 +107,7 @@ impl<K: Named> Station<K> {
         seat: &mut Seat<K>,
         gate: &G,
     ) -> Result<Row, Halt>
-        ensures answered { IfOk result (λ row. IsAnswered K.config K.id seat.old.rows inputs.Timeout row) }
+        ensures answered { IfOk result (λ row. IsAnswered K.config K.id K.signer K.limit seat.old.rows inputs.Timeout row) }
         ensures counted { seat.new ≡ counted_by seat.old result }
     {
         let mut locked = self.locked.lock(rt);
@@ -119,7 +120,7 @@ impl<K: Named> Station<K> {
     /// Where the replica stands after a journal with at least as many rows as the seat counts; and why the
     /// station has halted since, if it has. The seat stays as it was.
     pub fn report<R: Wait>(&self, rt: &R, seat: &mut Seat<K>) -> Status
-        ensures reported { IsReported K.config K.id seat.old.rows result }
+        ensures reported { IsReported K.config K.id K.signer K.limit seat.old.rows result }
         ensures seat { seat.new ≡ seat.old }
     {
         self.locked.lock(rt).report(seat)
@@ -128,18 +129,25 @@ impl<K: Named> Station<K> {
     /// The journal, with at least as many rows as the seat counts, the oldest first. The replica is
     /// dropped. It takes no memory.
     pub fn close(self, seat: Seat<K>) -> Vec<Row>
-        ensures { IsClosed K.config K.id seat.rows result.items }
+        ensures { IsClosed K.config K.id K.signer K.limit seat.rows result.items }
     {
         self.locked.into_inner().into_rows(seat)
     }
 
     /// The journal, with whose it is. It takes no memory.
-    pub(crate) fn into_record(self, config: Arc<Config>, id: ReplicaId) -> JournalRecord
+    pub(crate) fn into_record(
+        self,
+        config: Arc<Config>,
+        id: ReplicaId,
+        first_leaf: u32,
+    ) -> JournalRecord
         requires config { config.value ≡ K.config }
         requires id { id.0 ≡ K.id }
+        requires leaf { K.signer.next_leaf ≡ first_leaf }
         ensures config { result.config ≡ K.config }
         ensures id { result.id ≡ K.id }
+        ensures leaf { result.leaf ≡ first_leaf }
     {
-        self.locked.into_inner().into_record(config, id)
+        self.locked.into_inner().into_record(config, id, first_leaf)
     }
 }

@@ -37,7 +37,7 @@ fn calls_in<R: Wait>(
     session: &mut Session,
     ops: Vec<Bytes>,
 ) -> Result<Vec<Result<Reply, SessionFault>>, Fail>
-    requires { session.old.config ≡ host.now }
+    requires { session.old.config ≡ host.now.config }
 {
     let mut replies = Vec::new(alloc);
     for op in ops {

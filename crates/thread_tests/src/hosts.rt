@@ -38,21 +38,28 @@ fn begin<R: Threads + Wait + Clock + Copy + Send + Sync + Drop + 'static>(
     Ok((Box::new(alloc, host)?, gate))
 }
 
-// Gives replica 3 a timeout, and closes the host. Whether that replica's journal has it.
+// Gives replica 3 a timeout, and closes the host. Whether that replica's journal has it, and no other's.
 fn ticks<R: Clock + Drop, C: Clock + Wait>(
     rt: &C,
     host: &Host,
     gate: &Watch<R>,
 ) -> Result<bool, Fail> {
-    host.tick(rt, ReplicaId(3))?;
+    tick_at(rt, host, 3)?;
     let seen = wait_for_steps(rt, gate, 3, 1);
     let journals = host.close(rt)?;
-    Ok(seen && journals.len() == 4 && has_timeout(&journals[3].1))
+    let others = journals
+        .iter()
+        .take(3)
+        .any(|journal| has_timeout(&journal.1));
+    Ok(seen && journals.len() == 4 && has_timeout(&journals[3].1) && !others)
 }
 
 // Whether a closed host takes nothing more, and is not closed again.
 fn takes_nothing<R: Wait>(rt: &R, alloc: Global, host: &Host) -> Result<bool, Fail> {
     let bytes = Bytes::from_vec(Vec::from_slice(alloc, b"late")?);
+    if host.config().replica_count() != 4 {
+        return Ok(false);
+    }
     let posted = host.post(rt, ReplicaId(0), bytes);
     let ticked = host.tick(rt, ReplicaId(3));
     let closed = Err(HostFault::Closed);
@@ -111,7 +118,18 @@ fn requests_in(alloc: Global, session: &mut Session, many: u8) -> Result<Vec<Vec
 
 fn post_to<R: Wait>(rt: &R, alloc: Global, host: &Host, to: u8, bytes: &[u8]) -> Result<(), Fail> {
     let bytes = Bytes::from_vec(Vec::from_slice(alloc, bytes)?);
+    if to >= host.config().replica_count() {
+        return Err(Fail::new("no such replica"));
+    }
     host.post(rt, ReplicaId(to), bytes)?;
+    Ok(())
+}
+
+fn tick_at<R: Wait>(rt: &R, host: &Host, id: u8) -> Result<(), Fail> {
+    if id >= host.config().replica_count() {
+        return Err(Fail::new("no such replica"));
+    }
+    host.tick(rt, ReplicaId(id))?;
     Ok(())
 }
 

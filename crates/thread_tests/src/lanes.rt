@@ -173,7 +173,7 @@ fn message_bytes(alloc: Global, text: &[u8], signature: &[u8]) -> Result<Vec<u8>
 }
 
 /// The message of this body, signed.
-fn sign(
+pub(crate) fn sign(
     alloc: Global,
     config: &Arc<Config>,
     signer: &mut Signer,
@@ -202,6 +202,8 @@ fn takes_in_lanes<K: Named, R: Threads + Wait + Sync, C: Clock + Drop + Sync>(
     requires id { 1 ≡ K.id }
     requires replica { 1 < replicas_for config.now.value.f }
     requires key { IsSomeAnd (key_of config.now.value roles.Replica 1) (λ key. IsKeyOf key signer) }
+    requires signer { signer ≡ K.signer }
+    requires limit { 65536 ≡ K.limit }
 {
     let (station, seat) = Station::<K>::new(alloc, blank, config, ReplicaId(ID), signer, 65_536)?;
     let mut seat = seat;

@@ -5,7 +5,11 @@
 #[cfg(test)]
 mod calls;
 #[cfg(test)]
+mod early;
+#[cfg(test)]
 mod gates;
+#[cfg(test)]
+mod going;
 #[cfg(test)]
 mod hosts;
 #[cfg(test)]

@@ -66,23 +66,72 @@ pub fn four_of_two_levels(alloc: Global) -> Result<Place, Fail> {
 
 /// The replicas with these signers, and a client.
 fn place_of(alloc: Global, signers: Vec<Signer>) -> Result<Place, Fail> {
-    let mut keys = Vec::new(alloc);
-    for signer in &signers {
-        keys.push(signer.public_key())?;
-    }
-    let client = Box::new(alloc, signer(alloc, 9)?)?;
-    let mut clients = Vec::new(alloc);
-    clients.push(ClientEntry {
-        id: CLIENT,
-        tenant: TenantId(1),
-        key: client.public_key(),
-    })?;
-    let config = Arc::new(alloc, Config::new(1, 8, keys, clients)?)?;
+    let clients = client_signers(alloc, 1)?;
+    let config = configured(alloc, 8, &signers, &clients)?;
+    let mut clients = clients;
+    let Some(client) = clients.pop() else {
+        return Err(Fail::new("no client"));
+    };
     Ok(Place {
         config,
         signers,
-        client,
+        client: Box::new(alloc, client)?,
     })
+}
+
+/// The replicas' signers, and those of clients of as many tenants.
+#[derive(Drop)]
+pub struct Group {
+    pub config: Arc<Config>,
+    pub signers: Vec<Signer>,
+    pub clients: Vec<Signer>,
+}
+
+/// Four replicas whose keys are of two levels, with Checkpoints so far apart, and clients of as many tenants.
+pub fn group_of(alloc: Global, interval: u8, clients: u8) -> Result<Group, Fail> {
+    let mut signers = Vec::new(alloc);
+    for number in 0..4u8 {
+        signers.push(signer_of_levels(alloc, number)?)?;
+    }
+    let clients = client_signers(alloc, clients)?;
+    let config = configured(alloc, interval, &signers, &clients)?;
+    Ok(Group {
+        config,
+        signers,
+        clients,
+    })
+}
+
+fn client_signers(alloc: Global, many: u8) -> Result<Vec<Signer>, AllocError> {
+    let mut clients = Vec::new(alloc);
+    for index in 0..many {
+        clients.push(signer(alloc, index.saturating_add(9))?)?;
+    }
+    Ok(clients)
+}
+
+/// The configuration of these replicas and clients, whose ids begin with that of the one client.
+fn configured(
+    alloc: Global,
+    interval: u8,
+    signers: &[Signer],
+    clients: &[Signer],
+) -> Result<Arc<Config>, Fail> {
+    let mut keys = Vec::new(alloc);
+    for signer in signers {
+        keys.push(signer.public_key())?;
+    }
+    let mut entries = Vec::new(alloc);
+    let mut index: u32 = 0;
+    for client in clients {
+        entries.push(ClientEntry {
+            id: ClientId(CLIENT.0.saturating_add(index)),
+            tenant: TenantId(index.saturating_add(1)),
+            key: client.public_key(),
+        })?;
+        index = index.saturating_add(1);
+    }
+    Ok(Arc::new(alloc, Config::new(1, interval, keys, entries)?)?)
 }
 
 /// Whether the signer has the key that is listed for a replica.
@@ -99,14 +148,26 @@ pub fn is_listed(config: &Arc<Config>, id: ReplicaId, signer: &Signer) -> bool
 pub fn session(alloc: Global, config: &Arc<Config>, signer: Signer) -> Result<Session, Fail>
     ensures { IfOk result (λ s. s.config ≡ config.now.value) }
 {
-    let listed = match config.client(CLIENT) {
+    session_of(alloc, config, CLIENT, signer)
+}
+
+/// A client's session.
+pub fn session_of(
+    alloc: Global,
+    config: &Arc<Config>,
+    client: ClientId,
+    signer: Signer,
+) -> Result<Session, Fail>
+    ensures { IfOk result (λ s. s.config ≡ config.now.value) }
+{
+    let listed = match config.client(client) {
         Some(entry) => entry.key == signer.public_key(),
         None => false,
     };
     if !listed {
         return Err(Fail::new("another key is listed"));
     }
-    let session = Session::new(alloc, config, CLIENT, signer)?;
+    let session = Session::new(alloc, config, client, signer)?;
     Ok(session)
 }
 

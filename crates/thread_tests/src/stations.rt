@@ -49,6 +49,8 @@ fn two_at_one_station<K: Named + Send + Sync, R: Threads + Wait + Sync>(
     requires id { 0 ≡ K.id }
     requires replica { 0 < replicas_for config.now.value.f }
     requires key { IsSomeAnd (key_of config.now.value roles.Replica 0) (λ key. IsKeyOf key signer) }
+    requires signer { signer ≡ K.signer }
+    requires limit { 65536 ≡ K.limit }
 {
     let (station, seat) = Station::<K>::new(alloc, blank, config, ReplicaId(0), signer, 65_536)?;
     let mut seat = seat;
@@ -101,6 +103,8 @@ fn limited<K: Named, R: Wait>(
     requires id { 0 ≡ K.id }
     requires replica { 0 < replicas_for config.now.value.f }
     requires key { IsSomeAnd (key_of config.now.value roles.Replica 0) (λ key. IsKeyOf key signer) }
+    requires signer { signer ≡ K.signer }
+    requires limit { 1 ≡ K.limit }
 {
     let (station, seat) = Station::<K>::new(alloc, blank, config, ReplicaId(0), signer, 1)?;
     let mut seat = seat;

@@ -8,6 +8,9 @@ pub trait Progress {
     /// The step of this number begins, of so many.
     fn step(&mut self, number: u32, all: usize);
 
+    /// So many of all requests to running replicas are answered.
+    fn requests(&mut self, answered: u64, all: u64);
+
     /// The script was run under so many of all its seeds.
     fn seeds(&mut self, done: u64, all: u64);
 }
@@ -20,6 +23,8 @@ impl Progress for Unwatched {
     fn keys(&mut self, _made: usize, _all: usize) {}
 
     fn step(&mut self, _number: u32, _all: usize) {}
+
+    fn requests(&mut self, _answered: u64, _all: u64) {}
 
     fn seeds(&mut self, _done: u64, _all: u64) {}
 }

@@ -65,6 +65,8 @@ fn take_at<K: Named, R: Threads + Wait + Sync>(
     requires id { 1 ≡ K.id }
     requires replica { 1 < replicas_for config.now.value.f }
     requires key { IsSomeAnd (key_of config.now.value roles.Replica 1) (λ key. IsKeyOf key signer) }
+    requires signer { signer ≡ K.signer }
+    requires limit { 65536 ≡ K.limit }
 {
     let (station, seat) = Station::<K>::new(rt.alloc(), blank, config, REPLICA, signer, PARTS)?;
     let mut seat = seat;

@@ -1,6 +1,5 @@
-use Rattle.std.specs.Prelude.{◌≡◌}
+use Rattle.client_session.specs.Accepted.{HasHeard}
 use Rattle.host_client.proofs.calling.wait_for_reply.Given as goal
 
 abbrev pub invariant-loop : goal.invariant-loop
-invariant-loop g l =
-    (goal.iterator-loop g).can_next l.iterator' × (goal.iterator-loop g).is_finite l.iterator' × (l.session.config ≡ l.fn.session.config) × (l.session.time ≡ l.fn.session.time)
+invariant-loop g l = (goal.iterator-loop g).can_next l.iterator' × (goal.iterator-loop g).is_finite l.iterator' × HasHeard l.fn.session l.session

@@ -1,0 +1,5 @@
+use Rattle.client_session.specs.Accepted.{HasHeard}
+use Rattle.host_client.proofs.calling.wait_while.Given as goal
+
+abbrev pub invariant-loop : goal.invariant-loop
+invariant-loop g l = (goal.iterator-loop g).can_next l.iterator' × (goal.iterator-loop g).is_finite l.iterator' × HasHeard l.fn.session l.session
