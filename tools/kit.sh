@@ -48,3 +48,22 @@ use_all_processors() {
     export RT_JOBS=$processors
   fi
 }
+
+# runs_v3: this processor has what x86-64-v3 names, AVX2 among it
+runs_v3() {
+  local flags word
+  flags=$(grep -m 1 '^flags' /proc/cpuinfo) || return 1
+  for word in avx avx2 bmi1 bmi2 f16c fma abm movbe xsave; do
+    [[ " ${flags#*:} " == *" $word "* ]] || return 1
+  done
+}
+
+# program_of TOP NAME: where a program stands that is built for this machine: for x86-64-v3 where its processor is one, unless
+# BPF_HOST_CPU=default, and else for every x86-64
+program_of() {
+  if [ "${BPF_HOST_CPU:-}" != default ] && runs_v3; then
+    printf '%s\n' "$1/crates/$2/out/$2-v3"
+  else
+    printf '%s\n' "$1/crates/$2/out/$2"
+  fi
+}

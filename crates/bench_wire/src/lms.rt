@@ -1,10 +1,12 @@
 //! Keys and signatures. The part signs and verifies once. For `time` it prints what keys, signatures and
-//! verification cost against as many one-block hashes as they take.
+//! verification cost against as many one-block hashes as they take; for `time-v3` likewise, with the limits of a program that was
+//! built for x86-64-v3.
 
 use anyhow::{Result, anyhow};
 use bench_common::Measures;
 use lms_tree::{Height, Signer, verify};
 use std::alloc::Global;
+use times::Build;
 
 mod counts;
 mod levels;
@@ -14,8 +16,9 @@ mod times;
 pub fn run(rt: &impl Measures, work: Option<&str>) -> Result<()> {
     match work {
         None => print_small(rt),
-        Some("time") => times::print_times(rt),
-        Some(_) => Err(anyhow!("the word behind lms is not time")),
+        Some("time") => times::print_times(rt, Build::Default),
+        Some("time-v3") => times::print_times(rt, Build::V3),
+        Some(_) => Err(anyhow!("the word behind lms is neither time nor time-v3")),
     }
 }
 

@@ -4,3 +4,6 @@ pub mod Chains
 pub mod Law
 pub mod Hashing
 pub mod DigitLemmas
+mod Blocks
+mod LaneLemmas
+mod EndLemmas

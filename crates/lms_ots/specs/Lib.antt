@@ -1,1 +1,2 @@
 pub mod Ots
+pub mod Words

@@ -9,14 +9,22 @@
 //!     let valid = ots_candidate(&id, 0, b"once", &signature) == ots_public(&id, 0, &secret);
 #![tactic(auto)]
 
-ghost use Rattle.std.specs.Prelude.{◌≡◌, ℕ, ◌+◌, ◌-◌, ◌/◌, ◌≤◌, ◌<◌, ◌++◌, List, drop, length, take};
-ghost use Rattle.lms_ots.specs.Ots.{candidate_of, chain, chain_start, checksum, coef, digits_of, message_hash, message_prefix, public_value, randomizer, randomizer_in, signature_of};
+ghost use Rattle.std.specs.Prelude.{◌≡◌, ℕ, ◌+◌, ◌-◌, ◌/◌, ◌≤◌, ◌<◌, ◌++◌, List, [], drop, length, slice_index, slice_index_or, take};
+ghost use Rattle.lms_ots.specs.Ots.{candidate_of, chain_start, checksum, coef, digits_of, hash_of_ends, message_hash, message_prefix, public_value, randomizer, randomizer_in, signature_of, value_in};
+ghost use Rattle.lms_ots.specs.Words.{bytes_of};
 ghost use Rattle.sha2.specs.Hashers.{Holds256};
 
+pub use eight::ots_publics;
 use hash::{block_hash, hasher, put, u16str, u32str};
+use leaf::LeafChains;
 use sha2::{Digest, Sha256};
+use words::{bytes_of, words_of};
 
+mod eight;
 mod hash;
+mod lanes;
+mod leaf;
+mod words;
 
 /// The length of a hash in bytes, which is n of RFC 8554, section 4.1.
 const HASH_LEN: usize = 32;
@@ -78,23 +86,18 @@ pub fn digits(q: &[u8; 32]) -> [u8; 67]
     digits
 }
 
-// The start of chain `i`, from the seed (RFC 8554, appendix A).
-fn chain_start(id: &[u8; 16], leaf: u32, secret: &[u8; 32], i: u16) -> [u8; 32]
-    ensures { result ≡ chain_start id.now leaf secret.now i }
+// The words of each chain's start, from the seed (RFC 8554, appendix A): a start is what a step that no chain has leaves of the seed.
+fn chain_starts(id: &[u8; 16], leaf: u32, secret: &[u8; 32]) -> [[u32; 8]; 67]
+    ensures { (i : ℕ) → i < 67 → bytes_of (slice_index_or result i []) ≡ chain_start id.now leaf secret.now i }
 {
-    block_hash(id, leaf, i, SEED_STEP, secret)
-}
-
-// Chain `i` from `start`: the steps from `from` up to `to` (RFC 8554, section 4.3).
-fn chain(id: &[u8; 16], leaf: u32, i: u16, from: u8, to: u8, start: &[u8; 32]) -> [u8; 32]
-    requires { from ≤ to }
-    ensures { result ≡ chain id.now leaf i from (to - from) start.now }
-{
-    let mut value = *start;
-    'steps: for j in from..to {
-        value = block_hash(id, leaf, i, j, &value);
+    LeafChains {
+        id,
+        leaf,
+        starts: &[words_of(secret); CHAIN_COUNT],
+        froms: &[SEED_STEP; CHAIN_COUNT],
+        counts: &[1; CHAIN_COUNT],
     }
-    value
+    .ends()
 }
 
 // The randomizer of a leaf's signature, from the seed.
@@ -122,16 +125,30 @@ fn message_hash(id: &[u8; 16], leaf: u32, randomizer: &[u8; 32], message: &[u8])
     hasher.finalize()
 }
 
+// The hash over the ends of the chains (RFC 8554, section 4.3, step 5).
+fn hash_of_ends(id: &[u8; 16], leaf: u32, ends: &[[u32; 8]; 67]) -> [u8; 32]
+    ensures { (end : ℕ → List ℕ) → ((i : ℕ) → i < 67 → bytes_of (slice_index_or ends.now i []) ≡ end i) → result ≡ hash_of_ends id.now leaf end }
+{
+    let mut hasher = hasher(id, leaf, PUBLIC_TAG);
+    'chains: for i in 0..CHAIN_COUNT {
+        hasher.update(bytes_of(&ends[i]));
+    }
+    hasher.finalize()
+}
+
 /// The public value of a leaf's key pair (RFC 8554, section 4.3).
 pub fn ots_public(id: &[u8; 16], leaf: u32, secret: &[u8; 32]) -> [u8; 32]
     ensures { result ≡ public_value id.now leaf secret.now }
 {
-    let mut hasher = hasher(id, leaf, PUBLIC_TAG);
-    'chains: for i in 0..CHAIN_COUNT as u16 {
-        let start = chain_start(id, leaf, secret, i);
-        hasher.update(chain(id, leaf, i, 0, CHAIN_END, &start));
+    let ends = LeafChains {
+        id,
+        leaf,
+        starts: &chain_starts(id, leaf, secret),
+        froms: &[0; CHAIN_COUNT],
+        counts: &[CHAIN_END; CHAIN_COUNT],
     }
-    hasher.finalize()
+    .ends();
+    hash_of_ends(id, leaf, &ends)
 }
 
 /// The signature of `message` by a leaf's key pair (RFC 8554, section 4.5): the typecode, the
@@ -142,13 +159,19 @@ pub fn ots_sign(id: &[u8; 16], leaf: u32, secret: &[u8; 32], message: &[u8]) -> 
 {
     let randomizer = randomizer(id, leaf, secret);
     let digits = digits(&message_hash(id, leaf, &randomizer, message));
+    let values = LeafChains {
+        id,
+        leaf,
+        starts: &chain_starts(id, leaf, secret),
+        froms: &[0; CHAIN_COUNT],
+        counts: &digits,
+    }
+    .ends();
     let mut signature = [0u8; 2180];
     put(&mut signature, 0, &u32str(TYPECODE));
     put(&mut signature, 4, &randomizer);
     'chains: for i in 0..CHAIN_COUNT {
-        let start = chain_start(id, leaf, secret, i as u16);
-        let value = chain(id, leaf, i as u16, 0, digits[i], &start);
-        put(&mut signature, 36 + 32 * i, &value);
+        put(&mut signature, 36 + 32 * i, &bytes_of(&values[i]));
     }
     signature
 }
@@ -183,12 +206,38 @@ pub fn ots_candidate_of_hash(
         result ≡ candidate_of id.now leaf message signature.now }
 {
     let digits = digits(q);
-    let mut hasher = hasher(id, leaf, PUBLIC_TAG);
-    'chains: for i in 0..CHAIN_COUNT {
-        let value = hash_at(signature, 36 + 32 * i);
-        hasher.update(chain(id, leaf, i as u16, digits[i], CHAIN_END, &value));
+    let ends = LeafChains {
+        id,
+        leaf,
+        starts: &values_in(signature),
+        froms: &digits,
+        counts: &steps_left(&digits),
     }
-    hasher.finalize()
+    .ends();
+    hash_of_ends(id, leaf, &ends)
+}
+
+// How many steps each chain has from its digit on.
+fn steps_left(digits: &[u8; 67]) -> [u8; 67]
+    requires { (i : ℕ) → i < 67 → slice_index digits.now i ≤ 15 }
+    ensures { (i : ℕ) → i < 67 → slice_index result i ≡ 15 - slice_index digits.now i }
+{
+    let mut counts = [0u8; CHAIN_COUNT];
+    'chains: for i in 0..CHAIN_COUNT {
+        counts[i] = CHAIN_END - digits[i];
+    }
+    counts
+}
+
+// The words of each chain's value in a signature.
+fn values_in(signature: &[u8; 2180]) -> [[u32; 8]; 67]
+    ensures { (i : ℕ) → i < 67 → bytes_of (slice_index_or result i []) ≡ value_in signature.now i }
+{
+    let mut values = [[0u32; 8]; CHAIN_COUNT];
+    'chains: for i in 0..CHAIN_COUNT {
+        values[i] = words_of(&hash_at(signature, 36 + 32 * i));
+    }
+    values
 }
 
 // The 32 bytes of a signature from byte `at` on.

@@ -7,6 +7,8 @@ mod cases;
 #[cfg(test)]
 mod faults;
 #[cfg(test)]
+mod going_on;
+#[cfg(test)]
 mod one_tree;
 #[cfg(test)]
 mod signers;

@@ -60,7 +60,7 @@ b2dfbb0deece7479444346ce9820fc2cfb82ae8dab8786bfabf5ef578e55c25c \
 ";
 
 /// A height by its number; `-` is none.
-fn height(text: &str) -> Result<Option<Height>, Fail> {
+pub(crate) fn height(text: &str) -> Result<Option<Height>, Fail> {
     if text == "-" {
         Ok(None)
     } else if text == "5" {
@@ -261,7 +261,7 @@ fn use_leaves(signer: &mut Signer, many: u32) -> Result<(), SignFault> {
 }
 
 /// Whether a signer's next signature of a case's message is the case's.
-fn signs_as(signer: &mut Signer, case: &Case) -> Result<bool, Fail> {
+pub(crate) fn signs_as(signer: &mut Signer, case: &Case) -> Result<bool, Fail> {
     Ok(signer.sign(&case.message)?.as_slice() == case.signature.as_slice())
 }
 
@@ -310,7 +310,11 @@ fn source_and_signer_of(
 }
 
 /// Whether a signer gives so many signatures of another's, byte for byte.
-fn signs_alike(signer: &mut Signer, other: &mut Signer, many: u32) -> Result<bool, Fail> {
+pub(crate) fn signs_alike(
+    signer: &mut Signer,
+    other: &mut Signer,
+    many: u32,
+) -> Result<bool, Fail> {
     for _ in 0..many {
         if signer.sign(b"a message")?.as_slice() != other.sign(b"a message")?.as_slice() {
             return Ok(false);

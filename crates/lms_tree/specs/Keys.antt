@@ -49,6 +49,11 @@ signature_number s sig = number_by s.height s.bottom sig
 abbrev pub after_signing : SigningState → SigningState
 after_signing s = record s { next_leaf = s.next_leaf + 1 }
 
+-- The signer of a seed that has used the leaves below this one.
+abbrev pub signer_at : Height → Option Height → List ℕ → List ℕ → ℕ → SigningState
+signer_at height bottom id secret leaf =
+    record { height = height; bottom = bottom; id = id; secret = secret; next_leaf = leaf }
+
 -- How many signatures a signer's key gives in all.
 abbrev pub leaf_count : SigningState → ℕ
 leaf_count s = total_of s.height s.bottom

@@ -1,10 +1,11 @@
 //! Laws of signers of either kind, which ask for no height: how many signatures, how long, and what signs what.
 
-ghost use Rattle.std.specs.Prelude.{◌≡◌, ℕ, ◌+◌, ◌^◌, ◌<◌, ◌≤◌, List, Some, length};
+ghost use Rattle.std.specs.Prelude.{◌≡◌, ℕ, ◌+◌, ◌^◌, ◌<◌, ◌≤◌, List, Option, Some, length};
+ghost use Rattle.std.specs.Fn.{iterate};
 ghost use Rattle.lms_level.specs.declared.height.Height.{Height};
 ghost use Rattle.lms_level.specs.Signature.{levels_of, word_at};
 ghost use Rattle.host_types.specs.declared.key.PublicKey.{PublicKey};
-ghost use Rattle.lms_tree.specs.Keys.{IsValid, leaf_count, signature_by, signature_length, signature_number, signature_of};
+ghost use Rattle.lms_tree.specs.Keys.{IsValid, after_signing, leaf_count, signature_by, signature_length, signature_number, signature_of, signer_at};
 ghost use Rattle.lms_tree.specs.Levels.{hss_signature_at};
 ghost use Rattle.lms_tree.specs.Signature.{signed_key_in};
 ghost use Rattle.lms_tree.specs.SigningState.{SigningState};
@@ -48,4 +49,15 @@ pub fn a_top_leaf_signs_one_key()
         ≡ word_at (hss_signature_at top bottom id secret m second) 4
         → signed_key_in top (hss_signature_at top bottom id secret n first)
         ≡ signed_key_in top (hss_signature_at top bottom id secret m second) }
+{}
+
+/// **A signer that goes on signs as the one that has stopped would have**: the signer of a seed at leaf n, which
+/// `Signer::from_seed_at` and `Signer::from_seed2_at` give, is the one that began at leaf 0 and has used n leaves, and
+/// its next signature is number n.
+pub fn signers_go_on()
+    ensures same { (height : Height) (bottom : Option Height) (id secret : List ℕ) (n : ℕ) →
+        iterate after_signing n (signer_at height bottom id secret 0) ≡ signer_at height bottom id secret n }
+    ensures next { (height : Height) (bottom : Option Height) (id secret : List ℕ) (n : ℕ) (message : List ℕ) →
+        signature_of (iterate after_signing n (signer_at height bottom id secret 0)) message
+        ≡ signature_by height bottom id secret n message }
 {}

@@ -13,7 +13,7 @@
 pub use fault::SignFault;
 pub use laws::{
     a_top_leaf_signs_one_key, leaves_are_few, next_leaf_is_within, no_leaf_signs_twice,
-    signatures_are_short,
+    signatures_are_short, signers_go_on,
 };
 pub use lms_level::{Height, SigFault};
 pub use signer::Signer;

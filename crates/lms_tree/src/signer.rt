@@ -4,7 +4,8 @@ ghost use Rattle.std.specs.Prelude.{◌≡◌, ℕ, ◌+◌, ◌^◌, ◌<◌, �
 ghost use Rattle.lms_ots.specs.Ots.{u32str};
 ghost use Rattle.lms_level.specs.Signature.{levels_of};
 ghost use Rattle.lms_level.specs.declared.height.Height.{Height};
-ghost use Rattle.lms_tree.specs.Keys.{after_signing, leaf_count, public_key_of_signer, signature_by, signature_number, signature_of, signature_length};
+ghost use Rattle.lms_tree.specs.Keys.{after_signing, leaf_count, public_key_of_signer, signature_by, signature_number, signature_of, signature_length, signer_at};
+ghost use Rattle.lms_tree.specs.SigningState.{total_of};
 ghost use Rattle.lms_tree.specs.Signature.{signature_fault};
 ghost use Rattle.lms_tree.specs.Below.{IsBelow, IsComing};
 
@@ -70,14 +71,7 @@ impl Signer {
         ensures { IfOk result (λ signer.
             signer ≡ record { height = height; bottom = None; id = id; secret = secret; next_leaf = 0 }) }
     {
-        Ok(Signer {
-            alloc,
-            top: Tree::new(alloc, height, id, secret)?,
-            bottom: None,
-            present: None,
-            coming: None,
-            next_leaf: 0,
-        })
+        Signer::from_seed_at(alloc, height, id, secret, 0)
     }
 
     /// A signer with two levels, whose top tree has the identifier `id` and the seed `secret`, from which those of
@@ -92,16 +86,87 @@ impl Signer {
         ensures { IfOk result (λ signer.
             signer ≡ record { height = top; bottom = Some bottom; id = id; secret = secret; next_leaf = 0 }) }
     {
-        let top = Tree::new(alloc, top, id, secret)?;
-        let present = Some(Bottom::new(alloc, &top, bottom, 0)?);
+        Signer::from_seed2_at(alloc, top, bottom, id, secret, 0)
+    }
+
+    /// A signer that goes on where another of its seed has stopped: the one that `from_seed` gives, once the leaves
+    /// below `next_leaf` are used. It makes the whole tree, as that one does.
+    ///
+    /// **No leaf from `next_leaf` on may have signed, whichever signer of the seed it was.** Two messages that one
+    /// leaf signed give the key away (RFC 8554, section 9.2), and no contract sees another signer: this is owed by the
+    /// caller. Whoever keeps the number for the next start puts it above a leaf before that leaf's signature is given
+    /// to anybody, and makes no second signer while the first one can sign.
+    ///
+    /// `next_leaf` is at most the number of leaves, `Height::leaf_count`, at which every leaf is used. That is required
+    /// and not refused: no signer's `next_leaf` is greater, and a caller that has the number from outside can compare
+    /// the two. Memory, which nobody can know of, is the only error.
+    pub fn from_seed_at(
+        alloc: Global,
+        height: Height,
+        id: [u8; 16],
+        secret: [u8; 32],
+        next_leaf: u32,
+    ) -> Result<Signer, AllocError>
+        requires { next_leaf ≤ total_of height None }
+        ensures { IfOk result (λ signer. signer ≡ signer_at height None id secret next_leaf) }
+    {
+        let top = Tree::new(alloc, height, id, secret)?;
         Ok(Signer {
             alloc,
             top,
-            bottom: Some(bottom),
-            present,
+            bottom: None,
+            present: None,
             coming: None,
-            next_leaf: 0,
+            next_leaf,
         })
+    }
+
+    /// The same with two levels: the signer that `from_seed2` gives, once the leaves below `next_leaf` are used. What
+    /// `from_seed_at` says of the leaves that must not have signed holds here too, and the number of leaves is
+    /// `leaf_count_of`.
+    ///
+    /// It makes the top tree and the bottom tree that its next leaf is in, none of those before, and of the one after
+    /// it as many nodes as the other signer's signatures had made.
+    pub fn from_seed2_at(
+        alloc: Global,
+        top: Height,
+        bottom: Height,
+        id: [u8; 16],
+        secret: [u8; 32],
+        next_leaf: u32,
+    ) -> Result<Signer, AllocError>
+        requires { next_leaf ≤ total_of top (Some bottom) }
+        ensures { IfOk result (λ signer. signer ≡ signer_at top (Some bottom) id secret next_leaf) }
+    {
+        let top = Tree::new(alloc, top, id, secret)?;
+        let mut signer = Signer {
+            alloc,
+            top,
+            bottom: Some(bottom),
+            present: None,
+            coming: None,
+            next_leaf,
+        };
+        signer.make_bottoms(bottom)?;
+        Ok(signer)
+    }
+
+    // The bottom tree of the next leaf, if one is left, and of the tree after it as many nodes as the leaves before
+    // that leaf would have made.
+    fn make_bottoms(&mut self, height: Height) -> Result<(), AllocError>
+        requires two_levels { self.old.bottom ≡ Some height }
+        ensures same { self.new ≡ self.old }
+    {
+        if self.leaves_left() == 0 {
+            return Ok(());
+        }
+        let count = height.leaf_count();
+        let number = self.next_leaf / count;
+        self.present = Some(Bottom::new(self.alloc, &self.top, height, number)?);
+        'used: for _ in 0..self.next_leaf % count {
+            self.prepare(height, number + 1);
+        }
+        Ok(())
     }
 
     /// Another signer with this one's key, where neither has used a leaf. It copies the nodes.
@@ -152,6 +217,18 @@ impl Signer {
         self.next_leaf
     }
 
+    /// How many leaves a key has, with one tree of this height, or with bottom trees of the height `bottom` below a
+    /// top tree of it: so many signatures it gives in all. It takes no memory.
+    pub fn leaf_count_of(height: Height, bottom: Option<Height>) -> u32
+        ensures { result ≡ total_of height bottom }
+    {
+        let own = height.leaf_count();
+        match bottom {
+            None => own,
+            Some(bottom) => own * bottom.leaf_count(),
+        }
+    }
+
     /// How many leaves have not signed. It takes no memory.
     pub fn leaves_left(&self) -> u32
         ensures { self.now.next_leaf + result ≡ leaf_count self.now }
@@ -163,11 +240,7 @@ impl Signer {
     fn total(&self) -> u32
         ensures { result ≡ leaf_count self.now }
     {
-        let own = self.top.height().leaf_count();
-        match self.bottom {
-            None => own,
-            Some(height) => own * height.leaf_count(),
-        }
+        Signer::leaf_count_of(self.top.height(), self.bottom)
     }
 
     /// The signature of `body` by the next leaf, which is used by that (RFC 8554, sections 5.4.1 and 6.2).

@@ -4,11 +4,11 @@ ghost use Rattle.std.specs.Prelude.{◌≡◌, ◌==◌, ℕ, ◌+◌, ◌*◌, 
 ghost use Rattle.lms_level.specs.Signature.{levels_of, public_key_of, signature_at};
 ghost use Rattle.lms_level.specs.Tree.{path_node, sibling, tree_node};
 ghost use Rattle.lms_ots.specs.Ots.{concatenation};
-ghost use Rattle.lms_tree.specs.Trees.{TreeState, GrowingState};
+ghost use Rattle.lms_tree.specs.Trees.{TreeState, GrowingState, HoldsNodesFrom};
 
 use crate::bytes::{put, u32str};
 use lms_level::{Height, inner_node, leaf_node};
-use lms_ots::{ots_public, ots_sign};
+use lms_ots::{ots_public, ots_publics, ots_sign};
 use std::alloc::{AllocError, Global};
 use std::marker::Model;
 
@@ -20,12 +20,14 @@ pub(crate) struct GrowingTree {
     secret: [u8; 32],
     /// Node r at index r. Index 0 is no node's.
     nodes: Vec<[u8; 32]>,
-    /// The last node that was made. Those from 1 up to it are missing.
+    /// The first node that has its turn behind it. Those from 1 up to it are missing.
     first: u32,
+    /// The first node that is in the list: eight leaves' nodes are made together, at the turn of the last of them.
+    made: u32,
 }
 
 impl Model for GrowingTree {
-    ghost use Rattle.std.specs.Prelude.{◌-◌};
+    ghost use Rattle.std.specs.Prelude.{◌-◌, ◌≤◌};
     ghost use Rattle.lms_level.specs.Signature.{levels_of};
     ghost use Rattle.lms_tree.specs.Trees.{GrowingState, HoldsNodesFrom};
 
@@ -33,7 +35,7 @@ impl Model for GrowingTree {
 
     ghost view = { λ t. record { height = t.height; id = t.id; secret = t.secret; missing = t.first - 1 } };
 
-    ghost invariant = { λ t. HoldsNodesFrom t.first (levels_of t.height) t.id t.secret t.nodes.items };
+    ghost invariant = { λ t. (1 ≤ t.first) × (t.made ≤ t.first) × HoldsNodesFrom t.made (levels_of t.height) t.id t.secret t.nodes.items };
 }
 
 impl GrowingTree {
@@ -59,6 +61,7 @@ impl GrowingTree {
             secret,
             nodes,
             first: end,
+            made: end,
         })
     }
 
@@ -77,28 +80,10 @@ impl GrowingTree {
             return;
         }
         let r = self.first - 1;
-        let node = self.node(r);
-        self.nodes[r as usize] = node;
-        self.first = r;
-    }
-
-    // The next node, which is node `r`.
-    fn node(&self, r: u32) -> [u8; 32]
-        requires { (0 < r) × (r ≡ self.now.missing) }
-        ensures { result ≡ tree_node (levels_of self.now.height) self.now.id self.now.secret r }
-    {
-        let count = self.height.leaf_count();
-        if r < count {
-            let children = 2 * r as usize;
-            inner_node(
-                &self.id,
-                r,
-                &self.nodes[children],
-                &self.nodes[children + 1],
-            )
-        } else {
-            leaf_node(&self.id, r, &ots_public(&self.id, r - count, &self.secret))
+        if self.made > r {
+            self.made = make_nodes(self.height, &self.id, &self.secret, &mut self.nodes, r);
         }
+        self.first = r;
     }
 
     /// The whole tree.
@@ -115,6 +100,50 @@ impl GrowingTree {
             secret: tree.secret,
             nodes: tree.nodes,
         }
+    }
+}
+
+// Makes node `r`, where each node behind it is made; of leaves seven more, those before it, since eight take little more time
+// than one. Returns the first one of all that are made then.
+fn make_nodes(
+    height: Height,
+    id: &[u8; 16],
+    secret: &[u8; 32],
+    nodes: &mut Vec<[u8; 32]>,
+    r: u32,
+) -> u32
+    requires node { 0 < r }
+    requires holds { HoldsNodesFrom (r + 1) (levels_of height) id.now secret.now nodes.old.items }
+    ensures made { result ≤ r }
+    ensures holds { HoldsNodesFrom result (levels_of height) id.now secret.now nodes.new.items }
+{
+    let count = height.leaf_count();
+    if r < count + 7 {
+        let node = node_of(height, id, secret, nodes, r);
+        nodes[r as usize] = node;
+        return r;
+    }
+    let first = r - 7;
+    let values = ots_publics(id, first - count, secret);
+    'leaves: for l in 0..8 {
+        let node = first + l;
+        nodes[node as usize] = leaf_node(id, node, &values[l as usize]);
+    }
+    first
+}
+
+// Node `r`, where each node behind it is made.
+fn node_of(height: Height, id: &[u8; 16], secret: &[u8; 32], nodes: &[[u8; 32]], r: u32) -> [u8; 32]
+    requires node { 0 < r }
+    requires holds { HoldsNodesFrom (r + 1) (levels_of height) id.now secret.now nodes.now }
+    ensures { result ≡ tree_node (levels_of height) id.now secret.now r }
+{
+    let count = height.leaf_count();
+    if r < count {
+        let children = 2 * r as usize;
+        inner_node(id, r, &nodes[children], &nodes[children + 1])
+    } else {
+        leaf_node(id, r, &ots_public(id, r - count, secret))
     }
 }
 

@@ -2,7 +2,7 @@
 
 use crate::lms::counts::{leaf_blocks, sign_blocks, verify_blocks};
 use crate::lms::times::{
-    ID, MESSAGE, SECRET, nanoseconds_of_hashes, print_ratio, print_verifying, timed_signature,
+    Build, Floors, ID, MESSAGE, SECRET, print_ratio, print_verifying, timed_signature,
 };
 use anyhow::{Result, anyhow};
 use bench_common::ratio::{Comparison, Limit};
@@ -67,10 +67,10 @@ fn blocks_of_verifying(sig: &[u8]) -> Option<u64> {
 }
 
 /// The least time of a block's share of a signature, and of a bare hash, over rounds of 100 signatures.
-fn print_signatures(rt: &impl Measures, signer: &mut Signer) -> Result<bool> {
+fn print_signatures(rt: &impl Measures, build: Build, signer: &mut Signer) -> Result<bool> {
     let mut all = 0u64;
     let mut signed = u128::MAX;
-    let mut hashed = u128::MAX;
+    let mut floors = Floors::MOST;
     for _ in 0..10 {
         let mut blocks = 0u64;
         let mut taken = 0u128;
@@ -84,21 +84,27 @@ fn print_signatures(rt: &impl Measures, signer: &mut Signer) -> Result<bool> {
         }
         let share = u128::from(blocks.max(1));
         signed = signed.min(taken.saturating_mul(1000) / share);
-        let bare = nanoseconds_of_hashes(rt, blocks)?;
-        hashed = hashed.min(bare.saturating_mul(1000) / share);
+        floors = floors.least(Floors::measure(rt, blocks)?.shared(share));
         all = all.saturating_add(blocks);
     }
     let work = "1,000 signatures of two levels, by 1,000 blocks";
-    print_ratio(rt, work, all, signed, hashed)
+    print_ratio(rt, build, work, all, signed, floors)
 }
 
-fn print_verification(rt: &impl Measures, signer: &mut Signer) -> Result<bool> {
+fn print_verification(rt: &impl Measures, build: Build, signer: &mut Signer) -> Result<bool> {
     let key = signer.public_key();
     let sig = signer.sign(&MESSAGE)?;
     let Some(blocks) = blocks_of_verifying(&sig) else {
         return Err(anyhow!("the signature is short"));
     };
-    print_verifying(rt, "verification of two levels", &key, &sig, blocks)
+    print_verifying(
+        rt,
+        build,
+        "verification of two levels, 1,000 times",
+        &key,
+        &sig,
+        blocks,
+    )
 }
 
 /// Signs as often as there are times, and lessens each to the processor's time of its signature.
@@ -140,15 +146,15 @@ fn print_slowest(rt: &impl Measures) -> Result<bool> {
 }
 
 /// Prints what a verification and signatures of a key take, and returns whether both are within the limit.
-fn print_of_key(rt: &impl Measures, signer: &mut Signer) -> Result<bool> {
-    let verified = print_verification(rt, signer)?;
-    let signed = print_signatures(rt, signer)?;
+fn print_of_key(rt: &impl Measures, build: Build, signer: &mut Signer) -> Result<bool> {
+    let verified = print_verification(rt, build, signer)?;
+    let signed = print_signatures(rt, build, signer)?;
     Ok(verified && signed)
 }
 
 /// Prints all ratios, and returns whether they are within their limits.
-pub(crate) fn print_times(rt: &impl Measures) -> Result<bool> {
-    let of_key = print_of_key(rt, &mut signer(rt.alloc())?)?;
+pub(crate) fn print_times(rt: &impl Measures, build: Build) -> Result<bool> {
+    let of_key = print_of_key(rt, build, &mut signer(rt.alloc())?)?;
     let even = print_slowest(rt)?;
     Ok(of_key && even)
 }

@@ -1,26 +1,15 @@
-use Rattle.std.proofs.Common.{◌≡◌, ◌++◌, ◌∙◌, ap, arith}
-use Rattle.sha2.specs.Sha256.{sha256}
-use Rattle.lms_ots.specs.Ots.{chain, chain_start, concatenation, tagged_hash, u16str, u32str}
-use Rattle.lms_ots.proofs.Hashing.{Holds-more, Holds-none}
+use Rattle.std.proofs.Common.{◌∙◌, arith, replicate}
+use Rattle.lms_ots.specs.Ots.{chain, chain_start}
+use Rattle.lms_ots.proofs.EndLemmas.{end_is, in_each}
 use Rattle.lms_ots.proofs.ots_public.Goals as goal
 
-pub chains-init : goal.chains-init
-chains-init c = Holds-none _ _ _ c.hasher-hasher.ensures
-
-pub chains-preserved : goal.chains-preserved
-chains-preserved c =
-    let a = c.args in
-    Holds-more _ _ _ c.chains.i c.chain.result
-    (c.chain.ensures ∙ ap (λ s. chain a.id.now a.leaf c.chains.i 0 15 s) c.chain_start-start.ensures)
-    (c.update.ensures _ c.chains.invariant)
+pub ends-ends-requires : goal.ends-ends-requires
+ends-ends-requires c i lt = omega (arith, in_each 0 i lt, in_each 15 i lt)
 
 pub returns : goal.returns
-unfolding tagged_hash
 returns c =
     let a = c.args in
-    let over = c.chains-test.false in
-    let within = c.chains.auto.i-end in
-    let all : c.chains.i ≡ 67 = omega arith in
-    c.finalize.ensures _ c.chains.invariant
-    ∙ ap (λ n. sha256 (a.id.now ++ u32str a.leaf ++ u16str 0x8080
-    ++ concatenation (λ i. chain a.id.now a.leaf i 0 15 (chain_start a.id.now a.leaf a.secret.now i)) n)) all
+    c.hash_of_ends.ensures (λ i. chain a.id.now a.leaf i 0 15 (chain_start a.id.now a.leaf a.secret.now i)) (λ i lt.
+    c.ends-ends.ensures i lt
+    ∙ end_is a.id.now a.leaf (replicate 67 0) (replicate 67 15) c.chain_starts.result i 0 15 (chain_start a.id.now a.leaf a.secret.now i)
+    (in_each 0 i lt) (in_each 15 i lt) (c.chain_starts.ensures i lt))
