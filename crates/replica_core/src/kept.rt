@@ -145,7 +145,7 @@ impl Core {
     pub(crate) fn is_known(&self, digest: &Digest) -> bool
         ensures { result ≡ is_known (setup_of self.now.config) self.now.core digest.now.0 }
     {
-        *digest == null_digest() || self.requests.find(digest).is_some()
+        self.requests.find(digest).is_some() || *digest == null_digest()
     }
 
     /// The digest with which a number is prepared in this view: it is certified, and the request is held

@@ -155,22 +155,22 @@ fn keep(
 }
 
 /// What is handed in of a row.
-fn found(alloc: Global, interval: &str, votes: &str, marks: &str) -> Result<String, Fail> {
+fn found(alloc: Global, group: &mut Group, votes: &str, marks: &str) -> Result<String, Fail> {
     let Group {
         config,
-        mut signers,
+        signers,
         ..
-    } = group_of(alloc, digit(interval.as_bytes(), 0)?, 1)?;
-    let mut held = Held::new(alloc, &config)?;
-    keep_all(alloc, &config, &mut held, &mut signers, votes)?;
+    } = group;
+    let mut held = Held::new(alloc, config)?;
+    keep_all(alloc, config, &mut held, signers, votes)?;
     let low = SeqNo(u64::from(digit(marks.as_bytes(), 0)?));
     let view = View(u32::from(digit(marks.as_bytes(), 2)?));
     held.move_to(low, view);
     handed_in(alloc, &mut held)
 }
 
-/// Whether a row comes to what it says.
-fn holds(alloc: Global, row: &str) -> Result<bool, Fail> {
+/// Whether a row comes to what it says. The groups have Checkpoints at each number, and at each second one.
+fn holds(alloc: Global, groups: &mut [Group], row: &str) -> Result<bool, Fail> {
     let mut parts = row.split('|');
     let (Some(interval), Some(votes), Some(marks), Some(wanted)) = (
         parts.next(),
@@ -180,14 +180,22 @@ fn holds(alloc: Global, row: &str) -> Result<bool, Fail> {
     ) else {
         return Err(Fail::new("a row of other parts"));
     };
-    let found = found(alloc, interval.trim(), votes.trim(), marks.trim())?;
+    let interval = digit(interval.trim().as_bytes(), 0)?;
+    let Some(group) = groups.get_mut(usize::from(interval.saturating_sub(1))) else {
+        return Err(Fail::new("no group of this interval"));
+    };
+    let found = found(alloc, group, votes.trim(), marks.trim())?;
     Ok(found.as_str() == wanted.trim())
 }
 
 #[test]
 fn early_votes_are_kept_and_handed_in(rt: HostRuntime) -> Result<(), Fail> {
+    let mut groups = Vec::new(rt.alloc());
+    for interval in 1..3u8 {
+        groups.push(group_of(rt.alloc(), interval, 1)?)?;
+    }
     for row in ROWS.lines() {
-        if !holds(rt.alloc(), row)? {
+        if !holds(rt.alloc(), &mut groups, row)? {
             return Err(format!(in rt.alloc(); "{row}")?.into());
         }
     }

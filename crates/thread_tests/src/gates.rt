@@ -12,7 +12,7 @@ pub const TURNS: u64 = 10_000;
 pub const FIRST_LANE: u32 = 256 + 16;
 
 /// Counts the steps of replicas 0 to 3, how often the two lanes of replica 1 began, and the openings of
-/// replica 0. It holds the first step of replica 0, or of the first lane, as it is told to.
+/// replica 0. It holds the first step of replica 0, its first opening, or the first lane, as it is told to.
 #[derive(Drop)]
 pub struct Watch<R: Clock + Drop> {
     rt: R,
@@ -23,12 +23,13 @@ pub struct Watch<R: Clock + Drop> {
     gave_up: AtomicU64,
 }
 
-/// What the first step of replica 0 waits for, or that of the first lane of replica 1.
+/// What the first step of replica 0 waits for, or its first opening, or the first lane of replica 1.
 #[derive(Clone, Copy, Debug, PartialEq, Eq)]
 pub enum Held {
     No,
     UntilOneSteps,
     UntilTwoAreOpened,
+    OpenerUntilTheOther,
     LaneUntilTheOther,
 }
 
@@ -73,7 +74,9 @@ impl<R: Clock + Drop> Watch<R> {
         match self.held {
             Held::No => true,
             Held::UntilOneSteps => self.steps(1) > 0,
-            Held::UntilTwoAreOpened => self.openings.load(Ordering::SeqCst) > 1,
+            Held::UntilTwoAreOpened | Held::OpenerUntilTheOther => {
+                self.openings.load(Ordering::SeqCst) > 1
+            }
             Held::LaneUntilTheOther => self.steps(FIRST_LANE + 1) > 0,
         }
     }
@@ -81,6 +84,7 @@ impl<R: Clock + Drop> Watch<R> {
     fn is_held(&self, who: u32) -> bool {
         match self.held {
             Held::LaneUntilTheOther => who == FIRST_LANE,
+            Held::OpenerUntilTheOther => false,
             _ => who == 0,
         }
     }
@@ -108,7 +112,10 @@ impl<R: Clock + Drop> Gate for Watch<R> {
 
     fn opened(&self, who: u32) {
         if who == 0 {
-            self.openings.fetch_add(1, Ordering::SeqCst);
+            let before = self.openings.fetch_add(1, Ordering::SeqCst);
+            if before == 0 && self.held == Held::OpenerUntilTheOther {
+                self.hold();
+            }
         }
     }
 }

@@ -1,6 +1,8 @@
 //! Hosts: what is posted reaches the journals, and threads run beside one another.
 
-use crate::gates::{Held, Watch, wait_for_steps};
+ghost use Rattle.std.specs.Prelude.{◌≡◌, ◌≤◌};
+
+use crate::gates::{Held, TURNS, Watch, wait_for_steps};
 use crate::place::{CLIENT, Place, four_replicas, install, session};
 use client_session::Session;
 use host_script::{Done, Host, HostFault, Input, Row};
@@ -9,8 +11,9 @@ use lms_tree::Signer;
 use std::alloc::Global;
 use std::sync::{Arc, Wait};
 use std::test::Fail;
+use std::thread;
 use std::thread::Threads;
-use std::time::Clock;
+use std::time::{Clock, Duration};
 
 /// The rows of a journal.
 const LIMIT: u32 = 65_536;
@@ -32,9 +35,23 @@ fn begin<R: Threads + Wait + Clock + Copy + Send + Sync + Drop + 'static>(
     signers: Vec<Signer>,
     held: Held,
 ) -> Result<(Box<Host>, Arc<Watch<R>>), Fail> {
+    begin_with(rt, alloc, config, signers, held, 1)
+}
+
+// Such a host with so many openers for each replica.
+fn begin_with<R: Threads + Wait + Clock + Copy + Send + Sync + Drop + 'static>(
+    rt: &R,
+    alloc: Global,
+    config: &Arc<Config>,
+    signers: Vec<Signer>,
+    held: Held,
+    openers: u8,
+) -> Result<(Box<Host>, Arc<Watch<R>>), Fail>
+    requires openers { (1 ≤ openers) × (openers ≤ 4) }
+{
     let gate = Arc::new(alloc, Watch::new(*rt, held))?;
     let shared = Arc::try_clone(&gate)?;
-    let host = Host::start(rt, alloc, config, signers, LIMIT, 1, shared)?;
+    let host = Host::start(rt, alloc, config, signers, LIMIT, openers, shared)?;
     Ok((Box::new(alloc, host)?, gate))
 }
 
@@ -220,6 +237,63 @@ fn a_replica_steps_while_another_is_held(rt: HostRuntime) -> Result<(), Fail> {
 #[test]
 fn posts_are_opened_while_the_replica_is_held(rt: HostRuntime) -> Result<(), Fail> {
     held(&rt, rt.alloc(), Held::UntilTwoAreOpened)
+}
+
+// The first opening waits for the second, which takes another opener of the replica.
+#[test]
+fn two_openers_open_at_the_same_time(rt: HostRuntime) -> Result<(), Fail> {
+    let Place {
+        config,
+        signers,
+        client,
+    } = four_replicas(rt.alloc())?;
+    let requests = requests(rt.alloc(), client, &config, 2)?;
+    let held = Held::OpenerUntilTheOther;
+    let (host, gate) = begin_with(&rt, rt.alloc(), &config, signers, held, 2)?;
+    for request in &requests {
+        post_to(&rt, rt.alloc(), &host, 0, request)?;
+    }
+    let seen = wait_for_steps(&rt, &*gate, 0, 2);
+    let closed = host.close(&rt).is_ok();
+    if seen && closed && !gate.gave_up() {
+        Ok(())
+    } else {
+        fail("one opener waits for the other")
+    }
+}
+
+// Waits until a replica has executed a request; false where it gives up.
+fn executes<R: Wait + Clock>(rt: &R, host: &Host, id: ReplicaId) -> bool {
+    for _ in 0..TURNS {
+        match host.status(rt, id) {
+            Some(status) if status.executed.0 > 0 => return true,
+            _ => thread::sleep(rt, Duration::from_millis(1)),
+        }
+    }
+    false
+}
+
+// A replica asks the others for a request that it has a PrePrepare of, and is given it by them alone.
+#[test]
+fn a_replica_is_given_the_request_that_it_lacks(rt: HostRuntime) -> Result<(), Fail> {
+    let Place {
+        config,
+        signers,
+        client,
+    } = four_replicas(rt.alloc())?;
+    let requests = requests(rt.alloc(), client, &config, 1)?;
+    let (host, _gate) = begin(&rt, rt.alloc(), &config, signers, Held::No)?;
+    for request in &requests {
+        for id in [0u8, 2, 3] {
+            post_to(&rt, rt.alloc(), &host, id, request)?;
+        }
+    }
+    let seen = executes(&rt, &host, ReplicaId(1));
+    if seen && host.close(&rt).is_ok() {
+        Ok(())
+    } else {
+        fail("replica 1 doesn't execute the request that it lacks")
+    }
 }
 
 // How many requests the replicas executed.
