@@ -1,0 +1,7 @@
+pub mod Slots
+pub mod Inside
+pub mod Statuses
+pub mod Verdicts
+pub mod RunAnswers
+pub mod MapAnswers
+pub mod Texts
