@@ -1,10 +1,12 @@
 //! `check`: the runs of a folder, each compared with what is to come of it. A script `NAME.toml` is to print what
 //! `NAME.out` has, with `--trace` what `NAME.trace` has, and with `--chart` what `NAME.mmd` and `NAME.svg` have, where they
-//! are there; each row of `NAME.rows` names its words, input, status and output.
+//! are there; `NAME.run.toml` is run on replicas in threads; each row of `NAME.rows` names its words, input, status and output.
 
 use crate::command::run_in_folder;
 use crate::failure::Failure;
-use crate::row::{Row, is_row};
+use crate::files::Unread;
+use crate::row::{MAX_STATUS, Row, is_row};
+use code_commands::{Format, push_json};
 use std::alloc::{AllocError, Global};
 use std::io::Write;
 use std::rt::Files;
@@ -18,11 +20,58 @@ use thiserror::Error;
 #[derive(Debug, Drop, Error)]
 pub enum CheckFault {
     /// The folder or a file in it can't be read, or a file that is to be text isn't.
-    #[error("check fault 1 Unreadable {0}")]
-    Unreadable(String),
+    #[error("check fault 1 Unreadable {}", .0.name)]
+    Unreadable(Unread),
     /// A line of a file of rows is no row.
     #[error("check fault 2 BadRow {0}:{1}")]
     BadRow(String, u32),
+    /// The folder has nothing that is run.
+    #[error("check fault 3 NothingToRun {0}")]
+    NothingToRun(String),
+}
+
+impl CheckFault {
+    /// The fault as an object of JSON, without a line end.
+    pub(crate) fn object(
+        &self,
+        alloc: Global,
+        sentence: Option<&str>,
+    ) -> Result<String, AllocError> {
+        let (name, number) = match self {
+            CheckFault::Unreadable(_) => ("Unreadable", 1),
+            CheckFault::BadRow(_, _) => ("BadRow", 2),
+            CheckFault::NothingToRun(_) => ("NothingToRun", 3),
+        };
+        let mut text = format!(in alloc;
+            "{{\"fault\":\"{name}\",\"of\":\"folder\",\"number\":{number},\"place\":"
+        )?;
+        match self {
+            CheckFault::Unreadable(unread) => push_json(&mut text, unread.name.as_str())?,
+            CheckFault::NothingToRun(path) => push_json(&mut text, path)?,
+            CheckFault::BadRow(path, line) => {
+                push_json(&mut text, format!(in alloc; "{path}:{line}")?.as_str())?
+            }
+        }
+        if let Some(sentence) = sentence {
+            text.push_str(",\"sentence\":")?;
+            push_json(&mut text, sentence)?;
+        }
+        text.push('}')?;
+        Ok(text)
+    }
+
+    /// What there is more to say.
+    pub(crate) fn sentence(&self, alloc: Global) -> Result<String, AllocError> {
+        match self {
+            CheckFault::Unreadable(unread) => format!(in alloc; "{unread}"),
+            CheckFault::BadRow(path, line) => format!(in alloc;
+                "line {line} of {path} is no row: words | input | status | output, where the status is 0 to {MAX_STATUS}"
+            ),
+            CheckFault::NothingToRun(folder) => format!(in alloc;
+                "{folder} has no NAME.toml, no NAME.rows, and no NAME.trace, NAME.mmd or NAME.svg"
+            ),
+        }
+    }
 }
 
 /// How many runs there were.
@@ -52,22 +101,114 @@ struct Ending {
     errors: Vec<u8>,
 }
 
+/// Where differences are written, and how.
+#[derive(Drop)]
+struct Differences<'a, O: Write> {
+    alloc: Global,
+    format: Format,
+    writer: &'a mut O,
+    counts: Counts,
+}
+
+impl<O: Write> Differences<'_, O> {
+    /// A run ended with another status than was wanted.
+    fn status(&mut self, place: &str, wanted: u8, got: u8) -> Result<(), Failure> {
+        if self.format == Format::Words {
+            writeln!(self.writer, "{place}: wanted status {wanted}, got {got}")?;
+            return Ok(());
+        }
+        let mut text = String::from_str(self.alloc, "{\"run\":")?;
+        push_json(&mut text, place)?;
+        writeln!(
+            self.writer,
+            "{text},\"wanted_status\":{wanted},\"got_status\":{got}}}"
+        )?;
+        Ok(())
+    }
+
+    /// A run wrote bytes that are no text.
+    fn no_text(&mut self, place: &str) -> Result<(), Failure> {
+        if self.format == Format::Words {
+            writeln!(self.writer, "{place}: what is written is not UTF-8")?;
+            return Ok(());
+        }
+        let mut text = String::from_str(self.alloc, "{\"run\":")?;
+        push_json(&mut text, place)?;
+        writeln!(self.writer, "{text},\"got\":null}}")?;
+        Ok(())
+    }
+
+    /// A run wrote another line than was wanted.
+    fn line(&mut self, place: &str, line: u32, wanted: &str, got: &str) -> Result<(), Failure> {
+        if self.format == Format::Words {
+            writeln!(
+                self.writer,
+                "{place} line {line}: wanted {wanted:?}, got {got:?}"
+            )?;
+            return Ok(());
+        }
+        let mut text = String::from_str(self.alloc, "{\"run\":")?;
+        push_json(&mut text, place)?;
+        write!(text, ",\"line\":{line},\"wanted\":")?;
+        push_json(&mut text, wanted)?;
+        text.push_str(",\"got\":")?;
+        push_json(&mut text, got)?;
+        writeln!(self.writer, "{text}}}")?;
+        Ok(())
+    }
+
+    /// Whether a run wrote what was wanted; where it didn't, a line says which line is the first that differs.
+    fn compare(&mut self, place: &str, wanted: &str, written: &[u8]) -> Result<bool, Failure> {
+        if wanted.as_bytes() == written {
+            return Ok(true);
+        }
+        let Ok(written) = str::from_utf8(written) else {
+            self.no_text(place)?;
+            return Ok(false);
+        };
+        let (number, wanted, got) = first_difference(wanted, written);
+        self.line(place, number, wanted, got)?;
+        Ok(false)
+    }
+
+    /// How many runs passed and failed.
+    fn end(&mut self) -> Result<(), Failure> {
+        let Counts { passed, failed } = self.counts;
+        match self.format {
+            Format::Words => writeln!(self.writer, "{passed} passed, {failed} failed")?,
+            Format::Json => {
+                writeln!(self.writer, "{{\"passed\":{passed},\"failed\":{failed}}}")?
+            }
+        }
+        Ok(())
+    }
+}
+
 /// Runs the scripts and rows of a folder, by their names ascending. Writes a line for each run that comes to something else,
-/// and at the end how many passed and failed.
+/// and at the end how many passed and failed. A folder with nothing to run is refused.
 pub(crate) fn check<
     R: Files + AllocGlobal + Threads + Wait + Clock + Copy + Send + Sync + Drop + 'static,
     O: Write,
->(rt: &R, folder: &str, writer: &mut O) -> Result<(), Failure> {
-    let mut counts = Counts::default();
+>(rt: &R, folder: &str, format: Format, writer: &mut O) -> Result<(), Failure> {
+    let mut differences = Differences {
+        alloc: rt.alloc(),
+        format,
+        writer,
+        counts: Counts::default(),
+    };
     for name in &names_in(rt, folder)? {
         if let Some((stem, words)) = shown_by(name.as_str()) {
-            check_script(rt, folder, stem, name.as_str(), words, &mut counts, writer)?;
+            check_script(rt, folder, stem, name.as_str(), words, &mut differences)?;
         } else if name.ends_with(".rows") {
-            check_rows(rt, folder, name.as_str(), &mut counts, writer)?;
+            check_rows(rt, folder, name.as_str(), &mut differences)?;
         }
     }
-    let Counts { passed, failed } = counts;
-    writeln!(writer, "{passed} passed, {failed} failed")?;
+    let Counts { passed, failed } = differences.counts;
+    if passed == 0 && failed == 0 {
+        let folder = String::from_str(rt.alloc(), folder)?;
+        return Err(Failure::Check(CheckFault::NothingToRun(folder)));
+    }
+    differences.end()?;
     if failed > 0 {
         return Err(Failure::Differs);
     }
@@ -98,16 +239,15 @@ fn listed<R: Files + AllocGlobal + Clone + Drop>(rt: &R, folder: &str) -> io::Re
 }
 
 /// What a failed read of a folder or file is.
-pub(crate) fn unreadable(
-    alloc: Global,
-    path: &str,
-    error: &io::Error,
-) -> Result<Failure, AllocError> {
+fn unreadable(alloc: Global, path: &str, error: &io::Error) -> Result<Failure, AllocError> {
     if error.kind() == io::ErrorKind::OutOfMemory {
         return Ok(Failure::Memory);
     }
-    let path = String::from_str(alloc, path)?;
-    Ok(Failure::Check(CheckFault::Unreadable(path)))
+    let unread = Unread {
+        name: String::from_str(alloc, path)?,
+        kind: error.kind(),
+    };
+    Ok(Failure::Check(CheckFault::Unreadable(unread)))
 }
 
 /// The bytes of a file.
@@ -129,10 +269,11 @@ fn text_of<R: Files + AllocGlobal>(rt: &R, folder: &str, name: &str) -> Result<S
 }
 
 /// Whose run a file is, by its name's end, and with which words: that of the script `NAME.toml`, whose lines stand in
-/// `NAME.out`, whose trace in `NAME.trace`, and whose chart in `NAME.mmd` and `NAME.svg`.
+/// `NAME.out`, whose trace in `NAME.trace`, and whose chart in `NAME.mmd` and `NAME.svg`; of `NAME.run.toml` on threads.
 fn shown_by(name: &str) -> Option<(&str, &'static [&'static str])> {
     let (stem, end) = name.rsplit_once('.')?;
     match end {
+        "toml" if stem.ends_with(".run") => Some((stem, &["bpf_host", "run"])),
         "toml" => Some((stem, &["bpf_host", "world"])),
         "trace" => Some((stem, &["bpf_host", "world", "--trace"])),
         "mmd" => Some((stem, &["bpf_host", "world", "--chart"])),
@@ -151,15 +292,14 @@ fn check_script<
     stem: &str,
     name: &str,
     words: &[&str],
-    counts: &mut Counts,
-    writer: &mut O,
+    differences: &mut Differences<'_, O>,
 ) -> Result<(), Failure> {
     let alloc = rt.alloc();
     let script = bytes_of(rt, folder, format!(in alloc; "{stem}.toml")?.as_str())?;
     let wanted = wanted_of(rt, folder, stem, name)?;
-    let ending = ending_of(rt, words, &script);
-    let is_same = compare(name, wanted.as_str(), &ending.output, writer)?;
-    counts.add(is_same);
+    let ending = ending_of(rt, folder, words, &script);
+    let is_same = differences.compare(name, wanted.as_str(), &ending.output)?;
+    differences.counts.add(is_same);
     Ok(())
 }
 
@@ -180,14 +320,14 @@ fn wanted_of<R: Files + AllocGlobal>(
 fn check_rows<
     R: Files + AllocGlobal + Threads + Wait + Clock + Copy + Send + Sync + Drop + 'static,
     O: Write,
->(rt: &R, folder: &str, name: &str, counts: &mut Counts, writer: &mut O) -> Result<(), Failure> {
+>(rt: &R, folder: &str, name: &str, differences: &mut Differences<'_, O>) -> Result<(), Failure> {
     let text = text_of(rt, folder, name)?;
     let mut number: u32 = 0;
     for line in text.lines() {
         number = number.saturating_add(1);
         if is_row(line) {
-            let has_passed = check_row(rt, name, number, line, writer)?;
-            counts.add(has_passed);
+            let has_passed = check_row(rt, folder, name, number, line, differences)?;
+            differences.counts.add(has_passed);
         }
     }
     Ok(())
@@ -197,42 +337,47 @@ fn check_rows<
 fn check_row<
     R: Files + AllocGlobal + Threads + Wait + Clock + Copy + Send + Sync + Drop + 'static,
     O: Write,
->(rt: &R, name: &str, number: u32, line: &str, writer: &mut O) -> Result<bool, Failure> {
+>(
+    rt: &R,
+    folder: &str,
+    name: &str,
+    number: u32,
+    line: &str,
+    differences: &mut Differences<'_, O>,
+) -> Result<bool, Failure> {
     let alloc = rt.alloc();
     let Some(row) = Row::read(alloc, line)? else {
         let name = String::from_str(alloc, name)?;
         return Err(Failure::Check(CheckFault::BadRow(name, number)));
     };
     let words = row.words(alloc)?;
-    let ending = ending_of(rt, &words, row.input.as_bytes());
+    let ending = ending_of(rt, folder, &words, row.input.as_bytes());
     let place = format!(in alloc; "{name}:{number}")?;
     if ending.status != row.status {
-        let Row { status, .. } = row;
-        let got = ending.status;
-        writeln!(writer, "{place}: wanted status {status}, got {got}")?;
+        differences.status(place.as_str(), row.status, ending.status)?;
         return Ok(false);
     }
-    if !compare(place.as_str(), row.output.as_str(), &ending.output, writer)? {
+    if !differences.compare(place.as_str(), row.output.as_str(), &ending.output)? {
         return Ok(false);
     }
     match &row.errors {
         Some(errors) => {
             let place = format!(in alloc; "{place}, standard error")?;
-            compare(place.as_str(), errors.as_str(), &ending.errors, writer)
+            differences.compare(place.as_str(), errors.as_str(), &ending.errors)
         }
         None => Ok(true),
     }
 }
 
-/// Runs the program's words over an input.
+/// Runs the program's words over an input, with the folder's files.
 fn ending_of<
     'a,
     R: Files + AllocGlobal + Threads + Wait + Clock + Copy + Send + Sync + Drop + 'static,
->(rt: &R, words: &'a [&'a str], input: &[u8]) -> Ending {
+>(rt: &R, folder: &str, words: &'a [&'a str], input: &[u8]) -> Ending {
     let mut reader = input;
     let mut output = Vec::new(rt.alloc());
     let mut errors = Vec::new(rt.alloc());
-    let status = run_in_folder(rt, words, &mut reader, &mut output, &mut errors);
+    let status = run_in_folder(rt, folder, words, &mut reader, &mut output, &mut errors);
     Ending {
         status,
         output,
@@ -240,30 +385,8 @@ fn ending_of<
     }
 }
 
-/// Whether a run wrote what was wanted; where it didn't, a line says which line is the first that differs.
-fn compare<O: Write>(
-    place: &str,
-    wanted: &str,
-    written: &[u8],
-    writer: &mut O,
-) -> Result<bool, Failure> {
-    if wanted.as_bytes() == written {
-        return Ok(true);
-    }
-    let Ok(written) = str::from_utf8(written) else {
-        writeln!(writer, "{place}: what is written is not UTF-8")?;
-        return Ok(false);
-    };
-    let (number, wanted, got) = first_difference(wanted, written);
-    writeln!(
-        writer,
-        "{place} line {number}: wanted {wanted:?}, got {got:?}"
-    )?;
-    Ok(false)
-}
-
 /// The number of the first line that differs, counted from 1, and the two lines, with their line ends.
-fn first_difference<'a>(wanted: &'a str, written: &'a str) -> (u32, &'a str, &'a str) {
+pub(crate) fn first_difference<'a>(wanted: &'a str, written: &'a str) -> (u32, &'a str, &'a str) {
     let mut number: u32 = 1;
     let mut wanted = wanted.split_inclusive('\n');
     let mut written = written.split_inclusive('\n');

@@ -1,9 +1,11 @@
 //! How far a command is, on one line of a terminal.
 
+use crate::check::first_difference;
 use host_script::Progress;
 use std::io::Write;
 
-/// Counts on one line of a stream that a person watches, and writes nothing to another. What can't be written is lost.
+/// Counts on one line of a stream that a person watches, and not on another; says on either what an `expect` finds. What
+/// can't be written is lost.
 #[derive(Drop)]
 pub(crate) struct Counter<'a, E: Write> {
     stream: &'a mut E,
@@ -43,6 +45,17 @@ impl<E: Write> Progress for Counter<'_, E> {
 
     fn step(&mut self, number: u32, all: usize) {
         self.show("step", u64::from(number), all as u64);
+    }
+
+    fn unexpected(&mut self, step: u32, wanted: &[u8], printed: &[u8]) {
+        self.end();
+        if let (Ok(wanted), Ok(printed)) = (str::from_utf8(wanted), str::from_utf8(printed)) {
+            let (line, wanted, got) = first_difference(wanted, printed);
+            let _ = writeln!(
+                self.stream,
+                "bpf_host: step {step} line {line}: wanted {wanted:?}, got {got:?}"
+            );
+        }
     }
 
     fn requests(&mut self, answered: u64, all: u64) {

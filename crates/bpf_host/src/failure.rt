@@ -1,11 +1,21 @@
 //! Why a command ends early, and with which status.
 
+ghost use Rattle.std.specs.Prelude.{◌≤◌};
+
 use crate::check::CheckFault;
+use crate::files::Unread;
+use crate::scripts::RefusedScript;
 use code_commands::CodeFailure;
 use host_script::{ScriptFault, ScriptKind};
 use std::alloc::{AllocError, AllocFailed};
 use std::io;
 use thiserror::Error;
+
+/// What is written of a script that can't be read.
+pub(crate) const UNREAD_SCRIPT: ScriptFault = ScriptFault {
+    kind: ScriptKind::Read,
+    step: 0,
+};
 
 /// Why a command ended early. Its text is the line that is written, if one is.
 #[derive(Debug, Drop, Error)]
@@ -16,6 +26,9 @@ pub enum Failure {
     /// A script has a fault, or ended early; its line is written already.
     #[error("{0}")]
     Script(ScriptFault),
+    /// A script is refused, or a file that it names can't be read; the line of the fault is written already.
+    #[error("{0}")]
+    RefusedScript(RefusedScript),
     /// The journals of running replicas don't agree, or an `expect` of a script finds other lines; the line that says so is
     /// written already.
     #[error("the journals don't agree, or other lines were expected")]
@@ -23,15 +36,24 @@ pub enum Failure {
     /// A request to running replicas can't be answered any more; the line of the audit is written already.
     #[error("{0}")]
     Unanswered(String),
+    /// A file that an option names, or one with code or an assembler text, can't be read.
+    #[error("{0}")]
+    Unread(Unread),
+    /// A file with a script can't be read.
+    #[error("{UNREAD_SCRIPT}")]
+    UnreadScript(Unread),
     /// A folder's runs can't be read.
     #[error("{0}")]
     Check(CheckFault),
     /// A run of a folder came to something else; the lines that say so are written already.
     #[error("a run differs")]
     Differs,
-    /// A folder is to be checked, or threads are to run, as a run of a folder.
+    /// A folder is to be checked as a run of a folder.
     #[error("a folder's runs are alone")]
     Nested,
+    /// A run of a folder names a file by a path.
+    #[error("a file of a folder's runs is a plain name in that folder")]
+    NotPlain,
     /// The words of the command line are wrong, or ask for help.
     #[error("{0}")]
     CommandLine(clap::Error),
@@ -49,6 +71,17 @@ pub enum Failure {
     Stream(io::Error),
 }
 
+/// The status of a script's fault.
+fn status_of(kind: ScriptKind) -> u8
+    ensures { (1 ≤ result) × (result ≤ 4) }
+{
+    match kind {
+        ScriptKind::Memory => 3,
+        ScriptKind::Read | ScriptKind::Write => 4,
+        _ => 1,
+    }
+}
+
 impl Failure {
     ghost use Rattle.std.specs.Prelude.{◌≤◌};
 
@@ -58,16 +91,16 @@ impl Failure {
     {
         match self {
             Failure::Code(failure) => failure.status(),
-            Failure::Script(fault) => match fault.kind {
-                ScriptKind::Memory => 3,
-                ScriptKind::Read | ScriptKind::Write => 4,
-                _ => 1,
-            },
+            Failure::Script(fault) => status_of(fault.kind),
+            Failure::RefusedScript(refused) => status_of(refused.fault().kind),
             Failure::Check(_) | Failure::Differs | Failure::Refused | Failure::Unanswered(_) => 1,
-            Failure::Nested | Failure::BadSeeds | Failure::CommandLine(_) | Failure::WordNotUtf8 =>
-                2,
+            Failure::Nested
+            | Failure::NotPlain
+            | Failure::BadSeeds
+            | Failure::CommandLine(_)
+            | Failure::WordNotUtf8 => 2,
             Failure::Memory => 3,
-            Failure::Stream(_) => 4,
+            Failure::Unread(_) | Failure::UnreadScript(_) | Failure::Stream(_) => 4,
         }
     }
 
@@ -80,13 +113,27 @@ impl Failure {
         }
     }
 
-    /// Whether its text is still to be written: nothing is said where memory ran out or a stream failed,
+    /// The failure of a command whose input this is: where a script can't be read, a line says so.
+    pub(crate) fn in_place_of_input(self, command: Option<&str>) -> Failure {
+        match (self, command) {
+            (Failure::Unread(unread), Some("world" | "explore" | "run")) => {
+                Failure::UnreadScript(unread)
+            }
+            (failure, _) => failure,
+        }
+    }
+
+    /// Whether its text is still to be written: nothing is said where memory ran out, or a file or a stream failed,
     /// and some commands have said it themselves.
     pub(crate) fn is_reported(&self) -> bool {
         match self {
             Failure::Code(failure) => failure.is_reported(),
-            Failure::Script(_) | Failure::Differs | Failure::Refused | Failure::Unanswered(_) =>
-                false,
+            Failure::Script(_)
+            | Failure::RefusedScript(_)
+            | Failure::Differs
+            | Failure::Refused
+            | Failure::Unanswered(_) => false,
+            Failure::UnreadScript(_) => true,
             _ => self.status() < 3,
         }
     }

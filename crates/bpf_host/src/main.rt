@@ -1,4 +1,4 @@
-//! The program: assembles BPF code, and verifies and runs code that it reads as hex.
+//! The program: assembles BPF code, verifies it and runs it, alone and on replicas.
 //!
 //! ```sh
 //! echo 'b700000007000000 9500000000000000' | bpf_host exec
@@ -8,14 +8,21 @@
 mod check;
 mod command;
 mod counter;
+mod explainer;
 mod failure;
+mod files;
+mod objects;
+mod outlet;
 mod recorder;
 mod row;
 mod said;
+mod scripts;
+mod words;
 mod worlds;
 
-use command::{report, run_explained};
+use command::{Console, run_explained};
 use failure::Failure;
+use said::report;
 use std::io::{IsTerminal, Write};
 use std::process::ExitCode;
 use std::rt::{Env, Files};
@@ -26,8 +33,11 @@ use std::{env, io};
 
 fn main(rt: HostRuntime) -> ExitCode {
     let stderr = rt.stderr();
-    let is_watched = stderr.is_terminal() && !rt.stdout().is_terminal();
-    let status = match run(&rt, &mut io::writer(&stderr), is_watched) {
+    let console = Console {
+        is_watched: stderr.is_terminal() && !rt.stdout().is_terminal(),
+        is_typed: rt.stdin().is_terminal(),
+    };
+    let status = match run(&rt, &mut io::writer(&stderr), console) {
         Ok(status) => status,
         Err(error) => report(&Failure::from_words(&error), &mut io::writer(&rt)),
     };
@@ -36,7 +46,7 @@ fn main(rt: HostRuntime) -> ExitCode {
 
 /// Hands the words of the command line and the standard streams to the command. Words that can't be
 /// read are an error.
-fn run<R, E: Write>(rt: &R, errors: &mut E, is_watched: bool) -> io::Result<u8>
+fn run<R, E: Write>(rt: &R, errors: &mut E, console: Console) -> io::Result<u8>
 where
     R: Files
         + Env
@@ -61,6 +71,6 @@ where
         &mut rt.reader(),
         &mut io::writer(rt),
         errors,
-        is_watched,
+        console,
     ))
 }

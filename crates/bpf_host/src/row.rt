@@ -8,16 +8,25 @@ const SEPARATOR: &str = " | ";
 /// What ends a line, in an input or an output of a row.
 const LINE_END: &str = "/";
 
+/// What stands for a slash there.
+const SLASH: &str = "\\/";
+
+/// What no row has.
+const KEPT: &str = "\0";
+
 /// The word that stands for an empty one.
 const EMPTY: &str = "-";
 
+/// What stands round a word that is taken as it is.
+const QUOTE: char = '\'';
+
 /// The greatest status.
-const MAX_STATUS: u8 = 4;
+pub(crate) const MAX_STATUS: u8 = 4;
 
 /// A run of the program, and what is to come of it.
 #[derive(Drop)]
 pub(crate) struct Row<'a> {
-    /// The words of the command line behind the program's name, with a blank between each two.
+    /// The words of the command line behind the program's name, with blanks between them.
     words: &'a str,
     pub(crate) input: String,
     pub(crate) status: u8,
@@ -33,15 +42,15 @@ impl<'a> Row<'a> {
             return Ok(None);
         };
         let (output, errors) = match rest.split_once(SEPARATOR) {
-            Some((output, errors)) => (output, Some(errors.replace(alloc, LINE_END, "\n")?)),
+            Some((output, errors)) => (output, Some(lines_of(alloc, errors)?)),
             None => (rest, None),
         };
         match status.parse::<u8>() {
             Ok(status) if status <= MAX_STATUS => Ok(Some(Row {
                 words,
-                input: input.replace(alloc, LINE_END, "\n")?,
+                input: lines_of(alloc, input)?,
                 status,
-                output: output.replace(alloc, LINE_END, "\n")?,
+                output: lines_of(alloc, output)?,
                 errors,
             })),
             _ => Ok(None),
@@ -52,15 +61,36 @@ impl<'a> Row<'a> {
     pub(crate) fn words(&self, alloc: Global) -> Result<Vec<&'a str>, AllocError> {
         let mut words = Vec::new(alloc);
         words.push("bpf_host")?;
-        for word in self.words.split(' ') {
-            if word == EMPTY {
-                words.push("")?;
-            } else if !word.is_empty() {
-                words.push(word)?;
+        let mut is_quoted = false;
+        for part in self.words.split(QUOTE) {
+            if is_quoted {
+                words.push(part)?;
+            } else {
+                add_words(&mut words, part)?;
             }
+            is_quoted = !is_quoted;
         }
         Ok(words)
     }
+}
+
+/// Adds words with blanks between them.
+fn add_words<'a>(words: &mut Vec<&'a str>, text: &'a str) -> Result<(), AllocError> {
+    for word in text.split(' ') {
+        if word == EMPTY {
+            words.push("")?;
+        } else if !word.is_empty() {
+            words.push(word)?;
+        }
+    }
+    Ok(())
+}
+
+/// A field with its line ends and slashes.
+fn lines_of(alloc: Global, field: &str) -> Result<String, AllocError> {
+    let kept = field.replace(alloc, SLASH, KEPT)?;
+    let lines = kept.replace(alloc, LINE_END, "\n")?;
+    lines.replace(alloc, KEPT, "/")
 }
 
 /// The first three fields of a row, and the rest: the output, which may be left out where it is empty, and what standard

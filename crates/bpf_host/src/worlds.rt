@@ -1,26 +1,30 @@
 //! The commands over scripts of worlds: `world`, with what it is to show, and `explore`.
 
-use crate::check::unreadable;
+use crate::explainer::Explainer;
 use crate::failure::Failure;
-use clap::{Arg, ArgAction, ArgMatches, Command, value_parser};
-use host_script::{Played, Progress, run_script_watched};
+use crate::files::Place;
+use crate::scripts::read_script_at;
+use crate::words::{file_argument, file_of, workers_parser};
+use clap::{Arg, ArgAction, ArgMatches, Command};
+use host_script::{Dialect, Played, Progress, run_read};
 use std::alloc::{AllocError, Global};
-use std::fs;
 use std::io::{Read, Write};
 use std::rt::Files;
 use std::thread::Threads;
 use world_trace::{
-    ChartForm, Searched, Seeds, chart_script, explore_script, explore_side_by_side, trace_script,
+    ChartForm, PlacedScript, Searched, Seeds, chart_script, explore_script, explore_side_by_side,
+    trace_script,
 };
 
 /// The first number that is no seed.
 const SEEDS_END: u64 = 1 << 63;
 
-/// `world` and its options; its help ends with these keys of scripts.
-pub(crate) fn world_command<'a>(alloc: Global, keys: &'a str) -> Result<Command<'a>, AllocError> {
+/// `world`, its file and its options; its help ends with this text.
+pub(crate) fn world_command<'a>(alloc: Global, ending: &'a str) -> Result<Command<'a>, AllocError> {
     let trace = Arg::new(alloc, "trace")
         .long("trace")
         .action(ArgAction::SetTrue)
+        .conflicts_with("chart")?
         .help("before the lines of a step one for each thing that happened");
     let chart = Arg::new(alloc, "chart")
         .long("chart")
@@ -31,16 +35,23 @@ pub(crate) fn world_command<'a>(alloc: Global, keys: &'a str) -> Result<Command<
         .help("what happened as a chart of messages, in place of the lines [default: mermaid]");
     Command::new(alloc, "world")
         .about("Runs a script of replicas, some of them faulty")
-        .after_help(keys)
+        .after_help(ending)
+        .arg(file_argument(alloc, "the script [default: standard input]"))?
         .arg(trace)?
+        .arg(explain_option(alloc).conflicts_with("chart")?)?
         .arg(chart)
+}
+
+/// The option that has lines explained.
+pub(crate) fn explain_option<'a>(alloc: Global) -> Arg<'a> {
+    Arg::new(alloc, "explain")
+        .long("explain")
+        .action(ArgAction::SetTrue)
+        .help("below each line what it means")
 }
 
 /// `explore`, its file and its options.
 pub(crate) fn explore_command<'a>(alloc: Global) -> Result<Command<'a>, AllocError> {
-    let file = Arg::new(alloc, "file")
-        .value_name("FILE")
-        .help("the script [default: standard input]");
     let seeds = Arg::new(alloc, "seeds")
         .long("seeds")
         .value_name("A..B")
@@ -49,28 +60,50 @@ pub(crate) fn explore_command<'a>(alloc: Global) -> Result<Command<'a>, AllocErr
     let workers = Arg::new(alloc, "workers")
         .long("workers")
         .value_name("N")
-        .value_parser(value_parser!(u8))
+        .value_parser(workers_parser())
         .help("how many seeds are run side by side [default: 1]");
     Command::new(alloc, "explore")
         .about("Runs a script under many orders of its deliveries and audits each")
-        .arg(file)?
+        .arg(file_argument(alloc, "the script [default: standard input]"))?
         .arg(seeds)?
         .arg(workers)
 }
 
-/// Runs a script of a world.
-pub(crate) fn play<I: Read, O: Write, P: Progress>(
-    alloc: Global,
+/// Runs a script of a world, whose FILE lies at this place, and has its lines explained where that is asked for.
+pub(crate) fn play<R: Files + AllocGlobal, I: Read, O: Write, P: Progress>(
+    rt: &R,
+    place: Place<'_>,
     options: &ArgMatches<'_>,
     reader: &mut I,
     writer: &mut O,
     progress: &mut P,
 ) -> Result<(), Failure> {
+    let alloc = rt.alloc();
+    let beside = place.beside(file_of(options));
+    let placed = match read_script_at(rt, beside, Dialect::World, reader) {
+        Ok(placed) => placed,
+        Err(refused) => return Err(refused.written(writer)),
+    };
+    if !options.get_flag("explain") {
+        return play_read(alloc, options, &placed, writer, progress);
+    }
+    let mut explainer = Explainer::new(alloc, &placed.script, writer);
+    play_read(alloc, options, &placed, &mut explainer, progress)
+}
+
+/// Runs a script of a world that was read.
+fn play_read<O: Write, P: Progress>(
+    alloc: Global,
+    options: &ArgMatches<'_>,
+    placed: &PlacedScript,
+    writer: &mut O,
+    progress: &mut P,
+) -> Result<(), Failure> {
     let played = match options.get_str("chart") {
-        Some("svg") => chart_script(alloc, ChartForm::Svg, reader, writer, progress)?,
-        Some(_) => chart_script(alloc, ChartForm::Mermaid, reader, writer, progress)?,
-        None if options.get_flag("trace") => trace_script(alloc, reader, writer, progress)?,
-        None => run_script_watched(alloc, reader, writer, progress)?,
+        Some("svg") => chart_script(alloc, ChartForm::Svg, placed, writer, progress)?,
+        Some(_) => chart_script(alloc, ChartForm::Mermaid, placed, writer, progress)?,
+        None if options.get_flag("trace") => trace_script(alloc, placed, writer, progress)?,
+        None => run_read(alloc, &placed.script, writer, progress)?,
     };
     match played {
         Played::Whole => Ok(()),
@@ -78,9 +111,10 @@ pub(crate) fn play<I: Read, O: Write, P: Progress>(
     }
 }
 
-/// Runs a script under many seeds.
+/// Runs a script, whose FILE lies at this place, under many seeds.
 pub(crate) fn explore<R: Files + AllocGlobal + Threads + Sync, I: Read, O: Write, P: Progress>(
     rt: &R,
+    place: Place<'_>,
     options: &ArgMatches<'_>,
     reader: &mut I,
     writer: &mut O,
@@ -88,48 +122,23 @@ pub(crate) fn explore<R: Files + AllocGlobal + Threads + Sync, I: Read, O: Write
 ) -> Result<(), Failure> {
     let seeds = seeds_of(options)?;
     let workers = usize::from(options.get_one::<u8>("workers").unwrap_or(1));
-    match options.get_str("file") {
-        Some(path) => {
-            let bytes = bytes_of(rt, path)?;
-            let mut reader = bytes.as_slice();
-            search(rt, workers, seeds, &mut reader, writer, progress)
-        }
-        None => search(rt, workers, seeds, reader, writer, progress),
-    }
-}
-
-/// Whether the options of `explore` name a file.
-pub(crate) fn has_file(options: &ArgMatches<'_>) -> bool {
-    options.get_str("file").is_some()
-}
-
-fn search<R: AllocGlobal + Threads + Sync, I: Read, O: Write, P: Progress>(
-    rt: &R,
-    workers: usize,
-    seeds: Seeds,
-    reader: &mut I,
-    writer: &mut O,
-    progress: &mut P,
-) -> Result<(), Failure> {
     let alloc = rt.alloc();
+    let beside = place.beside(file_of(options));
+    let placed = match read_script_at(rt, beside, Dialect::World, reader) {
+        Ok(placed) => placed,
+        Err(refused) => return Err(refused.written(writer)),
+    };
+    let script = &placed.script;
     if workers <= 1 {
-        return ended(explore_script(alloc, seeds, reader, writer, progress)?);
+        return ended(explore_script(alloc, seeds, script, writer, progress)?);
     }
-    ended(explore_side_by_side(rt, alloc, workers, seeds, reader, writer, progress)?)
+    ended(explore_side_by_side(rt, alloc, workers, seeds, script, writer, progress)?)
 }
 
 fn ended(searched: Searched) -> Result<(), Failure> {
     match searched {
         Searched::Agreed => Ok(()),
         Searched::Refused => Err(Failure::Refused),
-    }
-}
-
-/// The bytes of a script.
-pub(crate) fn bytes_of<R: Files + AllocGlobal>(rt: &R, path: &str) -> Result<Vec<u8>, Failure> {
-    match fs::read(rt, path) {
-        Ok(bytes) => Ok(bytes),
-        Err(error) => Err(unreadable(rt.alloc(), path, &error)?),
     }
 }
 

@@ -3,10 +3,11 @@
 ghost use Rattle.std.specs.Prelude.{◌≡◌};
 ghost use Rattle.bpf_model.specs.Profiles.{followed_words};
 
-use crate::commands::{write_line, write_verdict};
+use crate::commands::write_verdict;
 use crate::failure::CodeFailure;
 use crate::numbers::{Base, Numbers};
 use crate::reason::reason;
+use crate::shown::{Format, write_line};
 use bpf_asm::print;
 use bpf_decode::Insn;
 use bpf_model::layout::{FRAME_SIZE, FRAME_START, FRAMES, REGISTERS, STACK_WORDS, WORD_SIZE};
@@ -237,7 +238,7 @@ pub(crate) fn explain<O: Write>(
     code: &[u8],
     writer: &mut O,
 ) -> Result<(), CodeFailure> {
-    let refusal = match write_verdict(alloc, profile, code, writer) {
+    let refusal = match write_verdict(alloc, profile, Format::Words, code, writer) {
         Ok(_) => None,
         Err(CodeFailure::Refused(refusal)) => Some(refusal),
         Err(failure) => return Err(failure),

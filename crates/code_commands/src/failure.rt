@@ -1,8 +1,13 @@
 //! Why a command over code ends early, and with which status.
 
+use crate::call_text::{CallFault, CallKind};
+use crate::decimal::{NumberFault, NumberKind};
+use crate::input::HexSlip;
+use crate::map_text::{MapFault, MapKind};
 use bpf_asm::{AsmFault, AsmKind};
 use bpf_decode::DecodeFault;
 use bpf_verifier::{Refusal, VerifyFault};
+use elf_object::ObjectFault;
 use std::alloc::{AllocError, AllocFailed};
 use std::io;
 use thiserror::Error;
@@ -14,12 +19,27 @@ pub enum CodeFailure {
     /// The input is longer than the commands read.
     #[error("input too long")]
     InputTooLong,
-    /// The input or the arguments are no hex.
+    /// The input is no hex.
     #[error("input not hex")]
     NotHex,
+    /// The argument bytes are no hex.
+    #[error("input not hex")]
+    ArgsNotHex(HexSlip),
     /// There are more argument bytes than a call has.
     #[error("args too long")]
     ArgsTooLong,
+    /// A text of numbers has a fault.
+    #[error("{0}")]
+    Number(NumberFault),
+    /// A text of calls has a fault.
+    #[error("{0}")]
+    Call(CallFault),
+    /// A map's text has a fault.
+    #[error("{0}")]
+    Map(MapFault),
+    /// An ELF object isn't taken.
+    #[error("object fault {} {}", .0.number(), .0)]
+    Object(ObjectFault),
     /// The code was refused.
     #[error("refused {} {} at {}", .0.fault.number(), .0.fault, .0.slot)]
     Refused(Refusal),
@@ -109,6 +129,33 @@ impl From<AsmFault> for CodeFailure {
         match fault.kind {
             AsmKind::Memory => CodeFailure::Memory,
             _ => CodeFailure::Assembler(fault),
+        }
+    }
+}
+
+impl From<NumberFault> for CodeFailure {
+    fn from(fault: NumberFault) -> CodeFailure {
+        match fault.kind {
+            NumberKind::Memory => CodeFailure::Memory,
+            _ => CodeFailure::Number(fault),
+        }
+    }
+}
+
+impl From<CallFault> for CodeFailure {
+    fn from(fault: CallFault) -> CodeFailure {
+        match fault.kind {
+            CallKind::Memory => CodeFailure::Memory,
+            _ => CodeFailure::Call(fault),
+        }
+    }
+}
+
+impl From<MapFault> for CodeFailure {
+    fn from(fault: MapFault) -> CodeFailure {
+        match fault.kind {
+            MapKind::Memory => CodeFailure::Memory,
+            _ => CodeFailure::Map(fault),
         }
     }
 }

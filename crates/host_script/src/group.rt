@@ -3,6 +3,7 @@
 ghost use Rattle.std.specs.Prelude.{◌≡◌};
 
 use crate::callers::Callers;
+use crate::told::{Telling, Told};
 use host_client::{CallFault, Host, Status};
 use host_types::{Bytes, Gate, ReplicaId};
 use script_text::{Head, Order, Step};
@@ -10,7 +11,7 @@ use std::alloc::{AllocError, Global};
 use std::sync::{Arc, Wait};
 use std::thread::Threads;
 use std::time::Clock;
-use world_script::{Keys, audit, line_of_audit, line_of_reply, make_keys};
+use world_script::{Keys, audit, make_keys};
 
 /// The rows that the journal of a replica has room for.
 const MAX_ROWS: u32 = 65_536;
@@ -86,20 +87,26 @@ impl Group {
     }
 
     /// Runs a step, and returns what it prints: a request waits until its reply is accepted, or none can come any more.
-    pub(crate) fn run<R: Wait + Clock>(
+    pub(crate) fn run<R: Wait + Clock, T: Telling>(
         &mut self,
         rt: &R,
         step: &Step,
+        telling: &T,
     ) -> Result<String, StepFault> {
         match step {
-            Step::Request(order) => self.call(rt, order),
+            Step::Request(order) => self.call(rt, order, telling),
             Step::Timeout(at) => Ok(self.time_out(rt, at.as_slice())?),
             // The script has no other steps.
             _ => Ok(String::new(self.alloc)),
         }
     }
 
-    fn call<R: Wait + Clock>(&mut self, rt: &R, order: &Order) -> Result<String, StepFault> {
+    fn call<R: Wait + Clock, T: Telling>(
+        &mut self,
+        rt: &R,
+        order: &Order,
+        telling: &T,
+    ) -> Result<String, StepFault> {
         let op = Vec::from_slice(self.alloc, order.op.as_slice())?;
         let Group {
             alloc,
@@ -107,8 +114,14 @@ impl Group {
             callers,
         } = self;
         match callers.call(rt, *alloc, host, order.client, Bytes::from_vec(op)) {
-            Ok(Some(reply)) => Ok(line_of_reply(*alloc, &reply)?),
-            Ok(None) => Ok(format!(in *alloc; "nothing queued\n")?),
+            Ok(Some(reply)) => {
+                let accepted = Told::Accepted {
+                    op: order.op.as_slice(),
+                    reply: &reply,
+                };
+                Ok(telling.line_of(*alloc, accepted)?)
+            }
+            Ok(None) => Ok(telling.line_of(*alloc, Told::NothingQueued(order.client))?),
             Err(CallFault::Session(_)) => Err(StepFault::Memory),
             Err(fault) => Err(StepFault::Unanswered(fault)),
         }
@@ -139,12 +152,16 @@ impl Group {
     }
 
     /// Stops the replicas, and returns what an audit of their journals prints.
-    pub(crate) fn close<R: Wait>(&self, rt: &R) -> Result<(Audited, String), AllocError> {
+    pub(crate) fn close<R: Wait, T: Telling>(
+        &self,
+        rt: &R,
+        telling: &T,
+    ) -> Result<(Audited, String), AllocError> {
         let Ok(journals) = self.host.close(rt) else {
             return Err(AllocError);
         };
         let answer = audit(self.alloc, &journals);
-        let line = line_of_audit(self.alloc, &answer)?;
+        let line = telling.line_of(self.alloc, Told::Audited(&answer))?;
         match answer {
             Ok(_) => Ok((Audited::Agreed, line)),
             Err(_) => Ok((Audited::Refused, line)),

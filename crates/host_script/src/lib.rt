@@ -7,6 +7,7 @@ mod broken;
 mod callers;
 mod group;
 mod run;
+mod told;
 
 pub use broken::{BrokenReader, BrokenWriter};
 pub use group::Audited;
@@ -14,8 +15,13 @@ pub use host_client::{
     CallFault, Host, HostFault, Named, Seat, SessionFault, Station, Ticker, call, call_or_idle,
     call_or_stuck,
 };
-pub use run::{run_threads, run_threads_watched};
-pub use script_text::{Script, ScriptFault, ScriptKind, read_script, read_thread_script};
+pub use run::{run_threads, run_threads_read, run_threads_told, run_threads_watched};
+pub use script_text::{
+    Dialect, FileName, FileUse, MAX_FILE, NamedFile, Script, ScriptFault, ScriptKind,
+    files_named_in, read_script, read_script_with, read_thread_script,
+};
+pub use told::{InWords, Telling, Told};
 pub use world_script::{
-    Done, Halt, Input, Played, Progress, Row, Status, Unwatched, run_script, run_script_watched,
+    AuditFault, Done, Halt, History, Input, Played, Progress, Row, Status, Unwatched, read_input,
+    report, run_read, run_script, run_script_watched,
 };

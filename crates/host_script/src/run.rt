@@ -1,6 +1,7 @@
 //! A script for running threads, from a reader to a writer.
 
 use crate::group::{Audited, Group, StepFault};
+use crate::told::{InWords, Telling};
 use host_client::CallFault;
 use script_text::{Script, ScriptFault, ScriptKind, Step, read_thread_script};
 use std::alloc::Global;
@@ -37,35 +38,64 @@ pub fn run_threads_watched<
     writer: &mut O,
     progress: &mut P,
 ) -> Result<Audited, ScriptFault> {
-    match run(rt, alloc, reader, writer, progress) {
+    match read_whole(alloc, reader) {
+        Ok(script) => run_threads_read(rt, alloc, &script, writer, progress),
+        Err(fault) => Err(report(fault, writer)),
+    }
+}
+
+/// Reads a script to the end of the reader.
+fn read_whole<I: Read>(alloc: Global, reader: &mut I) -> Result<Script, ScriptFault> {
+    match read_input(alloc, reader) {
+        Ok(bytes) => read_thread_script(alloc, &bytes),
+        Err(kind) => Err(ScriptFault::at_head(kind)),
+    }
+}
+
+/// Does the same with a script that was read, with the files that it names.
+pub fn run_threads_read<
+    R: Threads + Wait + Clock + Copy + Send + Sync + 'static,
+    O: Write,
+    P: Progress,
+>(
+    rt: &R,
+    alloc: Global,
+    script: &Script,
+    writer: &mut O,
+    progress: &mut P,
+) -> Result<Audited, ScriptFault> {
+    match run_threads_told(rt, alloc, &InWords, script, writer, progress) {
         Ok(audited) => Ok(audited),
         Err(fault) => Err(report(fault, writer)),
     }
 }
 
-fn run<R: Threads + Wait + Clock + Copy + Send + Sync + 'static, I: Read, O: Write, P: Progress>(
+/// Does the same with the lines that are made of what it tells, and writes no line of a fault.
+pub fn run_threads_told<
+    R: Threads + Wait + Clock + Copy + Send + Sync + 'static,
+    T: Telling,
+    O: Write,
+    P: Progress,
+>(
     rt: &R,
     alloc: Global,
-    reader: &mut I,
+    telling: &T,
+    script: &Script,
     writer: &mut O,
     progress: &mut P,
 ) -> Result<Audited, ScriptFault> {
-    let bytes = match read_input(alloc, reader) {
-        Ok(bytes) => bytes,
-        Err(kind) => return Err(ScriptFault::at_head(kind)),
-    };
-    let script = read_thread_script(alloc, &bytes)?;
     match Group::start(rt, alloc, &script.head) {
-        Ok(group) => run_steps(rt, group, &script, writer, progress),
+        Ok(group) => run_steps(rt, group, script, telling, writer, progress),
         Err(_) => Err(ScriptFault::at_head(ScriptKind::Memory)),
     }
 }
 
 // Runs the steps, and audits. Where a step has a fault, the replicas are stopped all the same.
-fn run_steps<R: Wait + Clock, O: Write, P: Progress>(
+fn run_steps<R: Wait + Clock, T: Telling, O: Write, P: Progress>(
     rt: &R,
     mut group: Group,
     script: &Script,
+    telling: &T,
     writer: &mut O,
     progress: &mut P,
 ) -> Result<Audited, ScriptFault> {
@@ -74,15 +104,15 @@ fn run_steps<R: Wait + Clock, O: Write, P: Progress>(
     let mut answered: u64 = 0;
     for step in script.steps.as_slice() {
         number = number.saturating_add(1);
-        let kind = match group.run(rt, &step.step) {
+        let kind = match group.run(rt, &step.step, telling) {
             Ok(line) => write_line(writer, &line),
             Err(StepFault::Unanswered(fault)) => {
-                return end_unanswered(rt, &group, fault, number, writer);
+                return end_unanswered(rt, &group, fault, number, telling, writer);
             }
             Err(StepFault::Memory) => Err(ScriptKind::Memory),
         };
         if let Err(kind) = kind {
-            let _ = group.close(rt);
+            let _ = group.close(rt, telling);
             return Err(ScriptFault { kind, step: number });
         }
         if is_request(&step.step) {
@@ -90,7 +120,7 @@ fn run_steps<R: Wait + Clock, O: Write, P: Progress>(
             progress.requests(answered, all);
         }
     }
-    end(rt, &group, number, writer)
+    end(rt, &group, number, telling, writer)
 }
 
 fn count_requests(script: &Script) -> u64 {
@@ -108,15 +138,16 @@ fn is_request(step: &Step) -> bool {
 }
 
 // Stops the replicas behind a request that can't be answered, and writes the line of the audit.
-fn end_unanswered<R: Wait, O: Write>(
+fn end_unanswered<R: Wait, T: Telling, O: Write>(
     rt: &R,
     group: &Group,
     fault: CallFault,
     step: u32,
+    telling: &T,
     writer: &mut O,
 ) -> Result<Audited, ScriptFault> {
     let why = group.standings(rt, fault);
-    match (end(rt, group, step, writer)?, why) {
+    match (end(rt, group, step, telling, writer)?, why) {
         (Audited::Agreed, Ok(why)) => Ok(Audited::Unanswered(why)),
         (Audited::Agreed, Err(_)) => Err(ScriptFault {
             kind: ScriptKind::Memory,
@@ -127,13 +158,14 @@ fn end_unanswered<R: Wait, O: Write>(
 }
 
 // Stops the replicas behind the last step, and writes the line of the audit.
-fn end<R: Wait, O: Write>(
+fn end<R: Wait, T: Telling, O: Write>(
     rt: &R,
     group: &Group,
     step: u32,
+    telling: &T,
     writer: &mut O,
 ) -> Result<Audited, ScriptFault> {
-    let Ok((audited, line)) = group.close(rt) else {
+    let Ok((audited, line)) = group.close(rt, telling) else {
         return Err(ScriptFault {
             kind: ScriptKind::Memory,
             step,

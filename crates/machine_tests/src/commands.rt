@@ -1,7 +1,10 @@
 //! What no row of the program can say of its commands over code: inputs of a million bytes, streams that fail, blanks in
 //! the arguments, and output that is too long to stand in a file.
 
-use code_commands::{CodeFailure, Profile, asm, exec, verify};
+use code_commands::{
+    Arguments, CodeFailure, CodeForm, Execution, Format, Profile, asm, exec, verify,
+    verify_explained,
+};
 use host_types::ClientId;
 use std::alloc::Global;
 use std::io::{self, Read, Write};
@@ -16,12 +19,32 @@ fn run<I: Read, O: Write>(
 ) -> Result<(), CodeFailure> {
     match command.as_bytes() {
         b"asm" => asm(alloc, reader, writer),
-        b"verify" => verify(alloc, Profile::One, false, reader, writer),
-        b"explain" => verify(alloc, Profile::One, true, reader, writer),
+        b"verify" => verify(
+            alloc,
+            CodeForm::Hex,
+            Profile::One,
+            Format::Words,
+            reader,
+            writer,
+        ),
+        b"explain" => verify_explained(alloc, CodeForm::Hex, Profile::One, reader, writer),
         _ => {
             let arguments = command.strip_prefix("exec").unwrap_or("");
-            exec(alloc, Profile::One, arguments, ClientId(16), reader, writer)
+            exec(alloc, called_with(arguments), reader, writer)
         }
+    }
+}
+
+/// A run over an empty map, called with these bytes.
+fn called_with(arguments: &str) -> Execution<'_> {
+    Execution {
+        form: CodeForm::Hex,
+        profile: Profile::One,
+        arguments: Arguments::Hex(arguments),
+        client: ClientId(16),
+        map: None,
+        dumps: false,
+        format: Format::Words,
     }
 }
 

@@ -10,7 +10,7 @@ use crate::verifying::verified;
 use bpf_asm::{AsmKind, assemble, print};
 use bpf_decode::{decode_all, encode_all};
 use bpf_verifier::{Profile, VerifyFault};
-use code_commands::{CodeFailure, sentence_for};
+use code_commands::{CodeFailure, CodeForm, sentence_for};
 use std::alloc::{AllocError, Global};
 
 /// Writes why a profile refuses code, as a sentence without a line end, and how many bytes that takes: none where the code
@@ -45,12 +45,7 @@ fn reason(alloc: Global, profile: Profile, code: &[u8]) -> Result<Option<String>
     };
     match failure {
         CodeFailure::Memory => Err(AllocError),
-        _ => sentence_for(
-            alloc,
-            profile,
-            hex::encode(alloc, code)?.as_bytes(),
-            &failure,
-        ),
+        _ => sentence_for(alloc, CodeForm::Raw, profile, code, &failure),
     }
 }
 

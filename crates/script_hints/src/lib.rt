@@ -3,17 +3,23 @@
 //! added, or has a value that it takes. So no sentence names a key that is right. What each key takes, in words, stands
 //! where the key is read.
 //!
-//!     let sentence = sentence_for(alloc, Dialect::World, &bytes, fault)?;
+//!     let sentence = sentence_for(alloc, Dialect::World, &files, &bytes, fault)?;
 #![tactic(auto)]
 
+mod code;
 mod configured;
+mod detail;
+mod files;
 mod help;
 mod keys;
-mod place;
+mod line;
+mod meant;
+mod near;
 mod probe;
 mod search;
 mod sentence;
 
 pub use help::keys_help;
+pub use line::line_for;
 pub use script_text::{Dialect, ScriptFault};
-pub use sentence::sentence_for;
+pub use sentence::{sentence_for, step_words};

@@ -1,7 +1,8 @@
 //! A script of which the reader is asked, with one table changed.
 
+use crate::files::{SAMPLE_FILE, with_sample};
 use crate::keys::{CLIENT, HEAD};
-use script_text::{Dialect, ScriptFault, ScriptKind, read_script, read_thread_script};
+use script_text::{Dialect, NamedFile, ScriptFault, ScriptKind, read_script_with};
 use std::alloc::{AllocError, Global};
 use toml::{Table, Value};
 
@@ -20,6 +21,8 @@ pub(crate) struct Probe {
     pub(crate) alloc: Global,
     dialect: Dialect,
     place: Place,
+    /// Where a step is asked about, the files that steps name, and one more.
+    pub(crate) files: Vec<NamedFile>,
     /// The head and its clients, and of the steps before the one that is asked about those that give names.
     rest: Table,
     /// The table that is asked about.
@@ -41,6 +44,7 @@ impl Probe {
             alloc,
             dialect,
             place: Place::Head,
+            files: Vec::new(alloc),
             rest: Table::new(alloc),
             table,
         })
@@ -63,6 +67,7 @@ impl Probe {
             alloc,
             dialect,
             place: Place::Client(index),
+            files: Vec::new(alloc),
             rest,
             table,
         }))
@@ -72,6 +77,7 @@ impl Probe {
     pub(crate) fn of_step(
         alloc: Global,
         dialect: Dialect,
+        files: &[NamedFile],
         document: &Table,
         before: usize,
     ) -> Result<Option<Probe>, AllocError> {
@@ -87,6 +93,7 @@ impl Probe {
             alloc,
             dialect,
             place: Place::Step,
+            files: with_sample(alloc, files)?,
             rest,
             table,
         }))
@@ -118,11 +125,7 @@ impl Probe {
     }
 
     fn fault_of(&self, bytes: &[u8]) -> Option<ScriptFault> {
-        let read = match self.dialect {
-            Dialect::World => read_script(self.alloc, bytes),
-            Dialect::Threads => read_thread_script(self.alloc, bytes),
-        };
-        read.err()
+        read_script_with(self.alloc, self.dialect, &self.files, bytes).err()
     }
 
     /// The script with this table in place of its own.
@@ -158,6 +161,7 @@ impl Probe {
                 Some(id) => Ok(Some(id.clone()?)),
                 None => Ok(None),
             },
+            "FILE" => Ok(Some(Value::string(self.alloc, SAMPLE_FILE)?)),
             "STEP" => Ok(Some(Value::string(self.alloc, self.some_step())?)),
             "FIVES" => Ok(Some(self.one_each(5)?)),
             "ZEROS" => Ok(Some(self.one_each(0)?)),

@@ -1,6 +1,7 @@
 //! Which keys of a table a fault is about.
 
-use crate::keys::{HEAD, Key, key_at, keys_at};
+use crate::keys::{CLIENT, HEAD, Key, key_at, keys_at};
+use crate::near::is_near;
 use crate::probe::{Probe, set};
 use script_text::ScriptKind;
 use std::alloc::AllocError;
@@ -38,6 +39,108 @@ fn is_judged(probe: &Probe, table: &Table, key: &str) -> Result<bool, AllocError
     let mut trial = table.clone()?;
     set(probe.alloc, &mut trial, key, Value::Boolean(false))?;
     is_refused_for(probe, &trial, ScriptKind::WrongValue)
+}
+
+/// The key that is meant by an unknown one: of nearly the same name, and with its value the reader takes it.
+pub(crate) fn meant_by(probe: &Probe, keys: &[Key], name: &str) -> Result<Option<Key>, AllocError> {
+    for key in &absent_keys(probe, keys)? {
+        if is_near(probe.alloc, name, key.name)? && is_taken_as(probe, name, *key)? {
+            return Ok(Some(*key));
+        }
+    }
+    Ok(None)
+}
+
+/// Whether the reader takes a key of another name with the value of this one, and judges it.
+fn is_taken_as(probe: &Probe, name: &str, key: Key) -> Result<bool, AllocError> {
+    let mut trial = probe.table.clone()?;
+    let Some(value) = trial.remove(name) else {
+        return Ok(false);
+    };
+    set(probe.alloc, &mut trial, key.name, value)?;
+    match probe.fault_with(&trial)? {
+        Some(ScriptKind::MissingKey | ScriptKind::WrongValue) => Ok(false),
+        _ => is_judged(probe, &trial, key.name),
+    }
+}
+
+/// The key of the table beside which an unknown one can't stand: without it, or with another one in its place, the reader takes
+/// the unknown one. None where no key of that name may stand there.
+pub(crate) fn rival_of(
+    probe: &Probe,
+    keys: &[Key],
+    name: &str,
+) -> Result<Option<String>, AllocError> {
+    if key_at(keys, probe.place_name(), name).is_none() {
+        return Ok(None);
+    }
+    for other in probe.table.keys() {
+        if other.as_str() != name && other.as_str() != "do" {
+            let mut trial = probe.table.clone()?;
+            trial.remove(other.as_str());
+            if is_taken_with_more(probe, keys, &trial)? {
+                return Ok(Some(other.clone()?));
+            }
+        }
+    }
+    Ok(None)
+}
+
+/// Whether the reader takes a table, or misses one key in it alone.
+fn is_taken_with_more(probe: &Probe, keys: &[Key], table: &Table) -> Result<bool, AllocError> {
+    match probe.fault_with(table)? {
+        None => return Ok(true),
+        Some(ScriptKind::MissingKey) => {}
+        Some(_) => return Ok(false),
+    }
+    for key in &absent_keys(probe, keys)? {
+        if let Some(value) = probe.sample(key.sample)? {
+            let mut trial = table.clone()?;
+            set(probe.alloc, &mut trial, key.name, value)?;
+            if probe.fault_with(&trial)?.is_none() {
+                return Ok(true);
+            }
+        }
+    }
+    Ok(false)
+}
+
+/// The first client that has one of the keys that the head misses, counted from 1.
+pub(crate) fn client_with(probe: &Probe, keys: &[Key], missing: &[Key]) -> Option<usize> {
+    let Some(Value::Array(clients)) = probe.table.get("client") else {
+        return None;
+    };
+    if probe.place_name() != HEAD {
+        return None;
+    }
+    for (index, client) in clients.iter().enumerate() {
+        for key in missing {
+            if client.get(key.name).is_some() && key_at(keys, CLIENT, key.name).is_none() {
+                return index.checked_add(1);
+            }
+        }
+    }
+    None
+}
+
+/// A key of the table that may stand for one of the missing ones: no key has its name there, and one that is missing has
+/// nearly the same.
+pub(crate) fn slip_for(
+    probe: &Probe,
+    keys: &[Key],
+    missing: &[Key],
+) -> Result<Option<String>, AllocError> {
+    for name in probe.table.keys() {
+        if key_at(keys, probe.place_name(), name.as_str()).is_some() {
+            continue;
+        }
+        for key in missing {
+            if is_near(probe.alloc, name.as_str(), key.name)? {
+                return Ok(Some(name.clone()?));
+            }
+        }
+    }
+    Ok(None)
 }
 
 /// What is wrong with a key.

@@ -1,24 +1,28 @@
 //! What is wrong, as a sentence.
 
 use crate::configured::broken_limit;
-use crate::keys::{Key, all_keys};
-use crate::place::line_of_step;
+use crate::detail::{MOST_SHOWN, detail, shown};
+use crate::keys::{HEAD, Key, all_keys, key_at};
+use crate::line::{line_of_step, line_with};
 use crate::probe::Probe;
 use crate::search::{
-    Wrong, is_refused_for, missing_keys, missing_together, unknown_key, wrong_key,
+    Wrong, client_with, is_refused_for, meant_by, missing_keys, missing_together, rival_of,
+    slip_for, unknown_key, wrong_key,
 };
-use script_text::{Dialect, ScriptFault, ScriptKind};
+use script_text::{Dialect, NamedFile, ScriptFault, ScriptKind};
 use std::alloc::{AllocError, Global};
 use toml::{Table, Value};
 
-/// The most bytes of a text that a sentence shows.
-const MOST_SHOWN: usize = 40;
+/// How many hex digits an instruction has.
+const SLOT_DIGITS: usize = 16;
 
 /// What is wrong with a script that was refused for this fault, or that ended with it, without a full stop or a line
-/// end. None where there is no more to say than the fault does. The error is that memory ran out.
+/// end. None where there is no more to say than the fault does. `files` are those that the script names, as far as they could be
+/// read. The error is that memory ran out.
 pub fn sentence_for(
     alloc: Global,
     dialect: Dialect,
+    files: &[NamedFile],
     bytes: &[u8],
     fault: ScriptFault,
 ) -> Result<Option<String>, AllocError> {
@@ -27,7 +31,7 @@ pub fn sentence_for(
         ScriptKind::MissingKey
         | ScriptKind::WrongValue
         | ScriptKind::UnknownKey
-        | ScriptKind::BadConfig => refused_sentence(alloc, dialect, bytes, fault),
+        | ScriptKind::BadConfig => refused_sentence(alloc, dialect, files, bytes, fault),
         ScriptKind::TooManyDeliveries => {
             let place = step_words(alloc, bytes, fault.step)?;
             let text = format!(in alloc;
@@ -52,20 +56,52 @@ fn parse_sentence(alloc: Global, bytes: &[u8]) -> Result<String, AllocError> {
             return format!(in alloc; "the bytes from {at} on are not UTF-8");
         }
     };
+    if text.len() >= SLOT_DIGITS && text.bytes().all(is_of_hex) {
+        return String::from_str(
+            alloc,
+            "the text is hex digits, and no script; bpf_host exec runs code",
+        );
+    }
     match toml::table_from_str(alloc, text) {
         Ok(_) => String::from_str(alloc, "the text is no TOML document"),
         Err(error) if error.is_memory() => Err(AllocError),
         Err(error) => {
             let said = format!(in alloc; "{error}")?;
-            said.trim_end().replace(alloc, "\n", ": ")
+            let said = said.trim_end().replace(alloc, "\n", ": ")?;
+            let start = error.span().map_or(0, |span| span.start);
+            match line_with(text, start) {
+                Some(line) => with_line(alloc, &said, line),
+                None => Ok(said),
+            }
         }
     }
+}
+
+/// What is said of a text that is no document, with the line that has the fault, where that is short, and with what may be meant in it.
+fn with_line(alloc: Global, said: &str, line: &str) -> Result<String, AllocError> {
+    let more = if line.starts_with("//") {
+        "; a comment begins with #"
+    } else if line.contains('\u{201c}') || line.contains('\u{201d}') {
+        "; a text stands in straight quotes"
+    } else {
+        ""
+    };
+    if line.is_empty() || line.len() > MOST_SHOWN {
+        return format!(in alloc; "{said}{more}");
+    }
+    format!(in alloc; "{said}; the line is {line:?}{more}")
+}
+
+/// Whether a byte is a hex digit or a blank.
+fn is_of_hex(byte: u8) -> bool {
+    byte.is_ascii_hexdigit() || byte.is_ascii_whitespace()
 }
 
 /// Which key of which table a script was refused for.
 fn refused_sentence(
     alloc: Global,
     dialect: Dialect,
+    files: &[NamedFile],
     bytes: &[u8],
     fault: ScriptFault,
 ) -> Result<Option<String>, AllocError> {
@@ -80,7 +116,7 @@ fn refused_sentence(
         return head_sentence(alloc, dialect, &document, &keys, fault.kind);
     }
     let before = fault.step as usize - 1;
-    let Some(probe) = Probe::of_step(alloc, dialect, &document, before)? else {
+    let Some(probe) = Probe::of_step(alloc, dialect, files, &document, before)? else {
         return Ok(None);
     };
     let place = step_words(alloc, bytes, fault.step)?;
@@ -128,12 +164,33 @@ fn table_sentence(
     match kind {
         ScriptKind::MissingKey => missing_sentence(probe, keys, place),
         ScriptKind::WrongValue => wrong_sentence(probe, keys, place),
-        ScriptKind::UnknownKey => match unknown_key(probe)? {
-            Some(key) => Ok(Some(format!(in probe.alloc; "{place} has no key {key}")?)),
-            None => Ok(None),
-        },
+        ScriptKind::UnknownKey => unknown_sentence(probe, keys, place),
         _ => Ok(None),
     }
+}
+
+/// Which key is unknown, and which one may be meant by it, beside which other one it can't stand, or that it is the head's.
+fn unknown_sentence(
+    probe: &Probe,
+    keys: &[Key],
+    place: &str,
+) -> Result<Option<String>, AllocError> {
+    let Some(name) = unknown_key(probe)? else {
+        return Ok(None);
+    };
+    let alloc = probe.alloc;
+    if let Some(rival) = rival_of(probe, keys, name.as_str())? {
+        return Ok(Some(format!(in alloc; "{place} has no key {name} beside {rival}")?));
+    }
+    if let Some(Key { name: meant, .. }) = meant_by(probe, keys, name.as_str())? {
+        return Ok(Some(format!(in alloc; "{place} has no key {name}; did you mean {meant}?")?));
+    }
+    if probe.place_name() != HEAD && key_at(keys, HEAD, name.as_str()).is_some() {
+        return Ok(Some(format!(in alloc;
+            "{place} has no key {name}, which is one of the head: it stands before the first [[client]] or [[step]]"
+        )?));
+    }
+    Ok(Some(format!(in alloc; "{place} has no key {name}")?))
 }
 
 /// Which keys are missing.
@@ -144,12 +201,31 @@ fn missing_sentence(
 ) -> Result<Option<String>, AllocError> {
     let any = missing_keys(probe, keys)?;
     if let Some(words) = listed(probe.alloc, &any, " or ")? {
-        return Ok(Some(format!(in probe.alloc; "{place} needs {words}")?));
+        return Ok(Some(needs_sentence(probe, keys, &any, place, words.as_str())?));
     }
     let all = missing_together(probe, keys)?;
     match listed(probe.alloc, &all, " and ")? {
-        Some(words) => Ok(Some(format!(in probe.alloc; "{place} needs {words}")?)),
+        Some(words) => Ok(Some(needs_sentence(probe, keys, &all, place, words.as_str())?)),
         None => Ok(None),
+    }
+}
+
+/// That keys are missing, and which key of the table may stand for one of them, or which client has one of the head.
+fn needs_sentence(
+    probe: &Probe,
+    keys: &[Key],
+    missing: &[Key],
+    place: &str,
+    words: &str,
+) -> Result<String, AllocError> {
+    if let Some(slip) = slip_for(probe, keys, missing)? {
+        return format!(in probe.alloc; "{place} needs {words}, and has {slip}");
+    }
+    match client_with(probe, keys, missing) {
+        Some(client) => format!(in probe.alloc;
+            "{place} needs {words}, and client {client} has it: what the head has stands before the first [[client]]"
+        ),
+        None => format!(in probe.alloc; "{place} needs {words}"),
     }
 }
 
@@ -169,7 +245,8 @@ fn value_sentence(probe: &Probe, key: Key, place: &str) -> Result<String, AllocE
     match probe.table.get(name) {
         Some(value) => {
             let shown = shown(probe.alloc, value)?;
-            format!(in probe.alloc; "{place}: {name} is {shown}, and takes {takes}")
+            let more = detail(probe, key, value)?;
+            format!(in probe.alloc; "{place}: {name} is {shown}, and takes {takes}{more}")
         }
         None => format!(in probe.alloc; "{place}: {name} takes {takes}"),
     }
@@ -191,59 +268,10 @@ fn listed(alloc: Global, keys: &[Key], word: &str) -> Result<Option<String>, All
     Ok(Some(text))
 }
 
-/// A value in short.
-fn shown(alloc: Global, value: &Value) -> Result<String, AllocError> {
-    match value {
-        Value::Integer(number) => format!(in alloc; "{number}"),
-        Value::Boolean(is_true) => format!(in alloc; "{is_true}"),
-        Value::String(text) if text.len() <= MOST_SHOWN => format!(in alloc; "{text:?}"),
-        Value::String(_) => String::from_str(alloc, "a long text"),
-        Value::Array(values) => shown_list(alloc, values),
-        Value::Table(_) => String::from_str(alloc, "a table"),
-        Value::Float(_) => String::from_str(alloc, "a number with a fraction"),
-        Value::Datetime(_) => String::from_str(alloc, "a date or a time"),
-    }
-}
-
-/// A list in short.
-fn shown_list(alloc: Global, values: &[Value]) -> Result<String, AllocError> {
-    let mut text = String::from_str(alloc, "[")?;
-    for (index, value) in values.iter().enumerate() {
-        if index > 0 {
-            text.push_str(", ")?;
-        }
-        match value {
-            Value::Integer(number) => write!(text, "{number}")?,
-            Value::String(word) => write!(text, "{word:?}")?,
-            _ => return String::from_str(alloc, "a list"),
-        }
-        if text.len() > MOST_SHOWN {
-            return String::from_str(alloc, "a long list");
-        }
-    }
-    text.push(']')?;
-    Ok(text)
-}
-
-/// A step, with the line on which it begins where the text shows it: `step 3 (line 24)`.
-fn step_words(alloc: Global, bytes: &[u8], step: u32) -> Result<String, AllocError> {
-    match line_in(alloc, bytes, step)? {
+/// A step, with the line on which it begins where the text shows it: `step 3 (line 24)`. The error is that memory ran out.
+pub fn step_words(alloc: Global, bytes: &[u8], step: u32) -> Result<String, AllocError> {
+    match line_of_step(alloc, bytes, step)? {
         Some(line) => format!(in alloc; "step {step} (line {line})"),
         None => format!(in alloc; "step {step}"),
-    }
-}
-
-fn line_in(alloc: Global, bytes: &[u8], step: u32) -> Result<Option<usize>, AllocError> {
-    let Ok(text) = str::from_utf8(bytes) else {
-        return Ok(None);
-    };
-    match toml::table_from_str(alloc, text) {
-        Ok(document) => match document.get("step") {
-            Some(Value::Array(steps)) if step > 0 => {
-                Ok(line_of_step(text, step as usize - 1, steps.len()))
-            }
-            _ => Ok(None),
-        },
-        Err(_) => Ok(None),
     }
 }

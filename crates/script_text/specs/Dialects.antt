@@ -8,6 +8,7 @@ use Rattle.script_text.specs.declared.dialect.Dialect.TheVariants.{World, Thread
 use Rattle.script_values.specs.declared.fault.TableFault.{TableFault}
 use Rattle.script_values.specs.declared.fault.TableFault.TheVariants.{MissingKey, WrongValue}
 use Rattle.script_values.specs.declared.said.Client.{Client}
+use Rattle.script_text.specs.declared.files.NamedFile.{NamedFile}
 use Rattle.script_text.specs.declared.script.NamedStep.{NamedStep}
 use Rattle.script_text.specs.declared.script.Step.{Step}
 use Rattle.script_values.specs.Forms.{if_found, unknown_where, wrong_where}
@@ -29,28 +30,28 @@ abbrev pub head_for : Dialect → Members → Result HeadFacts TableFault
 head_for World members = head_in members
 head_for Threads members = unknown_where (is_some (get_member (codes "spent") members)) (wrong_where (names_faulty members) (head_in members))
 
--- A step of running threads.
-abbrev pub thread_step : List ℕ → ℕ → List ReplicaId → List Client → List NamedStep → Members → Result Step TableFault
-thread_step t count faulty clients earlier members =
-    if bytes_eq t (codes "request") then wrong_where (is_some (get_member (codes "to") members)) (step_named t count faulty clients earlier members)
-    else if bytes_eq t (codes "timeout") then step_named t count faulty clients earlier members
+-- A step of running threads, with these files.
+abbrev pub thread_step : List ℕ → List NamedFile → ℕ → List ReplicaId → List Client → List NamedStep → Members → Result Step TableFault
+thread_step t files count faulty clients earlier members =
+    if bytes_eq t (codes "request") then wrong_where (is_some (get_member (codes "to") members)) (step_named t files count faulty clients earlier members)
+    else if bytes_eq t (codes "timeout") then step_named t files count faulty clients earlier members
     else Err WrongValue
 
 -- a step of this name in a dialect, behind these steps
-abbrev pub step_named_for : Dialect → List ℕ → ℕ → List ReplicaId → List Client → List NamedStep → Members → Result NamedStep TableFault
-step_named_for World t count faulty clients earlier members =
-    named (step_named t count faulty clients earlier members) (name_in earlier t members)
-step_named_for Threads t count faulty clients earlier members =
-    named (unknown_where (is_some (get_member (codes "as") members)) (thread_step t count faulty clients earlier members)) (Ok None)
+abbrev pub step_named_for : Dialect → List ℕ → List NamedFile → ℕ → List ReplicaId → List Client → List NamedStep → Members → Result NamedStep TableFault
+step_named_for World t files count faulty clients earlier members =
+    named (step_named t files count faulty clients earlier members) (name_in earlier t members)
+step_named_for Threads t files count faulty clients earlier members =
+    named (unknown_where (is_some (get_member (codes "as") members)) (thread_step t files count faulty clients earlier members)) (Ok None)
 
-abbrev pub step_with : Dialect → ℕ → List ReplicaId → List Client → List NamedStep → Members → Option Data → Result NamedStep TableFault
-step_with dialect count faulty clients earlier ms None = Err MissingKey
-step_with dialect count faulty clients earlier ms (Some d) =
-    if_found (λ t. step_named_for dialect t count faulty clients earlier ms) (as_str d)
+abbrev pub step_with : Dialect → List NamedFile → ℕ → List ReplicaId → List Client → List NamedStep → Members → Option Data → Result NamedStep TableFault
+step_with dialect files count faulty clients earlier ms None = Err MissingKey
+step_with dialect files count faulty clients earlier ms (Some d) =
+    if_found (λ t. step_named_for dialect t files count faulty clients earlier ms) (as_str d)
 
-abbrev pub step_in : Dialect → ℕ → List ReplicaId → List Client → List NamedStep → Members → Result NamedStep TableFault
-step_in dialect count faulty clients earlier members =
-    step_with dialect count faulty clients earlier members (get_member (codes "do") members)
+abbrev pub step_in : Dialect → List NamedFile → ℕ → List ReplicaId → List Client → List NamedStep → Members → Result NamedStep TableFault
+step_in dialect files count faulty clients earlier members =
+    step_with dialect files count faulty clients earlier members (get_member (codes "do") members)
 
-abbrev pub step : Dialect → ℕ → List ReplicaId → List Client → List NamedStep → Data → Result NamedStep TableFault
-step dialect count faulty clients earlier d = if_found (step_in dialect count faulty clients earlier) (as_table d)
+abbrev pub step : Dialect → List NamedFile → ℕ → List ReplicaId → List Client → List NamedStep → Data → Result NamedStep TableFault
+step dialect files count faulty clients earlier d = if_found (step_in dialect files count faulty clients earlier) (as_table d)

@@ -3,6 +3,8 @@ pub mod Naming
 pub mod Scripts
 pub mod Steps
 pub mod Dialects
+pub mod Files
+pub mod FileUses
 pub use Rattle.script_values.specs.Faults
 pub use Rattle.script_values.specs.Forms
 pub use Rattle.script_values.specs.KeyShapes

@@ -9,6 +9,7 @@ use Rattle.script_values.specs.declared.fault.ScriptFault.{ScriptFault}
 use Rattle.script_values.specs.declared.fault.ScriptKind.TheVariants.{NotToml, TooLong, Memory}
 use Rattle.script_values.specs.declared.fault.TableFault.{TableFault}
 use Rattle.script_text.specs.declared.script.Script.{Script}
+use Rattle.script_text.specs.declared.files.NamedFile.{NamedFile}
 use Rattle.script_text.specs.declared.script.NamedStep.{NamedStep}
 use Rattle.script_values.specs.Faults.{at_head, kind_of}
 use Rattle.script_text.specs.declared.dialect.Dialect.{Dialect}
@@ -30,11 +31,11 @@ with_step steps number (Ok s) = Ok (steps ++ s ∷ [])
 with_step steps number (Err fault) = Err (record { kind = kind_of fault; step = number })
 
 -- The steps of a document behind these, of which the last has this number, or the first that has a fault.
-abbrev pub steps_from : Dialect → HeadFacts → ℕ → Result (List NamedStep) ScriptFault → Items → Result (List NamedStep) ScriptFault
-steps_from dialect h number (Err fault) ds = Err fault
-steps_from dialect h number (Ok steps) no_items = Ok steps
-steps_from dialect h number (Ok steps) (item d ds) =
-    steps_from dialect h (next_step number) (with_step steps (next_step number) (step dialect (replicas_for h.f) h.faulty h.clients steps d)) ds
+abbrev pub steps_from : Dialect → List NamedFile → HeadFacts → ℕ → Result (List NamedStep) ScriptFault → Items → Result (List NamedStep) ScriptFault
+steps_from dialect files h number (Err fault) ds = Err fault
+steps_from dialect files h number (Ok steps) no_items = Ok steps
+steps_from dialect files h number (Ok steps) (item d ds) =
+    steps_from dialect files h (next_step number) (with_step steps (next_step number) (step dialect files (replicas_for h.f) h.faulty h.clients steps d)) ds
 
 -- a vector that was read, as a list
 abbrev pub items_in : Result (Vec NamedStep Global) ScriptFault → Result (List NamedStep) ScriptFault
@@ -44,21 +45,21 @@ items_in (Err fault) = Err fault
 abbrev pub listed_steps : Members → Option Items
 listed_steps members = option_and_then as_array (get_member (codes "step") members)
 
-abbrev pub steps_in : Dialect → HeadFacts → Option Items → Result (List NamedStep) ScriptFault
-steps_in dialect h None = Ok []
-steps_in dialect h (Some ds) = steps_from dialect h 0 (Ok []) ds
+abbrev pub steps_in : Dialect → List NamedFile → HeadFacts → Option Items → Result (List NamedStep) ScriptFault
+steps_in dialect files h None = Ok []
+steps_in dialect files h (Some ds) = steps_from dialect files h 0 (Ok []) ds
 
 abbrev pub script_from : HeadFacts → Result (List NamedStep) ScriptFault → Result Script ScriptFault
 script_from h (Ok steps) = Ok (record { head = h; steps = steps })
 script_from h (Err fault) = Err fault
 
-abbrev pub script_with : Dialect → Members → Result HeadFacts TableFault → Result Script ScriptFault
-script_with dialect ms (Ok h) = script_from h (steps_in dialect h (listed_steps ms))
-script_with dialect ms (Err fault) = Err (at_head (kind_of fault))
+abbrev pub script_with : Dialect → List NamedFile → Members → Result HeadFacts TableFault → Result Script ScriptFault
+script_with dialect files ms (Ok h) = script_from h (steps_in dialect files h (listed_steps ms))
+script_with dialect files ms (Err fault) = Err (at_head (kind_of fault))
 
-abbrev pub script_in : Dialect → Option Members → Result Script ScriptFault
-script_in dialect None = Err (at_head NotToml)
-script_in dialect (Some members) = script_with dialect members (head_for dialect members)
+abbrev pub script_in : Dialect → List NamedFile → Option Members → Result Script ScriptFault
+script_in dialect files None = Err (at_head NotToml)
+script_in dialect files (Some members) = script_with dialect files members (head_for dialect members)
 
 -- the document that a text is
 abbrev pub document : List ℕ → Option Members
@@ -77,14 +78,14 @@ abbrev pub steps_listed : Option Members → ℕ
 steps_listed None = 0
 steps_listed (Some members) = count_of (listed_steps members)
 
--- The script that a text is in a dialect. A text of over 1,048,576 bytes is none, whatever is in it; of several faults
--- that of the least step is reported, the head being step 0.
-abbrev pub script_for : Dialect → List ℕ → Result Script ScriptFault
-script_for dialect bytes = if nat_lt 1048576 (length bytes) then Err (at_head TooLong) else script_in dialect (document bytes)
+-- The script that a text is in a dialect, with the files that it may name. A text of over 1,048,576 bytes is none, whatever
+-- is in it; of several faults that of the least step is reported, the head being step 0.
+abbrev pub script_for : Dialect → List NamedFile → List ℕ → Result Script ScriptFault
+script_for dialect files bytes = if nat_lt 1048576 (length bytes) then Err (at_head TooLong) else script_in dialect files (document bytes)
 
--- the script of a world, and the one of running threads
+-- the script of a world, and the one of running threads, of which the text is all
 abbrev pub script_of : List ℕ → Result Script ScriptFault
-script_of bytes = script_for World bytes
+script_of bytes = script_for World [] bytes
 
 abbrev pub thread_script_of : List ℕ → Result Script ScriptFault
-thread_script_of bytes = script_for Threads bytes
+thread_script_of bytes = script_for Threads [] bytes

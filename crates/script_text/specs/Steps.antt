@@ -23,15 +23,20 @@ use Rattle.script_text.specs.declared.script.NamedStep.{NamedStep}
 use Rattle.script_text.specs.declared.script.Order.{Order}
 use Rattle.script_text.specs.declared.script.Payload.{Payload}
 use Rattle.script_text.specs.declared.script.Payload.TheVariants.{Bytes, Message}
+use Rattle.script_values.specs.declared.said.InstallProfile.{InstallProfile}
+use Rattle.script_values.specs.declared.said.InstallProfile.TheVariants as profiles
 use Rattle.script_values.specs.declared.said.Node.{Node}
 use Rattle.script_text.specs.declared.script.Printout.{Printout}
 use Rattle.script_text.specs.declared.script.Printout.TheVariants as printouts
+use Rattle.script_text.specs.declared.script.QueueEdit.{QueueEdit}
 use Rattle.script_text.specs.declared.script.QueueEdit.TheVariants as edits
 use Rattle.script_text.specs.declared.script.Step.{Step}
 use Rattle.script_text.specs.declared.script.Step.TheVariants as steps
 use Rattle.script_values.specs.declared.kind.Kind.{Kind}
+use Rattle.script_text.specs.Files.{file_code}
 use Rattle.script_text.specs.Naming.{given_name, new_name}
-use Rattle.script_values.specs.Forms.{assembler_text, pair_of, client_name, faulty_index, hex_bytes, digest, forged_kind, is_one_of, kind_name, lines, list_of, needed_key, only_keys, optional_key, node, replica, sequence_number, up_to, yes}
+use Rattle.script_text.specs.declared.files.NamedFile.{NamedFile}
+use Rattle.script_values.specs.Forms.{assembler_text, pair_of, client_name, faulty_index, hex_bytes, digest, forged_kind, is_one_of, kind_name, lines, list_of, needed_key, numbers, only_keys, optional_key, node, profile, replica, sequence_number, up_to, yes}
 
 -- what a reading says, put into a step
 abbrev pub as_step : {A : Type 0} → (A → Step) → Result A TableFault → Result Step TableFault
@@ -199,18 +204,31 @@ abbrev pub route_in : ℕ → List ReplicaId → List Client → Members → Res
 route_in count faulty clients members =
     pair_of (needed_key (faulty_index faulty) (codes "from") members) (needed_key (list_of (node count clients)) (codes "to") members)
 
--- the operation that installs code, and the one that calls a procedure
-abbrev pub install_from : Result (List ℕ) TableFault → Result (List ℕ) TableFault
-install_from (Ok code) = Ok (1 ∷ code)
+-- the operation that installs code under a profile of the verifier, the first one where none is given
+abbrev pub installing : Option InstallProfile → ℕ
+installing None = 1
+installing (Some profiles.One) = 1
+installing (Some profiles.Two) = 4
+
+abbrev pub install_from : Result (List ℕ × Option InstallProfile) TableFault → Result (List ℕ) TableFault
+install_from (Ok r) = Ok (installing r.1 ∷ r.0)
 install_from (Err fault) = Err fault
 
+abbrev pub profile_in : Members → Result (Option InstallProfile) TableFault
+profile_in members = optional_key profile (codes "profile") members
+
 abbrev pub install_in : Members → Result (List ℕ) TableFault
-install_in members = install_from (needed_key hex_bytes (codes "install") members)
+install_in members = install_from (pair_of (needed_key hex_bytes (codes "install") members) (profile_in members))
 
 -- the same of an assembler text
 abbrev pub asm_in : Members → Result (List ℕ) TableFault
-asm_in members = install_from (needed_key assembler_text (codes "asm") members)
+asm_in members = install_from (pair_of (needed_key assembler_text (codes "asm") members) (profile_in members))
 
+-- the same of the code in one of these files
+abbrev pub file_in : List NamedFile → Members → Result (List ℕ) TableFault
+file_in files members = install_from (pair_of (needed_key (file_code files) (codes "file") members) (profile_in members))
+
+-- the operation that calls a procedure
 abbrev pub arguments_of : Option (List ℕ) → List ℕ
 arguments_of None = []
 arguments_of (Some bytes) = bytes
@@ -221,6 +239,10 @@ call_from (Err fault) = Err fault
 
 abbrev pub call_in : Members → Result (List ℕ) TableFault
 call_in members = call_from (pair_of (needed_key (up_to 4294967295) (codes "call") members) (optional_key hex_bytes (codes "args") members))
+
+-- the same with numbers as arguments
+abbrev pub numbered_call_in : Members → Result (List ℕ) TableFault
+numbered_call_in members = call_from (pair_of (needed_key (up_to 4294967295) (codes "call") members) (optional_key numbers (codes "numbers") members))
 
 -- the request that a vote names: none is the null request
 abbrev pub null_from : Result (Unit {0}) TableFault → Result (Option (ClientId × ℕ)) TableFault
@@ -238,7 +260,8 @@ abbrev pub named_in : List Client → Members → Result (Option (ClientId × �
 named_in clients members =
     named_from (pair_of (needed_key (client_name clients) (codes "client") members) (needed_key (up_to 9223372036854775807) (codes "time") members))
 
--- A request: it installs code where there is such a key, or that of an assembler text, else it calls a procedure.
+-- A request: it installs code where there is such a key, or that of an assembler text, or of a file, else it calls a
+-- procedure, with numbers where there is a key for them.
 abbrev pub order_from : Result (List ℕ × (ClientId × Option (List Node))) TableFault → Result Order TableFault
 order_from (Ok r) = Ok (record { client = r.1.0; op = r.0; to = r.1.1 })
 order_from (Err fault) = Err fault
@@ -249,12 +272,16 @@ order_with op keys count clients members =
     (pair_of op (pair_of (needed_key (client_name clients) (codes "client") members) (optional_key (list_of (node count clients)) (codes "to") members)))
     keys members)
 
-abbrev pub order_in : ℕ → List Client → Members → Result Order TableFault
-order_in count clients members =
+abbrev pub order_in : List NamedFile → ℕ → List Client → Members → Result Order TableFault
+order_in files count clients members =
     if is_some (get_member (codes "install") members)
-    then order_with (install_in members) (codes "do" ∷ codes "client" ∷ codes "install" ∷ codes "to" ∷ codes "as" ∷ []) count clients members
+    then order_with (install_in members) (codes "do" ∷ codes "client" ∷ codes "install" ∷ codes "profile" ∷ codes "to" ∷ codes "as" ∷ []) count clients members
     else if is_some (get_member (codes "asm") members)
-    then order_with (asm_in members) (codes "do" ∷ codes "client" ∷ codes "asm" ∷ codes "to" ∷ codes "as" ∷ []) count clients members
+    then order_with (asm_in members) (codes "do" ∷ codes "client" ∷ codes "asm" ∷ codes "profile" ∷ codes "to" ∷ codes "as" ∷ []) count clients members
+    else if is_some (get_member (codes "file") members)
+    then order_with (file_in files members) (codes "do" ∷ codes "client" ∷ codes "file" ∷ codes "profile" ∷ codes "to" ∷ codes "as" ∷ []) count clients members
+    else if is_some (get_member (codes "numbers") members)
+    then order_with (numbered_call_in members) (codes "do" ∷ codes "client" ∷ codes "call" ∷ codes "numbers" ∷ codes "to" ∷ codes "as" ∷ []) count clients members
     else order_with (call_in members) (codes "do" ∷ codes "client" ∷ codes "call" ∷ codes "args" ∷ codes "to" ∷ codes "as" ∷ []) count clients members
 
 -- ---- a forged message
@@ -332,10 +359,10 @@ forgery_in count faulty clients members = forgery_of (needed_key forged_kind (co
 abbrev pub bare : Printout → Members → Result Step TableFault
 bare said members = only_keys (Ok (steps.Print said)) (codes "do" ∷ []) members
 
--- a step of this name, under so many replicas, these faulty ones and these clients, behind these steps
-abbrev pub step_named : List ℕ → ℕ → List ReplicaId → List Client → List NamedStep → Members → Result Step TableFault
-step_named t count faulty clients earlier members =
-    if bytes_eq t (codes "request") then as_step steps.Request (order_in count clients members)
+-- a step of this name, with these files, under so many replicas, these faulty ones and these clients, behind these steps
+abbrev pub step_named : List ℕ → List NamedFile → ℕ → List ReplicaId → List Client → List NamedStep → Members → Result Step TableFault
+step_named t files count faulty clients earlier members =
+    if bytes_eq t (codes "request") then as_step steps.Request (order_in files count clients members)
     else if bytes_eq t (codes "deliver") then deliver_in count clients members
     else if bytes_eq t (codes "drop") then drop_in count clients members
     else if bytes_eq t (codes "repeat") then repeat_in count clients members
@@ -361,3 +388,29 @@ naming_steps = codes "request" ∷ codes "repeat" ∷ codes "queue" ∷ codes "f
 -- the name that a step of this kind gives
 abbrev pub name_in : List NamedStep → List ℕ → Members → Result (Option (List ℕ)) TableFault
 name_in earlier t members = if is_one_of naming_steps t then optional_key (new_name earlier) (codes "as") members else Ok None
+
+-- ---- the names of steps
+
+abbrev pub edit_name : QueueEdit → List ℕ
+edit_name (edits.Drop filter) = codes "drop"
+edit_name (edits.Repeat filter) = codes "repeat"
+edit_name (edits.Mangle filter damage) = codes "mangle"
+edit_name (edits.Raw to payload) = codes "raw"
+
+abbrev pub printout_name : Printout → List ℕ
+printout_name (printouts.Queue filter) = codes "queue"
+printout_name printouts.Show = codes "show"
+printout_name printouts.Digest = codes "digest"
+printout_name (printouts.State id) = codes "state"
+printout_name (printouts.Upgrade bytes) = codes "upgrade"
+printout_name printouts.Audit = codes "audit"
+
+-- what the `do` of a step has
+abbrev pub step_name : Step → List ℕ
+step_name (steps.Request order) = codes "request"
+step_name (steps.Deliver filter order) = codes "deliver"
+step_name (steps.Timeout at) = codes "timeout"
+step_name (steps.Forge forgery) = codes "forge"
+step_name (steps.Edit edit) = edit_name edit
+step_name (steps.Print printout) = printout_name printout
+step_name (steps.Expect text) = codes "expect"

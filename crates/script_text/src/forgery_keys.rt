@@ -10,12 +10,13 @@ ghost use Rattle.script_values.specs.Faults.{IsUnlessMemory};
 ghost use Rattle.script_text.specs.Steps.{Route as RouteSaid, checkpoint_in, forged_vote_in, forgery_from, forgery_in, forgery_with, named_in, null_in, route_in, view_change_in, vote_for, vote_from, vote_of};
 
 use crate::script::{ForgedMessage, ForgedVote, Forgery};
-use crate::step_keys::{MAX_INTEGER, Names};
+use crate::step_keys::Names;
 use host_types::{ClientId, ReplicaId, View};
 use pbft_codec::Sequence;
 use script_values::{
-    ClientName, DigestDigits, FaultyIndex, ForgedKind, ForgedKindName, ListOf, Node, NodeName,
-    Number, SequenceNumber, TableFault, True, UpTo, Word, needed, pair, value_at, with_only,
+    ClientName, DigestDigits, FaultyIndex, ForgedKind, ForgedKindName, ListOf, MAX_INTEGER, Node,
+    NodeName, Number, SequenceNumber, TableFault, True, UpTo, Word, needed, pair, value_at,
+    with_only,
 };
 use seal::VoteKind;
 use std::alloc::Global;

@@ -9,16 +9,22 @@
 
 mod dialect;
 mod document;
+mod file_uses;
+mod files;
 mod forgery_keys;
 mod head;
 mod naming;
+mod place;
 mod raw_keys;
 mod script;
 mod step_keys;
 
 pub use dialect::Dialect;
-pub use document::{MAX_SCRIPT, read_script, read_thread_script};
+pub use document::{MAX_SCRIPT, read_script, read_script_with, read_thread_script};
+pub use file_uses::{FileUse, files_named_in};
+pub use files::{FileName, MAX_FILE, NamedFile, is_code_name};
 pub use head::{CLIENT_HINTS, HEAD_HINTS, Head};
+pub use place::lines_of_steps;
 pub use script::{
     Damage, Filter, ForgedMessage, ForgedVote, Forgery, NamedStep, Order, Payload, Printout,
     QueueEdit, Script, Step,

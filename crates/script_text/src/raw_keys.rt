@@ -12,10 +12,11 @@ ghost use Rattle.script_text.specs.Steps.{bytes_in, change_at, message_with, raw
 
 use crate::naming::GivenName;
 use crate::script::{Damage, Payload, QueueEdit, Step};
-use crate::step_keys::{MAX_INTEGER, Names};
+use crate::step_keys::Names;
 use pbft_codec::Sequence;
 use script_values::{
-    HexBytes, ListOf, Node, NodeName, TableFault, UpTo, needed, optional, pair, value_at, with_only,
+    HexBytes, ListOf, MAX_INTEGER, Node, NodeName, TableFault, UpTo, needed, optional, pair,
+    value_at, with_only,
 };
 use std::alloc::Global;
 use toml::Table;

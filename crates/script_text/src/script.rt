@@ -111,6 +111,26 @@ pub enum Step {
     Expect(Bytes),
 }
 
+impl Step {
+    ghost use Rattle.std.specs.Prelude.{◌≡◌};
+    ghost use Rattle.script_text.specs.Steps.{step_name};
+
+    /// The step's name, which its `do` has.
+    pub fn name(&self) -> &'static str
+        ensures { result.now ≡ step_name self.now }
+    {
+        match self {
+            Step::Request(_) => "request",
+            Step::Deliver { .. } => "deliver",
+            Step::Timeout(_) => "timeout",
+            Step::Forge(_) => "forge",
+            Step::Edit(edit) => edit.name(),
+            Step::Print(printout) => printout.name(),
+            Step::Expect(_) => "expect",
+        }
+    }
+}
+
 /// What a step does that changes the queue alone.
 #[derive(Drop)]
 pub enum QueueEdit {
@@ -130,6 +150,23 @@ pub enum QueueEdit {
     },
 }
 
+impl QueueEdit {
+    ghost use Rattle.std.specs.Prelude.{◌≡◌};
+    ghost use Rattle.script_text.specs.Steps.{edit_name};
+
+    /// The name of a step that does so.
+    fn name(&self) -> &'static str
+        ensures { result.now ≡ edit_name self.now }
+    {
+        match self {
+            QueueEdit::Drop(_) => "drop",
+            QueueEdit::Repeat(_) => "repeat",
+            QueueEdit::Mangle { .. } => "mangle",
+            QueueEdit::Raw { .. } => "raw",
+        }
+    }
+}
+
 /// What a step prints that changes nothing.
 #[derive(Drop)]
 pub enum Printout {
@@ -145,4 +182,23 @@ pub enum Printout {
     Upgrade(ScriptBytes),
     /// Whether the rows of the correct replicas agree so far.
     Audit,
+}
+
+impl Printout {
+    ghost use Rattle.std.specs.Prelude.{◌≡◌};
+    ghost use Rattle.script_text.specs.Steps.{printout_name};
+
+    /// The name of a step that prints so.
+    fn name(&self) -> &'static str
+        ensures { result.now ≡ printout_name self.now }
+    {
+        match self {
+            Printout::Queue(_) => "queue",
+            Printout::Show => "show",
+            Printout::Digest => "digest",
+            Printout::State(_) => "state",
+            Printout::Upgrade(_) => "upgrade",
+            Printout::Audit => "audit",
+        }
+    }
 }

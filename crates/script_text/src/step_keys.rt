@@ -10,31 +10,37 @@ ghost use Rattle.script_text.specs.declared.script.Damage.TheVariants as damages
 ghost use Rattle.script_text.specs.declared.script.Step.{Step as StepSaid};
 ghost use Rattle.script_values.specs.Faults.{IsUnlessMemory};
 ghost use Rattle.script_text.specs.Naming.{named};
-ghost use Rattle.script_text.specs.Steps.{Selection as SelectionSaid, arguments_of, asm_in, bare, call_in, damage_at, deliver_in, drop_in, expect_in, filter_in, filter_of, install_in, mangle_from, mangle_in, mangle_with, name_in, order_in, order_with, queue_in, repeat_in, selection_in, state_in, step_named, timeout_in, upgrade_in};
+ghost use Rattle.script_text.specs.Steps.{Selection as SelectionSaid, arguments_of, asm_in, bare, call_in, damage_at, deliver_in, drop_in, expect_in, file_in, filter_in, filter_of, install_in, installing, mangle_from, mangle_in, mangle_with, name_in, numbered_call_in, order_in, order_with, profile_in, queue_in, repeat_in, selection_in, state_in, step_named, timeout_in, upgrade_in};
 ghost use Rattle.script_text.specs.Dialects.{step, step_named_for, thread_step};
 
 use crate::dialect::Dialect;
+use crate::files::{FileCode, NamedFile};
 use crate::forgery_keys::read_forgery;
 use crate::head::Head;
 use crate::naming::NewName;
 use crate::raw_keys::read_raw;
 use crate::script::{Damage, Filter, NamedStep, Order, Printout, QueueEdit, Step};
-use host_types::operation::{CALL, INSTALL};
+use host_types::operation::{CALL, INSTALL, INSTALL2};
 use host_types::{Bytes, ReplicaId};
 use pbft_codec::Sequence;
 use script_values::{
-    AssemblerText, Client, ClientName, HexBytes, Kind, KindName, Lines, ListOf, MessageName, Node,
-    NodeName, Operation, ReplicaIndex, ScriptBytes, TableFault, UpTo, Word, is_among, needed,
-    optional, pair, table_of, unknown_where, value_at, with_only, wrong_where,
+    AssemblerText, Client, ClientName, HexBytes, InstallProfile, Kind, KindName, Lines, ListOf,
+    MAX_INTEGER, MessageName, Node, NodeName, Numbers, Operation, ProfileNumber, ReplicaIndex,
+    ScriptBytes, TableFault, UpTo, Word, is_among, needed, optional, pair, table_of, unknown_where,
+    value_at, with_only, wrong_where,
 };
 use std::alloc::{AllocError, Global};
 use toml::{Table, Value};
 
-const INSTALL_KEYS: [&str; 5] = ["do", "client", "install", "to", "as"];
+const INSTALL_KEYS: [&str; 6] = ["do", "client", "install", "profile", "to", "as"];
 
-const ASM_KEYS: [&str; 5] = ["do", "client", "asm", "to", "as"];
+const ASM_KEYS: [&str; 6] = ["do", "client", "asm", "profile", "to", "as"];
+
+const FILE_KEYS: [&str; 6] = ["do", "client", "file", "profile", "to", "as"];
 
 const CALL_KEYS: [&str; 6] = ["do", "client", "call", "args", "to", "as"];
+
+const NUMBERED_CALL_KEYS: [&str; 6] = ["do", "client", "call", "numbers", "to", "as"];
 
 const FILTER_KEYS: [&str; 4] = ["do", "from", "to", "kinds"];
 
@@ -58,7 +64,8 @@ const EXPECT_KEYS: [&str; 2] = ["do", "lines"];
 
 /// The keys of each step, as `help world` lists them.
 pub const STEP_FORMS: &str =
-    r#"  do = "request"   client; install = hex, or asm = text, or call = a procedure with args = hex; to
+    r#"  do = "request"   client; install = hex, or asm = text, or file = a name, each with profile = 1 or 2, or
+                   call = a procedure with args = hex, or numbers = a list; to
   do = "deliver"   from, to, kinds, order = a seed
   do = "drop"      from, to, kinds
   do = "repeat"    from, to, kinds
@@ -81,8 +88,11 @@ pub const STEP_FORMS: &str =
 pub const STEP_HINTS: &str = r#"step | client | CLIENT | the id of a client of the script
 step | install | "" | code as hex digits
 step | asm | "exit" | an assembler text
+step | file | FILE | the plain name of a file beside the script: NAME.hex, hex digits, or NAME.asm, an assembler text
 step | call | 0 | a number from 0 to 4,294,967,295
 step | args | "" | bytes as hex digits
+step | numbers | [] | a list of numbers from 0 to 9,223,372,036,854,775,807
+step | profile | 2 | 1 or 2
 forge | from | FAULTY | the id of a faulty replica
 forge | to | [] | a list of ids of replicas and clients
 step | from | [] | a list of ids of replicas and clients
@@ -109,9 +119,6 @@ step | do | STEP | the name of a step; bpf_host help world lists them, and run h
 /// The steps that may name a message: those that queue messages of their own, and `queue`.
 const NAMING_STEPS: [&str; 6] = ["request", "repeat", "queue", "forge", "mangle", "raw"];
 
-/// The greatest integer of a document.
-pub(crate) const MAX_INTEGER: u64 = 9_223_372_036_854_775_807;
-
 /// Whose messages of the queue, for whom and of which kinds.
 type Selection = (
     Option<Sequence<Node>>,
@@ -121,6 +128,8 @@ type Selection = (
 /// What the values of a step may name.
 #[derive(Clone, Copy)]
 pub(crate) struct Names<'a> {
+    /// The files that were read for the script.
+    pub files: &'a [NamedFile],
     /// How many replicas there are.
     pub count: u8,
     pub faulty: &'a [ReplicaId],
@@ -133,14 +142,16 @@ pub(crate) struct Names<'a> {
 pub(crate) fn read_step(
     alloc: Global,
     dialect: Dialect,
+    files: &[NamedFile],
     head: &Head,
     earlier: &[NamedStep],
     value: &Value,
 ) -> Result<NamedStep, TableFault>
-    ensures { IsUnlessMemory result (step dialect (replicas_for head.now.f) head.now.faulty head.now.clients earlier.now (view value.now)) }
+    ensures { IsUnlessMemory result (step dialect files.now (replicas_for head.now.f) head.now.faulty head.now.clients earlier.now (view value.now)) }
 {
     let table = table_of(value)?;
     let names = Names {
+        files,
         count: head.replica_count(),
         faulty: head.faulty(),
         clients: head.clients(),
@@ -163,7 +174,7 @@ fn read_step_for(
     table: &Table,
     name: &str,
 ) -> Result<NamedStep, TableFault>
-    ensures { IsUnlessMemory result (step_named_for dialect name.now names.now.count names.now.faulty.now names.now.clients.now names.now.earlier.now (table_view table.now)) }
+    ensures { IsUnlessMemory result (step_named_for dialect name.now names.now.files.now names.now.count names.now.faulty.now names.now.clients.now names.now.earlier.now (table_view table.now)) }
 {
     match dialect {
         Dialect::World => {
@@ -216,7 +227,7 @@ fn read_thread_step(
     table: &Table,
     name: &str,
 ) -> Result<Step, TableFault>
-    ensures { IsUnlessMemory result (thread_step name.now names.now.count names.now.faulty.now names.now.clients.now names.now.earlier.now (table_view table.now)) }
+    ensures { IsUnlessMemory result (thread_step name.now names.now.files.now names.now.count names.now.faulty.now names.now.clients.now names.now.earlier.now (table_view table.now)) }
 {
     match name {
         "request" => wrong_where(
@@ -235,7 +246,7 @@ fn read_named_step(
     table: &Table,
     name: &str,
 ) -> Result<Step, TableFault>
-    ensures { IsUnlessMemory result (step_named name.now names.now.count names.now.faulty.now names.now.clients.now names.now.earlier.now (table_view table.now)) }
+    ensures { IsUnlessMemory result (step_named name.now names.now.files.now names.now.count names.now.faulty.now names.now.clients.now names.now.earlier.now (table_view table.now)) }
 {
     match name {
         "request" => Ok(Step::Request(read_request(alloc, names, table)?)),
@@ -266,7 +277,7 @@ fn read_bare(table: &Table, printout: Printout) -> Result<Step, TableFault>
 
 /// A request, which installs code or calls a procedure.
 fn read_request(alloc: Global, names: &Names<'_>, table: &Table) -> Result<Order, TableFault>
-    ensures { IsUnlessMemory result (order_in names.now.count names.now.clients.now (table_view table.now)) }
+    ensures { IsUnlessMemory result (order_in names.now.files.now names.now.count names.now.clients.now (table_view table.now)) }
 {
     if value_at(table, "install").is_some() {
         let install = read_install(alloc, table);
@@ -274,6 +285,12 @@ fn read_request(alloc: Global, names: &Names<'_>, table: &Table) -> Result<Order
     } else if value_at(table, "asm").is_some() {
         let install = read_asm(alloc, table);
         read_order(alloc, names, table, install, &ASM_KEYS)
+    } else if value_at(table, "file").is_some() {
+        let install = read_file(alloc, names, table);
+        read_order(alloc, names, table, install, &FILE_KEYS)
+    } else if value_at(table, "numbers").is_some() {
+        let call = read_numbered_call(alloc, table);
+        read_order(alloc, names, table, call, &NUMBERED_CALL_KEYS)
     } else {
         let call = read_call(alloc, table);
         read_order(alloc, names, table, call, &CALL_KEYS)
@@ -312,25 +329,75 @@ fn read_order(
 fn read_install(alloc: Global, table: &Table) -> Result<Operation, TableFault>
     ensures { IsUnlessMemory result (install_in (table_view table.now)) }
 {
-    let code = needed(alloc, table, "install", &HexBytes)?;
-    Ok(installation(alloc, &code)?)
+    let (code, profile) = pair(
+        needed(alloc, table, "install", &HexBytes),
+        read_profile(alloc, table),
+    )?;
+    Ok(installation(alloc, &code, profile)?)
 }
 
 /// The operation that installs the code of an assembler text.
 fn read_asm(alloc: Global, table: &Table) -> Result<Operation, TableFault>
     ensures { IsUnlessMemory result (asm_in (table_view table.now)) }
 {
-    let code = needed(alloc, table, "asm", &AssemblerText)?;
-    Ok(installation(alloc, &code)?)
+    let (code, profile) = pair(
+        needed(alloc, table, "asm", &AssemblerText),
+        read_profile(alloc, table),
+    )?;
+    Ok(installation(alloc, &code, profile)?)
 }
 
-fn installation(alloc: Global, code: &ScriptBytes) -> Result<Operation, AllocError>
-    ensures { IfOk result (λ op. op ≡ 1 ∷ code.now) }
+/// The operation that installs the code in a file.
+fn read_file(alloc: Global, names: &Names<'_>, table: &Table) -> Result<Operation, TableFault>
+    ensures { IsUnlessMemory result (file_in names.now.files.now (table_view table.now)) }
+{
+    let form = FileCode { files: names.files };
+    let (code, profile) = pair(
+        needed(alloc, table, "file", &form),
+        read_profile(alloc, table),
+    )?;
+    Ok(installation(alloc, &code, profile)?)
+}
+
+/// The profile of the verifier under which code is installed, if one is named.
+fn read_profile(alloc: Global, table: &Table) -> Result<Option<InstallProfile>, TableFault>
+    ensures { IsUnlessMemory result (profile_in (table_view table.now)) }
+{
+    optional(alloc, table, "profile", &ProfileNumber)
+}
+
+fn installation(
+    alloc: Global,
+    code: &ScriptBytes,
+    profile: Option<InstallProfile>,
+) -> Result<Operation, AllocError>
+    ensures { IfOk result (λ op. op ≡ installing profile ∷ code.now) }
 {
     let mut op = Vec::new(alloc);
-    op.push(INSTALL)?;
+    op.push(installing(profile))?;
     op.extend_from_slice(code.as_slice())?;
     Ok(Operation::new(Bytes::from_vec(op)))
+}
+
+/// The first byte of the operation.
+fn installing(profile: Option<InstallProfile>) -> u8
+    ensures { result ≡ installing profile }
+{
+    match profile {
+        None | Some(InstallProfile::One) => INSTALL,
+        Some(InstallProfile::Two) => INSTALL2,
+    }
+}
+
+/// The operation that calls a procedure with numbers.
+fn read_numbered_call(alloc: Global, table: &Table) -> Result<Operation, TableFault>
+    ensures { IsUnlessMemory result (numbered_call_in (table_view table.now)) }
+{
+    let (procedure, arguments) = pair(
+        needed(alloc, table, "call", &Word),
+        optional(alloc, table, "numbers", &Numbers),
+    )?;
+    call(alloc, procedure, &arguments)
 }
 
 /// The operation that calls a procedure.

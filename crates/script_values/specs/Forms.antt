@@ -1,5 +1,6 @@
 -- Statement: what a script's values may be, and how the keys of a table are read.
 use Rattle.std.specs.Prelude.{codes, find, flat_map, length, slice_get, [], ◌∷◌, ◌++◌, ◌-◌, Vec, ℕ, ℤ, pos, negsuc, ◌==◌, ◌&&◌, ◌||◌, Bool, true, false, nat_le, nat_lt, List, Option, Some, None, Result, Ok, Err, filter, not, if◌then◌else◌, bytes_eq}
+use Rattle.std.specs.Int.{to_le_bytes, w64}
 use Rattle.std.specs.List.{list_any}
 use Rattle.std.specs.Option.{ok_or, option_map}
 use Rattle.bpf_asm.specs.Assembly.{assembly}
@@ -20,6 +21,8 @@ use Rattle.host_types.specs.declared.SeqNo.{SeqNo}
 use Rattle.script_values.specs.declared.kind.Kind.{Kind}
 use Rattle.script_values.specs.declared.kind.Kind.TheVariants as kinds
 use Rattle.script_values.specs.declared.said.Client.{Client}
+use Rattle.script_values.specs.declared.said.InstallProfile.{InstallProfile}
+use Rattle.script_values.specs.declared.said.InstallProfile.TheVariants as profiles
 use Rattle.script_values.specs.declared.said.Node.{Node}
 use Rattle.script_values.specs.declared.said.Node.TheVariants as nodes
 use Rattle.script_values.specs.declared.said.Secret.{Secret}
@@ -136,6 +139,14 @@ bottom_of (negsuc n) = Err WrongValue
 abbrev pub bottom : Data → Result (Option Height) TableFault
 bottom d = if_found bottom_of (as_integer d)
 
+-- the number of a profile of the verifier, 1 or 2
+abbrev pub profile_of : ℤ → Result InstallProfile TableFault
+profile_of (pos n) = if n == 1 then Ok profiles.One else (if n == 2 then Ok profiles.Two else Err WrongValue)
+profile_of (negsuc n) = Err WrongValue
+
+abbrev pub profile : Data → Result InstallProfile TableFault
+profile d = if_found profile_of (as_integer d)
+
 -- 64 hex digits
 abbrev pub decoded_secret : Result (List ℕ) FromHexError → Result Secret TableFault
 decoded_secret (Ok bytes) = Ok (record { 0 = bytes })
@@ -159,16 +170,22 @@ abbrev pub decoded_bytes : Result (List ℕ) FromHexError → Result (List ℕ) 
 decoded_bytes (Ok bytes) = if nat_le (length bytes) 524288 then Ok bytes else Err WrongValue
 decoded_bytes (Err error) = Err WrongValue
 
+abbrev pub hex_text : List ℕ → Result (List ℕ) TableFault
+hex_text text = decoded_bytes (decode_of (filter (λ b. not (is_blank b)) text))
+
 abbrev pub hex_bytes : Data → Result (List ℕ) TableFault
-hex_bytes d = if_found (λ text. decoded_bytes (decode_of (filter (λ b. not (is_blank b)) text))) (as_str d)
+hex_bytes d = if_found hex_text (as_str d)
 
 -- an assembler text, as the code that it is; at most 524,288 bytes
 abbrev pub assembled : Result (List Insn) AsmFault → Result (List ℕ) TableFault
 assembled (Ok code) = if nat_le (length (encoding code)) 524288 then Ok (encoding code) else Err WrongValue
 assembled (Err fault) = Err WrongValue
 
+abbrev pub assembler_code : List ℕ → Result (List ℕ) TableFault
+assembler_code text = assembled (assembly text)
+
 abbrev pub assembler_text : Data → Result (List ℕ) TableFault
-assembler_text d = if_found (λ text. assembled (assembly text)) (as_str d)
+assembler_text d = if_found assembler_code (as_str d)
 
 -- a replica among so many, by its index
 abbrev pub replica_of : ℕ → ℤ → Result ReplicaId TableFault
@@ -269,6 +286,17 @@ if_so_many (Some count) (Err fault) = Err fault
 
 abbrev pub per_replica : {A : Type 0} → Option ℕ → (Data → Result A TableFault) → Data → Result (List A) TableFault
 per_replica count reads d = if_so_many count (list_of reads d)
+
+-- numbers as bytes, 8 for each, the least significant first; at most 524,288 bytes in all
+abbrev pub packed : List ℕ → List ℕ
+packed ns = flat_map (λ n. to_le_bytes w64 n) ns
+
+abbrev pub packed_from : Result (List ℕ) TableFault → Result (List ℕ) TableFault
+packed_from (Ok ns) = if nat_le (length (packed ns)) 524288 then Ok (packed ns) else Err WrongValue
+packed_from (Err fault) = Err fault
+
+abbrev pub numbers : Data → Result (List ℕ) TableFault
+numbers d = packed_from (list_of (up_to 9223372036854775807) d)
 
 abbrev pub any_table : Data → Result (Unit {0}) TableFault
 any_table d = if_found (λ members. Ok tt) (as_table d)

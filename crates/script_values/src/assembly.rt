@@ -22,10 +22,22 @@ impl Form for AssemblerText {
     type Says = ScriptBytes;
 
     fn read(&self, alloc: Global, value: &Value) -> Result<ScriptBytes, TableFault> {
-        let Some(text) = value.as_str() else {
-            return Err(TableFault::WrongValue);
-        };
-        match assemble(alloc, text.as_bytes()) {
+        match value.as_str() {
+            Some(text) => AssemblerText::code(alloc, text.as_bytes()),
+            None => Err(TableFault::WrongValue),
+        }
+    }
+}
+
+impl AssemblerText {
+    ghost use Rattle.script_values.specs.Faults.{IsUnlessMemory};
+    ghost use Rattle.script_values.specs.Forms.{assembler_code};
+
+    /// The code of an assembler text: `WrongValue` where it is none, or has more than 524,288 bytes. `Memory` may come instead.
+    pub fn code(alloc: Global, text: &[u8]) -> Result<ScriptBytes, TableFault>
+        ensures { IsUnlessMemory result (assembler_code text.now) }
+    {
+        match assemble(alloc, text) {
             Ok(code) => {
                 let bytes = encode_all(alloc, &code)?;
                 if bytes.len() <= MAX_HEX_BYTES {

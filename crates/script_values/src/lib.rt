@@ -13,6 +13,7 @@ mod fault;
 mod form;
 mod kind;
 mod lines;
+mod numbers;
 mod replica_keys;
 mod said;
 mod values;
@@ -24,10 +25,13 @@ pub use form::{
 };
 pub use kind::Kind;
 pub use lines::Lines;
+pub use numbers::Numbers;
 pub use replica_keys::{KEY_LIST_HINTS, KEY_LISTS, KeyShape, ReplicaKeys, read_keys};
-pub use said::{Client, MessageName, Node, Number, Operation, ScriptBytes, Secret, node_text};
+pub use said::{
+    Client, InstallProfile, MessageName, Node, Number, Operation, ScriptBytes, Secret, node_text,
+};
 pub use values::{
     AnyTable, BottomHeight, ClientName, DigestDigits, FaultyIndex, ForgedKind, ForgedKindName,
-    HexBytes, Integer, KeyHeight, KindName, ListOf, NodeName, ReplicaIndex, SecretDigits,
-    SequenceNumber, True, UpTo, Word, table_of,
+    HexBytes, Integer, KeyHeight, KindName, ListOf, MAX_INTEGER, NodeName, ProfileNumber,
+    ReplicaIndex, SecretDigits, SequenceNumber, True, UpTo, Word, table_of,
 };

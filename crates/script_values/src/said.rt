@@ -42,6 +42,13 @@ pub fn node_text(alloc: Global, node: Option<Node>) -> Result<String, AllocError
     }
 }
 
+/// Under which profile of the verifier code is installed.
+#[derive(Clone, Copy, Debug, PartialEq, Eq)]
+pub enum InstallProfile {
+    One,
+    Two,
+}
+
 /// Bytes that a script gives: at most 524,288, since a script has no more than twice as many digits.
 #[derive(Drop)]
 pub struct ScriptBytes {

@@ -11,7 +11,7 @@ ghost use Rattle.script_values.specs.Faults.{IsUnlessMemory};
 use crate::fault::TableFault;
 use crate::form::Form;
 use crate::kind::Kind;
-use crate::said::{Client, Node, Number, ScriptBytes, Secret};
+use crate::said::{Client, InstallProfile, Node, Number, ScriptBytes, Secret};
 use hex::{FromHex, FromHexError};
 use host_types::limits::SEQUENCE_NUMBER_LIMIT;
 use host_types::{Bytes, ClientId, Digest, ReplicaId, SeqNo};
@@ -23,6 +23,9 @@ use toml::{Table, Value};
 
 /// The most bytes that hex digits give: a script has no more than twice as many.
 pub(crate) const MAX_HEX_BYTES: usize = 524_288;
+
+/// The greatest integer of a document.
+pub const MAX_INTEGER: u64 = 9_223_372_036_854_775_807;
 
 /// The most leaves that a key may have used at the start.
 const MAX_SPENT: u32 = 2_048;
@@ -160,6 +163,26 @@ impl Form for BottomHeight {
     }
 }
 
+/// The number of a profile of the verifier, 1 or 2.
+#[derive(Clone, Copy)]
+pub struct ProfileNumber;
+
+impl Form for ProfileNumber {
+    ghost use Rattle.script_values.specs.Forms.{profile};
+
+    ghost reads = { λ _ d. profile d };
+
+    type Says = InstallProfile;
+
+    fn read(&self, _: Global, value: &Value) -> Result<InstallProfile, TableFault> {
+        match value.as_integer() {
+            Some(1) => Ok(InstallProfile::One),
+            Some(2) => Ok(InstallProfile::Two),
+            _ => Err(TableFault::WrongValue),
+        }
+    }
+}
+
 /// A number of leaves that are used at the start.
 #[derive(Clone, Copy)]
 pub(crate) struct SpentLeaves;
@@ -236,10 +259,22 @@ impl Form for HexBytes {
     type Says = ScriptBytes;
 
     fn read(&self, alloc: Global, value: &Value) -> Result<ScriptBytes, TableFault> {
-        let Some(text) = value.as_str() else {
-            return Err(TableFault::WrongValue);
-        };
-        let digits = without_blanks(alloc, text.as_bytes())?;
+        match value.as_str() {
+            Some(text) => HexBytes::decode(alloc, text.as_bytes()),
+            None => Err(TableFault::WrongValue),
+        }
+    }
+}
+
+impl HexBytes {
+    ghost use Rattle.script_values.specs.Forms.{hex_text};
+
+    /// The bytes of a text of hex digits: `WrongValue` where it is none, or gives more than 524,288 bytes. `Memory` may come
+    /// instead.
+    pub fn decode(alloc: Global, text: &[u8]) -> Result<ScriptBytes, TableFault>
+        ensures { IsUnlessMemory result (hex_text text.now) }
+    {
+        let digits = without_blanks(alloc, text)?;
         match hex::decode(alloc, digits.as_slice()) {
             Ok(bytes) if bytes.len() <= MAX_HEX_BYTES => {
                 Ok(ScriptBytes::new(Bytes::from_vec(bytes)))

@@ -297,7 +297,7 @@ fn a_ticker_brings_the_next_view(rt: HostRuntime) -> Result<(), Fail> {
         client,
     } = place;
     let host = begin(&rt, alloc, &config, signers, 65_536, 1)?;
-    let ticker = Ticker::start(&rt, alloc, &host, Duration::from_millis(50))?;
+    let ticker = Ticker::start(&rt, alloc, &host, Duration::from_millis(1000))?;
     let mut caller = Caller::new(alloc, &host, CLIENT, Box::into_inner(client))?;
     let fault = caller.first_fault(&rt, alloc, 2)?;
     ticker.stop(&rt);

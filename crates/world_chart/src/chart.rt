@@ -15,10 +15,16 @@ pub struct Chart {
 }
 
 impl Chart {
-    /// The chart of what happened. More than 100 messages are folded: those that follow one another with nothing
-    /// between them stand in one row.
-    pub fn new(alloc: Global, lanes: Lanes, happened: &[Happening]) -> Result<Chart, AllocError> {
-        let rows = rows_of(alloc, &lanes, happened)?;
+    /// The chart of what happened, and of the lines that clients printed: one for each reply that was accepted, in order.
+    /// More than 100 messages are folded: those that follow one another with nothing between them but accepted replies stand
+    /// in one row, with what was accepted.
+    pub fn new(
+        alloc: Global,
+        lanes: Lanes,
+        happened: &[Happening],
+        accepted: &[String],
+    ) -> Result<Chart, AllocError> {
+        let rows = rows_of(alloc, &lanes, happened, accepted)?;
         Ok(Chart { lanes, rows })
     }
 

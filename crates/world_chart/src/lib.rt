@@ -13,4 +13,4 @@ mod rows;
 
 pub use chart::Chart;
 pub use lanes::Lanes;
-pub use world_lines::{Cause, Happening, Standing, changes, line_of, saying_in};
+pub use world_lines::{Cause, Happening, Standing, changes, line_of, saying_in, words_of};

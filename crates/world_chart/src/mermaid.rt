@@ -30,7 +30,7 @@ fn row_text(alloc: Global, row: &Row, last: usize) -> Result<String, AllocError>
         Shape::Note { lane } | Shape::Alarm { lane } => {
             format!(in alloc; "    Note over l{lane}: {words}\n")
         }
-        Shape::Fold => format!(in alloc; "    Note over l0,l{last}: {words}\n"),
+        Shape::Fold | Shape::Step => format!(in alloc; "    Note over l0,l{last}: {words}\n"),
         Shape::View { view } => {
             let shade = if view.0 % 2 == 0 {
                 "238, 244, 255"

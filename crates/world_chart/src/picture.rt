@@ -22,6 +22,8 @@ text { font: 11px sans-serif; text-anchor: middle; fill: #222 }
 .name { font-weight: bold; font-size: 13px }
 .lane { stroke: #bbb }
 .view { fill: #555; font-weight: bold }
+.step { stroke: #ccd; stroke-dasharray: 2 3 }
+.begun { fill: #667; text-anchor: start }
 .note { fill: #fff; stroke: #999 }
 .alarm { fill: #fde8e8; stroke: #c33 }
 .alarmed { fill: #a11 }
@@ -128,12 +130,32 @@ fn row_text(alloc: Global, row: &Row, y: usize, width: usize) -> Result<String, 
         Shape::Cross { from, to } => cross(alloc, words, x_of(from), x_of(to), y),
         Shape::Note { lane } => note(alloc, words, "note", x_of(lane), y, width),
         Shape::Alarm { lane } => note(alloc, words, "alarm", x_of(lane), y, width),
-        Shape::Fold => note(alloc, words, "note", width / 2, y, width),
+        Shape::Fold => fold(alloc, words, y, width),
+        Shape::Step => step(alloc, words, y, width),
         Shape::View { .. } => {
             let x = width / 2;
             format!(in alloc; "<text class=\"view\" x=\"{x}\" y=\"{y}\">{words}</text>\n")
         }
     }
+}
+
+/// The words of many messages in a box over all lanes.
+fn fold(alloc: Global, words: &str, y: usize, picture: usize) -> Result<String, AllocError> {
+    let left = LEFT / 2;
+    let width = picture.saturating_sub(LEFT);
+    let middle = picture / 2;
+    let top = y.saturating_sub(13);
+    format!(in alloc;
+        "<rect class=\"note\" x=\"{left}\" y=\"{top}\" width=\"{width}\" height=\"17\" rx=\"4\"/><text x=\"{middle}\" y=\"{y}\">{words}</text>\n"
+    )
+}
+
+/// The words of a step that begins, at the edge, over a line across the picture.
+fn step(alloc: Global, words: &str, y: usize, picture: usize) -> Result<String, AllocError> {
+    let below = y.saturating_add(4);
+    format!(in alloc;
+        "<line class=\"step\" x1=\"0\" y1=\"{below}\" x2=\"{picture}\" y2=\"{below}\"/><text class=\"begun\" x=\"6\" y=\"{y}\">{words}</text>\n"
+    )
 }
 
 /// The kind of a message, the first of its words.

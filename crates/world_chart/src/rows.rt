@@ -10,6 +10,9 @@ use world_lines::{Cause, Happening, Saying, line_of, words_of};
 /// The most messages that are drawn one by one.
 const MAX_MESSAGES: usize = 100;
 
+/// The most hex digits of a result that are shown: a status and r0.
+const MAX_RESULT: usize = 18;
+
 /// What a row shows.
 #[derive(Clone, Copy, Debug, PartialEq, Eq)]
 pub(crate) enum Shape {
@@ -21,8 +24,10 @@ pub(crate) enum Shape {
     Note { lane: usize },
     /// What a replica can't go on from, or should not have said.
     Alarm { lane: usize },
-    /// Many messages in one row.
+    /// Many messages in one row, and what clients accepted among them.
     Fold,
+    /// A step of the script begins.
+    Step,
     /// From here on some replica is in this view.
     View { view: View },
 }
@@ -39,6 +44,7 @@ pub(crate) fn rows_of(
     alloc: Global,
     lanes: &Lanes,
     happened: &[Happening],
+    accepted: &[String],
 ) -> Result<Vec<Row>, AllocError> {
     let folds = happened.iter().filter(|one| is_message(one)).count() > MAX_MESSAGES;
     let mut rows = Rows {
@@ -46,12 +52,12 @@ pub(crate) fn rows_of(
         lanes,
         rows: Vec::new(alloc),
         view: View(0),
+        accepted,
         folded: 0,
+        words: String::new(alloc),
     };
     for happening in happened {
-        if folds && is_message(happening) {
-            rows.folded = rows.folded.saturating_add(1);
-        } else {
+        if !folds || !rows.fold(happening)? {
             rows.unfold()?;
             rows.add(happening)?;
         }
@@ -73,14 +79,36 @@ struct Rows<'a> {
     rows: Vec<Row>,
     /// The greatest view that a replica has entered.
     view: View,
+    /// The lines of the replies that are accepted from here on.
+    accepted: &'a [String],
     /// How many messages wait for a row.
     folded: usize,
+    /// What clients accepted among them.
+    words: String,
 }
 
 impl Rows<'_> {
     fn push(&mut self, shape: Shape, words: String) -> Result<(), AllocError> {
         self.rows.push(Row { shape, words })?;
         Ok(())
+    }
+
+    /// Takes a message, or a reply that is accepted behind one, into the row of many messages. Whether it belongs there.
+    fn fold(&mut self, happening: &Happening) -> Result<bool, AllocError> {
+        match *happening {
+            Happening::Accepted { client } if self.folded > 0 => {
+                let client = client.0;
+                let words = self.accepted_words()?;
+                self.words
+                    .push_str(&format!(in self.alloc; ", client {client} {words}")?)?;
+                Ok(true)
+            }
+            _ if is_message(happening) => {
+                self.folded = self.folded.saturating_add(1);
+                Ok(true)
+            }
+            _ => Ok(false),
+        }
     }
 
     /// Ends a row of many messages, if one was begun.
@@ -91,8 +119,25 @@ impl Rows<'_> {
             return Ok(());
         }
         let ending = if many == 1 { "" } else { "s" };
-        let words = format!(in self.alloc; "{many} message{ending}")?;
+        let more = self.words.as_str();
+        let words = format!(in self.alloc; "{many} message{ending}{more}")?;
+        self.words.clear();
         self.push(Shape::Fold, words)
+    }
+
+    /// What the next accepted reply says: `accepts 0000000000`, its result in hex, cut where it is long.
+    fn accepted_words(&mut self) -> Result<String, AllocError> {
+        let Some((line, rest)) = self.accepted.split_first() else {
+            return String::from_str(self.alloc, "accepts");
+        };
+        self.accepted = rest;
+        let result = last_word(line.as_str());
+        match result.get(..MAX_RESULT) {
+            Some(front) if result.len() > MAX_RESULT => {
+                format!(in self.alloc; "accepts {front}..")
+            }
+            _ => format!(in self.alloc; "accepts {result}"),
+        }
     }
 
     fn add(&mut self, happening: &Happening) -> Result<(), AllocError> {
@@ -103,6 +148,7 @@ impl Rows<'_> {
             Happening::Handed { from, to, saying } => self.add_message(from, to, &saying, false),
             Happening::Lost { from, to, saying } => self.add_message(from, to, &saying, true),
             Happening::Blamed { one, .. } => self.add_blame(happening, &one),
+            Happening::Began { .. } => self.add_step(happening),
             _ => self.add_note(happening),
         }
     }
@@ -150,6 +196,16 @@ impl Rows<'_> {
         self.push(Shape::Alarm { lane }, words)
     }
 
+    /// A step that begins, without the mark of its line.
+    fn add_step(&mut self, happening: &Happening) -> Result<(), AllocError> {
+        let line = line_words(self.alloc, happening)?;
+        let words = match line.as_str().split_once(' ') {
+            Some((_, words)) => String::from_str(self.alloc, words)?,
+            None => line,
+        };
+        self.push(Shape::Step, words)
+    }
+
     /// What a replica or a client does, without its id.
     fn add_note(&mut self, happening: &Happening) -> Result<(), AllocError> {
         let lane = self.lane_of(happening);
@@ -161,9 +217,9 @@ impl Rows<'_> {
         self.push(shape, words)
     }
 
-    fn note_words(&self, happening: &Happening) -> Result<String, AllocError> {
+    fn note_words(&mut self, happening: &Happening) -> Result<String, AllocError> {
         if let Happening::Accepted { .. } = happening {
-            return String::from_str(self.alloc, "accepts");
+            return self.accepted_words();
         }
         let line = line_words(self.alloc, happening)?;
         if let Happening::Unqueued(_) = happening {
@@ -188,8 +244,16 @@ impl Rows<'_> {
             Happening::Accepted { client } => self.lanes.lane_of(Node::Client(client)),
             Happening::Handed { to, .. } | Happening::Lost { to, .. } => self.lanes.lane_of(to),
             Happening::Unqueued(Cause::Exhausted(node)) => self.lanes.lane_of(node),
-            Happening::Unqueued(_) | Happening::Blamed { .. } => 0,
+            Happening::Unqueued(_) | Happening::Blamed { .. } | Happening::Began { .. } => 0,
         }
+    }
+}
+
+/// What stands behind the last blank of a line.
+fn last_word(line: &str) -> &str {
+    match line.trim_end().rsplit_once(' ') {
+        Some((_, word)) => word,
+        None => line,
     }
 }
 

@@ -1,5 +1,5 @@
 -- Statement: the line of each thing that happens.
-use Rattle.std.specs.Prelude.{ℕ, List, ◌++◌, codes, decimal, take, Option, Some, None}
+use Rattle.std.specs.Prelude.{ℕ, List, [], ◌++◌, codes, decimal, take, Option, Some, None, bytes_eq, if◌then◌else◌}
 use Rattle.conflicts.specs.declared.claim.Claim.{Claim}
 use Rattle.conflicts.specs.declared.claim.Topic.{Topic}
 use Rattle.conflicts.specs.declared.claim.Topic.TheVariants as topics
@@ -17,6 +17,7 @@ use Rattle.seal.specs.Faults as faults
 use Rattle.seal.specs.declared.fault.SealFault.{SealFault}
 use Rattle.seal.specs.declared.vote.VoteKind.{VoteKind}
 use Rattle.seal.specs.declared.vote.VoteKind.TheVariants as votes
+use Rattle.sha2.specs.Sha256.{sha256}
 use Rattle.world_lines.specs.declared.happening.Cause.{Cause}
 use Rattle.world_lines.specs.declared.happening.Cause.TheVariants as causes
 use Rattle.world_lines.specs.declared.happening.Happening.{Happening}
@@ -30,6 +31,10 @@ use Rattle.world_lines.specs.declared.saying.Saying.TheVariants as sayings
 abbrev pub short : Digest → List ℕ
 short digest = encode_lower (take 4 digest.0)
 
+-- the request that a digest names; that of the null request is the digest of no bytes
+abbrev pub request_name : Digest → List ℕ
+request_name digest = if bytes_eq digest.0 (sha256 []) then codes "null" else short digest
+
 abbrev pub vote_name : VoteKind → List ℕ
 vote_name votes.PrePrepare = codes "pre-prepare"
 vote_name votes.Prepare = codes "prepare"
@@ -37,13 +42,13 @@ vote_name votes.Commit = codes "commit"
 
 abbrev pub place_words : List ℕ → View → SeqNo → Digest → List ℕ
 place_words kind view number digest =
-    kind ++ (codes " view " ++ (decimal view.0 ++ (codes " number " ++ (decimal number.0 ++ (codes " " ++ short digest)))))
+    kind ++ (codes " view " ++ (decimal view.0 ++ (codes " number " ++ (decimal number.0 ++ (codes " " ++ request_name digest)))))
 
 abbrev pub state_words : SeqNo → Digest → List ℕ
 state_words number digest = codes "checkpoint number " ++ (decimal number.0 ++ (codes " " ++ short digest))
 
-abbrev pub digest_words : Digest → List ℕ
-digest_words digest = codes "fetch request " ++ short digest
+abbrev pub fetch_words : Digest → List ℕ
+fetch_words digest = codes "fetch request " ++ short digest
 
 abbrev pub unreadable_words : Option Kind → List ℕ
 unreadable_words None = codes "bytes"
@@ -56,12 +61,18 @@ saying_words (sayings.Reply time number) = codes "reply time " ++ (decimal time 
 saying_words (sayings.Checkpoint number digest) = state_words number digest
 saying_words (sayings.ViewChange view low) = codes "view-change view " ++ (decimal view.0 ++ (codes " low " ++ decimal low.0))
 saying_words (sayings.NewView view) = codes "new-view view " ++ decimal view.0
-saying_words (sayings.FetchRequest digest) = digest_words digest
+saying_words (sayings.FetchRequest digest) = fetch_words digest
 saying_words (sayings.FetchState number) = codes "fetch state " ++ decimal number.0
 saying_words (sayings.Snapshot number) = codes "snapshot number " ++ decimal number.0
 saying_words (sayings.Unreadable kind) = unreadable_words kind
 
 -- ---- lines
+
+-- a step that begins
+abbrev pub began_line : ℕ → Option ℕ → List ℕ → List ℕ
+began_line step None name = codes "# step " ++ (decimal step ++ (codes " " ++ (name ++ codes "\n")))
+began_line step (Some line) name =
+    codes "# step " ++ (decimal step ++ (codes " (line " ++ (decimal line ++ (codes ") " ++ (name ++ codes "\n")))))
 
 -- a message on its way
 abbrev pub handed_line : Option Node → List ℕ → Node → Saying → List ℕ
@@ -101,12 +112,18 @@ abbrev pub topic_words : Topic → List ℕ
 topic_words (topics.Vote kind view number) = vote_name kind ++ (codes " view " ++ (decimal view.0 ++ (codes " number " ++ decimal number.0)))
 topic_words (topics.Checkpoint number) = codes "checkpoint number " ++ decimal number.0
 
+-- what is said of it: of a vote the request that is named, of a Checkpoint the digest of a state
+abbrev pub digest_words : Topic → Digest → List ℕ
+digest_words (topics.Vote kind view number) digest = request_name digest
+digest_words (topics.Checkpoint number) digest = short digest
+
 abbrev pub blame_line : Claim → Claim → List ℕ
 blame_line one other =
-    codes "blame " ++ (decimal one.signer ++ (codes " " ++ (topic_words one.topic ++ (codes " " ++ (short one.digest ++ (codes " " ++ (short other.digest
-    ++ codes "\n")))))))
+    codes "blame " ++ (decimal one.signer ++ (codes " " ++ (topic_words one.topic ++ (codes " " ++ (digest_words one.topic one.digest
+    ++ (codes " " ++ (digest_words other.topic other.digest ++ codes "\n")))))))
 
 abbrev pub happening_line : Happening → List ℕ
+happening_line (happens.Began step line name) = began_line step line name.now
 happening_line (happens.Handed from to saying) = handed_line from (codes "->") to saying
 happening_line (happens.Lost from to saying) = handed_line from (codes "-x") to saying
 happening_line (happens.Refused at from kind fault part) = refusal_line at from kind fault part

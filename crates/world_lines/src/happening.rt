@@ -21,6 +21,12 @@ pub enum Cause {
 /// One thing that happens in a world.
 #[derive(Clone, Copy, Debug, PartialEq, Eq)]
 pub enum Happening {
+    /// A step of the script begins: its number, the line of the text on which it stands where that is known, and its name.
+    Began {
+        step: u32,
+        line: Option<usize>,
+        name: &'static str,
+    },
     /// A message is handed to its addressee. Raw bytes have no sender.
     Handed {
         from: Option<Node>,

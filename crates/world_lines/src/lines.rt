@@ -1,13 +1,13 @@
 //! The line of what happens.
 
 ghost use Rattle.std.specs.Prelude.{◌≡◌, IfOk, codes, decimal, string_bytes};
-ghost use Rattle.world_lines.specs.Lines.{at_line, blame_line, fault_words, happening_line, handed_line, left_line, raised_line, refusal_line, refused_words, topic_words, unqueued_line};
+ghost use Rattle.world_lines.specs.Lines.{at_line, began_line, blame_line, digest_words, fault_words, happening_line, handed_line, left_line, raised_line, refusal_line, refused_words, topic_words, unqueued_line};
 
 use crate::happening::{Cause, Happening};
 use crate::saying::Saying;
-use crate::words::{short, vote_name, words_of};
+use crate::words::{request_name, short, vote_name, words_of};
 use conflicts::{Claim, Topic};
-use host_types::{ReplicaId, SeqNo, View};
+use host_types::{Digest, ReplicaId, SeqNo, View};
 use script_text::{Kind, Node, node_text};
 use seal::SealFault;
 use std::alloc::{AllocError, Global};
@@ -17,6 +17,7 @@ pub fn line_of(alloc: Global, happening: &Happening) -> Result<String, AllocErro
     ensures { IfOk result (λ line. string_bytes line ≡ happening_line happening.now) }
 {
     match *happening {
+        Happening::Began { step, line, name } => began_line(alloc, step, line, name),
         Happening::Handed { from, to, saying } => handed_line(alloc, from, "->", to, &saying),
         Happening::Lost { from, to, saying } => handed_line(alloc, from, "-x", to, &saying),
         Happening::Refused {
@@ -45,6 +46,21 @@ pub fn line_of(alloc: Global, happening: &Happening) -> Result<String, AllocErro
             format!(in alloc; "client {client} accepts\n")
         }
         Happening::Blamed { one, other } => blame_line(alloc, &one, &other),
+    }
+}
+
+/// A step that begins.
+fn began_line(
+    alloc: Global,
+    step: u32,
+    line: Option<usize>,
+    name: &str,
+) -> Result<String, AllocError>
+    ensures { IfOk result (λ text. string_bytes text ≡ began_line step line name.now) }
+{
+    match line {
+        Some(line) => format!(in alloc; "# step {step} (line {line}) {name}\n"),
+        None => format!(in alloc; "# step {step} {name}\n"),
     }
 }
 
@@ -158,8 +174,8 @@ fn blame_line(alloc: Global, one: &Claim, other: &Claim) -> Result<String, Alloc
 {
     let signer = one.signer;
     let topic = topic_words(alloc, &one.topic)?;
-    let first = short(alloc, &one.digest)?;
-    let second = short(alloc, &other.digest)?;
+    let first = digest_words(alloc, &one.topic, &one.digest)?;
+    let second = digest_words(alloc, &other.topic, &other.digest)?;
     format!(in alloc; "blame {signer} {topic} {first} {second}\n")
 }
 
@@ -178,5 +194,15 @@ fn topic_words(alloc: Global, topic: &Topic) -> Result<String, AllocError>
             let number = number.0;
             format!(in alloc; "checkpoint number {number}")
         }
+    }
+}
+
+/// What is said of it: of a vote the request that is named, of a Checkpoint the digest of a state.
+fn digest_words(alloc: Global, topic: &Topic, digest: &Digest) -> Result<String, AllocError>
+    ensures { IfOk result (λ text. string_bytes text ≡ digest_words topic.now digest.now) }
+{
+    match topic {
+        Topic::Vote { .. } => request_name(alloc, digest),
+        Topic::Checkpoint { .. } => short(alloc, digest),
     }
 }

@@ -1,12 +1,13 @@
 //! The words of what a message says.
 
 ghost use Rattle.std.specs.Prelude.{◌≡◌, IfOk, string_bytes};
-ghost use Rattle.world_lines.specs.Lines.{digest_words, place_words, saying_words, short, state_words, unreadable_words, vote_name};
+ghost use Rattle.world_lines.specs.Lines.{fetch_words, place_words, request_name, saying_words, short, state_words, unreadable_words, vote_name};
 
 use crate::saying::Saying;
 use host_types::{Digest, SeqNo, View};
 use script_text::Kind;
 use seal::VoteKind;
+use sha2::{Digest as _, Sha256};
 use std::alloc::{AllocError, Global};
 
 /// The first eight digits of a digest.
@@ -14,6 +15,18 @@ pub(crate) fn short(alloc: Global, digest: &Digest) -> Result<String, AllocError
     ensures { IfOk result (λ text. string_bytes text ≡ short digest.now) }
 {
     hex::encode(alloc, &digest.0[..4])
+}
+
+/// The request that a digest names: its first eight digits; `null` for the null request, whose digest is that of no bytes.
+pub(crate) fn request_name(alloc: Global, digest: &Digest) -> Result<String, AllocError>
+    ensures { IfOk result (λ text. string_bytes text ≡ request_name digest.now) }
+{
+    let nothing: &[u8] = &[];
+    if digest.0 == Sha256::digest(nothing) {
+        String::from_str(alloc, "null")
+    } else {
+        short(alloc, digest)
+    }
 }
 
 /// The kind of a vote, by its name in a script.
@@ -56,7 +69,7 @@ pub fn words_of(alloc: Global, saying: &Saying) -> Result<String, AllocError>
             let view = view.0;
             format!(in alloc; "new-view view {view}")
         }
-        Saying::FetchRequest { digest } => digest_words(alloc, &digest),
+        Saying::FetchRequest { digest } => fetch_words(alloc, &digest),
         Saying::FetchState { number } => {
             let number = number.0;
             format!(in alloc; "fetch state {number}")
@@ -81,8 +94,8 @@ fn place_words(
 {
     let view = view.0;
     let number = number.0;
-    let digest = short(alloc, digest)?;
-    format!(in alloc; "{kind} view {view} number {number} {digest}")
+    let request = request_name(alloc, digest)?;
+    format!(in alloc; "{kind} view {view} number {number} {request}")
 }
 
 /// A Checkpoint.
@@ -95,8 +108,8 @@ fn state_words(alloc: Global, number: SeqNo, digest: &Digest) -> Result<String, 
 }
 
 /// A Fetch of a request.
-fn digest_words(alloc: Global, digest: &Digest) -> Result<String, AllocError>
-    ensures { IfOk result (λ text. string_bytes text ≡ digest_words digest.now) }
+fn fetch_words(alloc: Global, digest: &Digest) -> Result<String, AllocError>
+    ensures { IfOk result (λ text. string_bytes text ≡ fetch_words digest.now) }
 {
     let digest = short(alloc, digest)?;
     format!(in alloc; "fetch request {digest}")

@@ -9,7 +9,9 @@ use Rattle.byz_world.specs.Worlds.{Runs, Where, WorldFacts, first_world}
 use Rattle.byz_world.specs.declared.event.Event.{Event}
 use Rattle.world_queue.specs.Sessions.{SessionState}
 use Rattle.host_types.specs.declared.ClientId.{ClientId}
-use Rattle.script_text.specs.Scripts.{script_of}
+use Rattle.script_text.specs.Scripts.{script_for}
+use Rattle.script_text.specs.declared.dialect.Dialect.TheVariants.{World}
+use Rattle.script_text.specs.declared.files.NamedFile.{NamedFile}
 use Rattle.script_text.specs.declared.script.Filter.{Filter}
 use Rattle.pbft_codec.specs.declared.body.Body.{Body}
 use Rattle.script_text.specs.declared.script.Forgery.{Forgery}
@@ -135,14 +137,14 @@ pub passed_leads : (script : Script) (t : StageFacts) → Passes script t → Le
 passed_leads script t p =
     on (start_of script.head).world p.scene.stage.world t.world (plays_lead (first_scene script.head) p.before p.text p.scene p.plays) (first_part_leads p.scene.stage p.later t p.part)
 
-pub on_run : (input : List ℕ) (script : Script) (t : StageFacts) → script_of input ≡ Ok script → Passes script t → IsOnRun script.head t
-on_run input script t is p =
+pub on_run : (files : List NamedFile) (input : List ℕ) (script : Script) (t : StageFacts) → script_for World files input ≡ Ok script → Passes script t → IsOnRun script.head t
+on_run files input script t is p =
     let h = script.head in
     let w = passed_leads script t p in
     record {
       events = w.0;
       runs = w.1;
       heard = passed_hears script t p;
-      sound = sound_worlds (configuration_of h) (is_faulty h) (correct_signers h) (head_configuration h (script_legal input script is)) (head_listed h) w.0 t.world
+      sound = sound_worlds (configuration_of h) (is_faulty h) (correct_signers h) (head_configuration h (script_legal files input script is)) (head_listed h) w.0 t.world
           (runs_lead (first_world (configuration_of h) (is_faulty h) (correct_signers h)) w.0 t.world w.1);
     }

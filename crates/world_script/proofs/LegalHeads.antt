@@ -13,11 +13,12 @@ use Rattle.host_types.specs.declared.config.ConfigFault.TheVariants.{BadF, Wrong
 use Rattle.byz_world.specs.Worlds.{AreListed, correct_ids}
 use Rattle.script_text.specs.Forms.{only_keys, pair_of}
 use Rattle.script_text.specs.Heads.{HeadFacts, IsLegal, byte_of, head_from, head_in, head_keys, head_of, head_read, keyless, keyless_configuration, listed_clients, needed_head, optional_head}
-use Rattle.script_text.specs.Scripts.{document, script_from, script_in, script_of, script_with, steps_in, listed_steps}
+use Rattle.script_text.specs.Scripts.{document, script_from, script_for, script_in, script_with, steps_in, listed_steps}
 use Rattle.script_text.specs.declared.dialect.Dialect.TheVariants.{World}
 use Rattle.script_text.specs.ScriptFault.{ScriptFault}
 use Rattle.script_text.specs.Client.{Client}
 use Rattle.script_text.specs.declared.script.Script.{Script}
+use Rattle.script_text.specs.declared.files.NamedFile.{NamedFile}
 use Rattle.script_text.specs.declared.script.NamedStep.{NamedStep}
 use Rattle.world_script.specs.Keys.{configuration_of, entry_of, replica_signer, replica_signers, unkeyed}
 use Rattle.world_queue.specs.Parties.{key_of}
@@ -97,18 +98,18 @@ from_steps : (h : HeadFacts) (r : Result (List NamedStep) ScriptFault) (script :
 from_steps h (Ok xs) script known is = subst (λ (x : Script). IsLegalHead x.head) (ok_is _ script is) known
 from_steps h (Err fault) script known is = absurd (err_ok is)
 
-from_document : (o : Option Members) (script : Script) → script_in World o ≡ Ok script → IsLegalHead script.head
-from_document None script is = absurd (err_ok is)
-from_document (Some members) script is =
-    by_result (λ r. script_with World members r ≡ Ok script → IsLegalHead script.head) (head_in members)
-    (λ h e is. from_steps h (steps_in World h (listed_steps members)) script (head_legal members h e) is) (λ fault is. absurd (err_ok is)) is
+from_document : (files : List NamedFile) (o : Option Members) (script : Script) → script_in World files o ≡ Ok script → IsLegalHead script.head
+from_document files None script is = absurd (err_ok is)
+from_document files (Some members) script is =
+    by_result (λ r. script_with World files members r ≡ Ok script → IsLegalHead script.head) (head_in members)
+    (λ h e is. from_steps h (steps_in World files h (listed_steps members)) script (head_legal members h e) is) (λ fault is. absurd (err_ok is)) is
 
-if_short : (b : Bool) (fault : ScriptFault) (o : Option Members) (script : Script) → (if b then Err fault else script_in World o) ≡ Ok script → IsLegalHead script.head
-if_short true fault o script is = absurd (err_ok is)
-if_short false fault o script is = from_document o script is
+if_short : (b : Bool) (fault : ScriptFault) (files : List NamedFile) (o : Option Members) (script : Script) → (if b then Err fault else script_in World files o) ≡ Ok script → IsLegalHead script.head
+if_short true fault files o script is = absurd (err_ok is)
+if_short false fault files o script is = from_document files o script is
 
-pub script_legal : (input : List ℕ) (script : Script) → script_of input ≡ Ok script → IsLegal script.head.f script.head.k script.head.clients
-script_legal input script is = if_short (nat_lt 1048576 (length input)) _ (document input) script is
+pub script_legal : (files : List NamedFile) (input : List ℕ) (script : Script) → script_for World files input ≡ Ok script → IsLegal script.head.f script.head.k script.head.clients
+script_legal files input script is = if_short (nat_lt 1048576 (length input)) _ files (document input) script is
 
 -- ---- its configuration
 

@@ -96,3 +96,9 @@ Reports fault old new reported =
     ((fault.kind ≡ kinds.Write) × (reported ≡ fault) × (new ≡ old))
     ⊎ ((fault.kind ≢ kinds.Write) × (((reported ≡ fault) × Appends old new (fault_line fault))
     ⊎ ((reported ≡ record { kind = kinds.Write; step = fault.step }) × AppendsFront old new (fault_line fault))))
+
+-- A script that was read is run. Where that ends with a fault, its line stands behind what the steps print.
+abbrev pub RunsRead : Script → Option (List ℕ) → Option (List ℕ) → Result Played ScriptFault → Type 0
+RunsRead script old new (Ok played) = RunsSteps script old new (Ok played)
+RunsRead script old new (Err reported) =
+    (fault : ScriptFault) × (between : Option (List ℕ)) × RunsSteps script old between (Err fault) × Reports fault between new reported

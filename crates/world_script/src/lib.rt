@@ -31,7 +31,7 @@ pub use fault::RunFault;
 pub use input::read_input;
 pub use keys::{KeySources, Keys, make_keys};
 pub use laws::scripts_run_sound_worlds;
-pub use play::{report, run_script, run_script_watched};
+pub use play::{report, run_read, run_script, run_script_watched};
 pub use played::Played;
 pub use progress::{Progress, Unwatched};
 pub use script_text::{Script, ScriptFault, ScriptKind, read_script};

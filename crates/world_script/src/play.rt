@@ -3,7 +3,7 @@
 ghost use Rattle.std.specs.Prelude.{◌≡◌, ◌≢◌, ◌⊎◌, ◌++◌, OnOk, IfErr, IsOk, string_bytes};
 ghost use Rattle.std.specs.Io.KnownBytes.{Appends};
 ghost use Rattle.script_text.specs.ScriptKind.TheVariants as kinds;
-ghost use Rattle.world_script.specs.Running.{Compares, PlaysWhatIsRead, Reports, RunsSteps, StepEnds};
+ghost use Rattle.world_script.specs.Running.{Compares, PlaysWhatIsRead, Reports, RunsRead, RunsSteps, StepEnds};
 ghost use Rattle.world_script.specs.Scripts.{WritesWhatIsRead};
 ghost use Rattle.world_script.specs.Stages.{after_naming};
 ghost use Rattle.world_script.specs.Starts.{start_of};
@@ -22,7 +22,7 @@ use std::io::{Read, Write};
 /// Reads a script to the end of the reader, runs its steps, and writes what they print. The line of a
 /// fault is written too, but for that of a failed write: `script fault 2 MissingKey step 3`. After a
 /// failed write the writer has the first bytes of what was to be written. An `expect` that finds other lines ends
-/// the run; its line is written.
+/// the run; its line is written. A script that names a file is a `WrongValue`, since nothing but the reader is read.
 pub fn run_script<I: Read, O: Write>(
     alloc: Global,
     reader: &mut I,
@@ -33,7 +33,7 @@ pub fn run_script<I: Read, O: Write>(
     run_script_watched(alloc, reader, writer, &mut Unwatched)
 }
 
-/// Does the same, and tells how far the script is.
+/// Does the same, and tells how far the script is, and what an `expect` finds.
 pub fn run_script_watched<I: Read, O: Write, P: Progress>(
     alloc: Global,
     reader: &mut I,
@@ -45,6 +45,25 @@ pub fn run_script_watched<I: Read, O: Write, P: Progress>(
     match play(alloc, reader, writer, progress) {
         Ok(played) => Ok(played),
         Err(fault) => Err(report(fault, writer)),
+    }
+}
+
+/// Runs the steps of a script that was read, with the files that it names, and writes what they print, as `run_script` does of
+/// a text. It tells how far the script is, and what an `expect` finds.
+pub fn run_read<O: Write, P: Progress>(
+    alloc: Global,
+    script: &Script,
+    writer: &mut O,
+    progress: &mut P,
+) -> Result<Played, ScriptFault>
+    ensures { RunsRead script.now (O.contents writer.old) (O.contents writer.new) result }
+{
+    match run_steps(alloc, script, writer, progress) {
+        Ok(played) => Ok(played),
+        Err(fault) => {
+            let reported = report(fault, writer);
+            Err(reported)
+        }
     }
 }
 
@@ -98,7 +117,7 @@ fn run_steps_at<O: Write, P: Progress>(
     for step in script.steps.as_slice() {
         number = number.saturating_add(1);
         progress.step(number, script.steps.as_slice().len());
-        match run_step(alloc, stage, &mut unread, number, step, writer) {
+        match run_step(alloc, stage, &mut unread, number, step, writer, progress) {
             Ok(Played::Whole) => {}
             Ok(Played::Unexpected) => return Ok(Played::Unexpected),
             Err(fault) => {
@@ -111,18 +130,19 @@ fn run_steps_at<O: Write, P: Progress>(
 }
 
 /// Runs the step of this number. `unread` is what was printed since the last `expect`.
-fn run_step<O: Write>(
+fn run_step<O: Write, P: Progress>(
     alloc: Global,
     stage: &mut Stage,
     unread: &mut String,
     number: u32,
     step: &NamedStep,
     writer: &mut O,
+    progress: &mut P,
 ) -> Result<Played, RunFault>
     ensures { StepEnds number (record { stage = stage.old; unread = string_bytes unread.old }) step.now (O.contents writer.old) (O.contents writer.new) result (record { stage = stage.new; unread = string_bytes unread.new }) }
 {
     if let Step::Expect(expected) = &step.step {
-        return compare(alloc, unread, number, expected.as_slice(), writer);
+        return compare(alloc, unread, number, expected.as_slice(), writer, progress);
     }
     let before = stage.queue_length();
     let text = match stage.run(&step.step, writer) {
@@ -151,12 +171,13 @@ fn note(
 }
 
 /// Compares what was printed since the last `expect` with the lines of this one.
-fn compare<O: Write>(
+fn compare<O: Write, P: Progress>(
     alloc: Global,
     unread: &mut String,
     number: u32,
     expected: &[u8],
     writer: &mut O,
+    progress: &mut P,
 ) -> Result<Played, RunFault>
     ensures { Compares number expected.now (string_bytes unread.old) (O.contents writer.old) (O.contents writer.new) result (string_bytes unread.new) }
 {
@@ -166,6 +187,7 @@ fn compare<O: Write>(
     };
     let text = line_of_unexpected(alloc, number, line)?;
     write_text(writer, &text)?;
+    progress.unexpected(number, expected, unread.as_bytes());
     Ok(Played::Unexpected)
 }
 

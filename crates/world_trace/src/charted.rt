@@ -1,12 +1,12 @@
 //! A script as a chart.
 
+use crate::placed::PlacedScript;
 use crate::runner::Runner;
-use crate::trace::read_whole;
 use crate::tracer::Tracer;
 use script_text::{Script, ScriptFault, ScriptKind};
 use std::alloc::{AllocError, Global};
-use std::io::{Read, Write};
-use world_chart::{Chart, Happening, Lanes};
+use std::io::Write;
+use world_chart::{Chart, Lanes};
 use world_script::{Played, Progress, RunFault, report, write_text};
 
 /// How a chart is written.
@@ -18,21 +18,16 @@ pub enum ChartForm {
     Svg,
 }
 
-/// Reads a script to the end of the reader and runs its steps, and writes what happened as a chart, and none of the
-/// lines that the steps print. A script that ends early has a chart of what happened until then, and, as in `run_script`,
+/// Runs the steps of a script, and writes what happened as a chart, and none of the lines that the steps print. A script that ends early has a chart of what happened until then, and, as in `run_script`,
 /// the line of its fault or of its `expect` behind it. It tells how far the script is.
-pub fn chart_script<I: Read, O: Write, P: Progress>(
+pub fn chart_script<O: Write, P: Progress>(
     alloc: Global,
     form: ChartForm,
-    reader: &mut I,
+    placed: &PlacedScript,
     writer: &mut O,
     progress: &mut P,
 ) -> Result<Played, ScriptFault> {
-    let script = match read_whole(alloc, reader) {
-        Ok(script) => script,
-        Err(fault) => return Err(report(fault, writer)),
-    };
-    match chart_steps(alloc, form, &script, writer, progress) {
+    match chart_steps(alloc, form, placed, writer, progress) {
         Ok(played) => Ok(played),
         Err(fault) => Err(report(fault, writer)),
     }
@@ -41,17 +36,18 @@ pub fn chart_script<I: Read, O: Write, P: Progress>(
 fn chart_steps<O: Write, P: Progress>(
     alloc: Global,
     form: ChartForm,
-    script: &Script,
+    placed: &PlacedScript,
     writer: &mut O,
     progress: &mut P,
 ) -> Result<Played, ScriptFault> {
+    let script = &placed.script;
     let Ok(mut runner) = Runner::new(alloc, &script.head, progress) else {
         return Err(ScriptFault::at_head(ScriptKind::Memory));
     };
     let mut tracer = Tracer::new(alloc);
     let mut text = String::new(alloc);
-    let (number, ended) = run_all(script, &mut runner, &mut tracer, &mut text, progress);
-    match write_chart(alloc, form, script, &runner, tracer.happened(), writer) {
+    let (number, ended) = run_all(placed, &mut runner, &mut tracer, &mut text, progress);
+    match write_chart(alloc, form, script, &runner, &tracer, writer) {
         Ok(()) => {}
         Err(fault) => {
             let kind = fault.into();
@@ -63,20 +59,29 @@ fn chart_steps<O: Write, P: Progress>(
 
 /// Runs the steps. The number of the last one that ran, and how it ended.
 fn run_all<P: Progress>(
-    script: &Script,
+    placed: &PlacedScript,
     runner: &mut Runner,
     tracer: &mut Tracer,
     text: &mut String,
     progress: &mut P,
 ) -> (u32, Result<Played, RunFault>) {
     let mut number: u32 = 0;
-    for step in script.steps.as_slice() {
+    let steps = placed.script.steps.as_slice();
+    for step in steps {
         number = number.saturating_add(1);
-        progress.step(number, script.steps.as_slice().len());
+        progress.step(number, steps.len());
         text.clear();
+        let place = placed.line_of(number);
+        if tracer.begin(number, place, step.step.name()).is_err() {
+            return (number, Err(RunFault::Memory));
+        }
         match runner.run(number, step, None, tracer, text) {
             Ok(Played::Whole) => {}
-            ended => return (number, ended),
+            Ok(Played::Unexpected) => {
+                runner.tell_unexpected(number, step, progress);
+                return (number, Ok(Played::Unexpected));
+            }
+            Err(fault) => return (number, Err(fault)),
         }
     }
     (number, Ok(Played::Whole))
@@ -110,10 +115,10 @@ fn write_chart<O: Write>(
     form: ChartForm,
     script: &Script,
     runner: &Runner,
-    happened: &[Happening],
+    tracer: &Tracer,
     writer: &mut O,
 ) -> Result<(), RunFault> {
-    let text = chart_text(alloc, form, script, runner, happened)?;
+    let text = chart_text(alloc, form, script, runner, tracer)?;
     write_text(writer, &text)
 }
 
@@ -122,10 +127,10 @@ fn chart_text(
     form: ChartForm,
     script: &Script,
     runner: &Runner,
-    happened: &[Happening],
+    tracer: &Tracer,
 ) -> Result<String, AllocError> {
     let lanes = Lanes::new(alloc, runner.stage.config(), script.head.faulty())?;
-    let chart = Chart::new(alloc, lanes, happened)?;
+    let chart = Chart::new(alloc, lanes, tracer.happened(), tracer.accepted())?;
     match form {
         ChartForm::Mermaid => chart.mermaid(alloc),
         ChartForm::Svg => chart.svg(alloc),

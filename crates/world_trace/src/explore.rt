@@ -39,6 +39,8 @@ pub struct Explored {
     pub outcome: Outcome,
     /// The claims that contradict each other, the one with the lower digest first.
     pub blamed: Vec<(Claim, Claim)>,
+    /// What was printed since the last `expect`, where one found other lines.
+    pub printed: Vec<u8>,
 }
 
 /// Runs a script with all its deliveries in the order that a seed draws, and audits. The keys are its head's, which were
@@ -56,9 +58,14 @@ pub fn explore_seed(
         evidence: Evidence::new(alloc),
     };
     let outcome = outcome_of(alloc, script, seed, &mut runner, &mut listener)?;
+    let printed = match outcome {
+        Outcome::Unexpected { .. } => Vec::from_slice(alloc, runner.unread())?,
+        _ => Vec::new(alloc),
+    };
     Ok(Explored {
         outcome,
         blamed: in_order(alloc, &listener.evidence.news()?)?,
+        printed,
     })
 }
 

@@ -4,12 +4,11 @@ ghost use Rattle.std.specs.Prelude.{◌≡◌};
 ghost use Rattle.world_script.specs.Keys.{keys_of};
 
 use crate::explore::{Explored, Outcome, Seeds, explore_seed};
-use crate::trace::read_whole;
 use conflicts::Claim;
-use script_text::{Script, ScriptFault, ScriptKind};
+use script_text::{Script, ScriptFault, ScriptKind, Step};
 use std::alloc::{AllocError, Global};
 use std::cmp::min;
-use std::io::{Read, Write};
+use std::io::Write;
 use std::thread::{self, Threads};
 use world_chart::{Happening, line_of};
 use world_script::{KeySources, Progress, RunFault, report, write_text};
@@ -24,23 +23,18 @@ pub enum Searched {
     Refused,
 }
 
-/// Reads a script to the end of the reader, makes its keys, and runs it under one seed after another, until one is found
-/// under which a step ends the script early, or the audit at its end finds a fault. Writes a line for it, and before it
-/// one for each two claims that blame a replica, with the first seed where they were heard; and how many seeds there
-/// were, where all agreed. What `run_script` refuses is refused with the same line. It tells how many keys are made, and
-/// under how many seeds the script was run.
-pub fn explore_script<I: Read, O: Write, P: Progress>(
+/// Makes the keys of a script, and runs it under one seed after another, until one is found under which a step ends the
+/// script early, or the audit at its end finds a fault. Writes a line for it, and before it one for each two claims that blame
+/// a replica, with the first seed where they were heard; and how many seeds there were, where all agreed. It tells how many
+/// keys are made, and under how many seeds the script was run.
+pub fn explore_script<O: Write, P: Progress>(
     alloc: Global,
     seeds: Seeds,
-    reader: &mut I,
+    script: &Script,
     writer: &mut O,
     progress: &mut P,
 ) -> Result<Searched, ScriptFault> {
-    let script = match read_whole(alloc, reader) {
-        Ok(script) => script,
-        Err(fault) => return Err(report(fault, writer)),
-    };
-    match explore_in_turn(alloc, &script, seeds, writer, progress) {
+    match explore_in_turn(alloc, script, seeds, writer, progress) {
         Ok(searched) => Ok(searched),
         Err(fault) => Err(report(ScriptFault::at_head(fault.into()), writer)),
     }
@@ -48,20 +42,16 @@ pub fn explore_script<I: Read, O: Write, P: Progress>(
 
 /// Does the same, with so many seeds side by side, each in a thread of its own where one can be made. What is written is
 /// the same.
-pub fn explore_side_by_side<R: Threads + Sync, I: Read, O: Write, P: Progress>(
+pub fn explore_side_by_side<R: Threads + Sync, O: Write, P: Progress>(
     rt: &R,
     alloc: Global,
     workers: usize,
     seeds: Seeds,
-    reader: &mut I,
+    script: &Script,
     writer: &mut O,
     progress: &mut P,
 ) -> Result<Searched, ScriptFault> {
-    let script = match read_whole(alloc, reader) {
-        Ok(script) => script,
-        Err(fault) => return Err(report(fault, writer)),
-    };
-    match explore_in_batches(rt, alloc, workers, &script, seeds, writer, progress) {
+    match explore_in_batches(rt, alloc, workers, script, seeds, writer, progress) {
         Ok(searched) => Ok(searched),
         Err(fault) => Err(report(ScriptFault::at_head(fault.into()), writer)),
     }
@@ -79,11 +69,25 @@ fn explore_in_turn<O: Write, P: Progress>(
     for seed in seeds.first..seeds.end {
         let explored = explore_seed(alloc, script, &sources, seed)?;
         if findings.take(seed, &explored, writer)? == Searched::Refused {
+            tell_unexpected(script, &explored, progress);
             return Ok(Searched::Refused);
         }
         tell(seeds, seed.saturating_add(1), progress);
     }
     findings.end(seeds, writer)
+}
+
+/// Tells what the `expect` wants that found other lines, if one did, and what was printed.
+fn tell_unexpected<P: Progress>(script: &Script, explored: &Explored, progress: &mut P) {
+    let Outcome::Unexpected { step, .. } = explored.outcome else {
+        return;
+    };
+    let index = (step as usize).saturating_sub(1);
+    if let Some(named) = script.steps.as_slice().get(index) {
+        if let Step::Expect(expected) = &named.step {
+            progress.unexpected(step, expected.as_slice(), &explored.printed);
+        }
+    }
 }
 
 /// Tells that the script was run under the seeds before this one.
@@ -111,7 +115,9 @@ fn explore_in_batches<R: Threads + Sync, O: Write, P: Progress>(
             break;
         }
         for explored in batch {
-            if findings.take(next, &explored?, writer)? == Searched::Refused {
+            let explored = explored?;
+            if findings.take(next, &explored, writer)? == Searched::Refused {
+                tell_unexpected(script, &explored, progress);
                 return Ok(Searched::Refused);
             }
             next = next.saturating_add(1);

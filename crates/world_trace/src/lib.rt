@@ -2,13 +2,16 @@
 //! (`chart_script`), and under many orders of their deliveries (`explore_seed`). The steps are those of `world_script`,
 //! and what they print is the same.
 //!
-//!     let played = trace_script(alloc, &mut reader, &mut writer)?;
+//!     let placed = PlacedScript::new(alloc, read_script(alloc, text)?, text)?;
+//!     let played = trace_script(alloc, &placed, &mut writer, &mut Unwatched)?;
 #![tactic(auto)]
 
 mod charted;
 mod evidence;
 mod explore;
 mod findings;
+mod placed;
+mod queued;
 mod refusal;
 mod runner;
 mod trace;
@@ -18,5 +21,7 @@ mod watcher;
 pub use charted::{ChartForm, chart_script};
 pub use explore::{Explored, Outcome, Seeds, explore_seed};
 pub use findings::{Searched, explore_script, explore_side_by_side};
+pub use placed::PlacedScript;
+pub use queued::words_of_queued;
 pub use trace::trace_script;
-pub use world_script::{Played, ScriptFault, ScriptKind, Unwatched, run_script};
+pub use world_script::{Played, ScriptFault, ScriptKind, Unwatched, read_script, run_script};

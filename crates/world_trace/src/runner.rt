@@ -70,6 +70,23 @@ impl Runner {
         }
     }
 
+    /// What was printed since the last `expect`.
+    pub(crate) fn unread(&self) -> &[u8] {
+        self.unread.as_bytes()
+    }
+
+    /// Tells what an `expect` wants, and what was printed since the last one.
+    pub(crate) fn tell_unexpected<P: Progress>(
+        &self,
+        number: u32,
+        step: &NamedStep,
+        progress: &mut P,
+    ) {
+        if let Step::Expect(expected) = &step.step {
+            progress.unexpected(number, expected.as_slice(), self.unread());
+        }
+    }
+
     /// Compares what was printed since the last `expect` with these lines.
     fn compare(
         &mut self,

@@ -16,6 +16,8 @@ use world_script::{Done, Letter, Row, Stage, Status};
 pub(crate) struct Tracer {
     alloc: Global,
     happened: Vec<Happening>,
+    /// The lines of the replies that clients accepted.
+    accepted: Vec<String>,
     evidence: Evidence,
     /// The letter that is being handed over.
     from: Option<Node>,
@@ -30,6 +32,7 @@ impl Tracer {
         Tracer {
             alloc,
             happened: Vec::new(alloc),
+            accepted: Vec::new(alloc),
             evidence: Evidence::new(alloc),
             from: None,
             kind: None,
@@ -43,9 +46,26 @@ impl Tracer {
         &self.happened
     }
 
+    /// The lines of the replies that clients accepted meanwhile, one for each.
+    pub(crate) fn accepted(&self) -> &[String] {
+        &self.accepted
+    }
+
+    /// Notes that a step begins.
+    pub(crate) fn begin(
+        &mut self,
+        step: u32,
+        line: Option<usize>,
+        name: &'static str,
+    ) -> Result<(), AllocError> {
+        self.happened.push(Happening::Began { step, line, name })?;
+        Ok(())
+    }
+
     /// Begins anew: what has happened is forgotten, but not what was said.
     pub(crate) fn clear(&mut self) {
         self.happened.clear();
+        self.accepted.clear();
     }
 
     /// Notes the letter that is to be handed over.
@@ -145,6 +165,7 @@ impl Watcher for Tracer {
             Node::Client(client) => {
                 if !line.is_empty() {
                     self.happened.push(Happening::Accepted { client })?;
+                    self.accepted.push(String::from_str(self.alloc, line)?)?;
                 }
                 Ok(())
             }

@@ -5,7 +5,7 @@ use crate::world::scripts::{CALLS, OPENED, SIGNED, requests};
 use anyhow::{Result, anyhow};
 use bench_common::ratio::{Comparison, Limit, require_within_limits};
 use bench_common::{Measures, ProcessorTime};
-use world_trace::{Searched, Seeds, Unwatched, explore_script};
+use world_trace::{ScriptFault, Searched, Seeds, Unwatched, explore_script, read_script};
 
 const ROUNDS: u32 = 5;
 
@@ -21,22 +21,24 @@ fn nanoseconds_of_seeds(rt: &impl Measures, script: &str, many: u64) -> Result<u
         first: 0,
         end: many,
     };
-    let mut written = Vec::new(rt.alloc());
-    let mut reader = script.as_bytes();
     let start = ProcessorTime::now(rt)?;
-    let agrees = explore_script(
-        rt.alloc(),
-        seeds,
-        &mut reader,
-        &mut written,
-        &mut Unwatched,
-    ).is_ok_and(|searched| matches!(searched, Searched::Agreed));
+    let searched = searched_under(rt, script, seeds);
     let taken = start.nanoseconds(rt)?;
-    if agrees {
-        Ok(taken)
-    } else {
-        Err(anyhow!("the script doesn't agree under each seed"))
+    match searched {
+        Ok(Searched::Agreed) => Ok(taken),
+        _ => Err(anyhow!("the script doesn't agree under each seed")),
     }
+}
+
+/// What is found of a script under these seeds.
+fn searched_under(
+    rt: &impl Measures,
+    script: &str,
+    seeds: Seeds,
+) -> std::result::Result<Searched, ScriptFault> {
+    let mut written = Vec::new(rt.alloc());
+    let script = read_script(rt.alloc(), script.as_bytes())?;
+    explore_script(rt.alloc(), seeds, &script, &mut written, &mut Unwatched)
 }
 
 /// The processor's time of a seed behind the first, in nanoseconds.

@@ -1,0 +1,3 @@
+; returns 7
+mov64 r0, 7
+exit

@@ -1,0 +1,12 @@
+use Rattle.std.proofs.Common.{rules, length, not, ◌==◌, lit<}
+use borrow.Author.Tests.{tests}
+use Rattle.std.proofs.lemmas.Iterator.Consumers.{map_from_collect, YieldsList-from_filter}
+use Rattle.std.proofs.lemmas.Iterator.Splits.{YieldsList-from_str_split}
+use Rattle.code_commands.proofs.decimal.words_of.Goals as goal
+
+pub returns : goal.returns
+returns c =
+    map_from_collect _ c.collect.ensures.ran
+    (YieldsList-from_filter _ (λ word. not (length word == 0))
+    (YieldsList-from_str_split 32 c.args.text.now (lit< tt) (cc) (cc) (cc))
+    c.filter.ensures.closure (λ x b q k. search (rules, tests)))
