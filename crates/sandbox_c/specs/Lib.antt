@@ -1,4 +1,3 @@
-pub mod Slots
 pub mod Inside
 pub mod Statuses
 pub mod Verdicts

@@ -1,5 +1,5 @@
 -- Statement: what the exports that assemble and disassemble answer.
-use Rattle.std.specs.Prelude.{◌≡◌, ◌⊎◌, ℕ, ◌+◌, ◌<◌, ◌++◌, List, drop, length, Ok, Err}
+use Rattle.std.specs.Prelude.{◌≡◌, ◌⊎◌, ℕ, ◌+◌, List, Ok, Err}
 use Rattle.bpf_decode.specs.declared.insn.Insn.{Insn}
 use Rattle.bpf_decode.specs.declared.refusal.DecodeFault.{DecodeFault}
 use Rattle.bpf_decode.specs.Encoding.{encoding}
@@ -9,14 +9,7 @@ use Rattle.bpf_asm.specs.declared.fault.AsmFault.{AsmFault}
 use Rattle.bpf_asm.specs.Assembly.{assembly}
 use Rattle.bpf_asm.specs.Faults.{number_of as kind_number}
 use Rattle.bpf_asm.specs.Printing.{printed}
-
--- These bytes are told by a buffer before and after, a status and a length: the status is 0 and they stand at its front, what
--- is behind them as it was; or it is 35, there are more of them than the buffer has room for, and it stayed as it was.
-abbrev pub AreTold : List ℕ → ℕ → ℕ → List ℕ → List ℕ → Type 0
-AreTold bytes status told before after =
-    (told ≡ length bytes)
-    × (((status ≡ 0) × (after ≡ bytes ++ drop (length bytes) before))
-    ⊎ ((status ≡ 35) × (length before < length bytes) × (after ≡ before)))
+use Rattle.handles.specs.Told.{AreTold}
 
 -- What is answered for the text of code: the text of its instructions, the first fault of the decoder and its slot, or that
 -- memory ran out.

@@ -4,19 +4,15 @@
 //! status.
 #![tactic(auto)]
 
-mod front;
-mod handle;
-mod held;
 mod maps;
 mod running;
-mod slot;
 mod status;
 mod texts;
 mod verifying;
 
 ghost use Rattle.std.specs.Prelude.{◌≡◌, None};
 
-use handle::Handle;
+use handles::Handle;
 use std::alloc::Global;
 
 /// Frees what a handle holds. One that holds nothing stays as it is.

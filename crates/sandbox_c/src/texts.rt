@@ -1,16 +1,16 @@
 //! The exports over texts: why code is refused, and the assembler's.
 
-ghost use Rattle.std.specs.Prelude.{◌≡◌, ◌≤◌, ◌<◌, ◌⊎◌, length};
-ghost use Rattle.sandbox_c.specs.Statuses.{number_of};
-ghost use Rattle.sandbox_c.specs.Texts.{AreTold, IsDisassembly, IsAssembled};
+ghost use Rattle.std.specs.Prelude.{◌≡◌, ◌≤◌, ◌<◌, ◌⊎◌, ◌↔◌, None, length};
+ghost use Rattle.bpf_model.specs.Profiles.{profile_of};
+ghost use Rattle.sandbox_c.specs.Texts.{IsDisassembly, IsAssembled};
 
-use crate::front::put_front;
 use crate::status::Status;
 use crate::verifying::verified;
 use bpf_asm::{AsmKind, assemble, print};
 use bpf_decode::{decode_all, encode_all};
 use bpf_verifier::{Profile, VerifyFault};
 use code_commands::{CodeFailure, CodeForm, sentence_for};
+use handles::tell;
 use std::alloc::{AllocError, Global};
 
 /// Writes why a profile refuses code, as a sentence without a line end, and how many bytes that takes: none where the code
@@ -26,13 +26,14 @@ pub extern "C" fn bpfh_explain(
     ensures written { result ≡ 0 → told.new ≤ length text.new }
     ensures short { result ≡ 35 → length text.old < told.new }
     ensures untouched { 0 < result → text.new ≡ text.old }
+    ensures profile { (result ≡ 31) ↔ (profile_of profile ≡ None) }
 {
     let Some(profile) = Profile::of(profile) else {
         return Status::NoProfile.number();
     };
     match reason(alloc, profile, code) {
-        Ok(Some(reason)) => tell(reason.as_bytes(), text, told).number(),
-        Ok(None) => tell(&[], text, told).number(),
+        Ok(Some(reason)) => tell(reason.as_bytes(), text, told),
+        Ok(None) => tell(&[], text, told),
         Err(_) => Status::Fault(VerifyFault::Memory).number(),
     }
 }
@@ -63,7 +64,7 @@ pub extern "C" fn bpfh_disassemble(
 {
     match decode_all(alloc, code) {
         Ok(insns) => match print(alloc, &insns) {
-            Ok(lines) => tell(lines.as_bytes(), text, told).number(),
+            Ok(lines) => tell(lines.as_bytes(), text, told),
             Err(_) => Status::Fault(VerifyFault::Memory).number(),
         },
         Err(refusal) => {
@@ -87,7 +88,7 @@ pub extern "C" fn bpfh_assemble(
 {
     match assemble(alloc, text) {
         Ok(insns) => match encode_all(alloc, &insns) {
-            Ok(bytes) => tell(&bytes, code, told).number(),
+            Ok(bytes) => tell(&bytes, code, told),
             Err(_) => Status::Fault(VerifyFault::Memory).number(),
         },
         Err(fault) => {
@@ -98,16 +99,4 @@ pub extern "C" fn bpfh_assemble(
             }
         }
     }
-}
-
-/// Writes bytes to the front of a buffer, and how many there are; where the buffer is too short, that number alone.
-fn tell(bytes: &[u8], buffer: &mut [u8], told: &mut u64) -> Status
-    ensures { AreTold bytes.now (number_of result) told.new buffer.old buffer.new }
-{
-    *told = bytes.len() as u64;
-    if bytes.len() > buffer.len() {
-        return Status::BufferTooShort;
-    }
-    put_front(buffer, bytes);
-    Status::Done
 }

@@ -1,0 +1,18 @@
+//! What a handle can hold.
+
+use bpf_verifier::Procedure;
+use host_types::Config;
+use members::{Client, Draft, Member};
+use std::sync::Arc;
+use tenant_maps::TenantMap;
+
+/// A procedure that was accepted, a map, a configuration and what is to be one, a replica, or a client's session.
+#[derive(Drop)]
+pub enum Held {
+    Procedure(Procedure),
+    Map(TenantMap),
+    Draft(Draft),
+    Config(Arc<Config>),
+    Member(Member),
+    Client(Client),
+}

@@ -1,0 +1,13 @@
+//! Handles: what C keeps for a library. A handle is a pointer and a flag; a call takes out the value behind it, works on it
+//! and puts it back.
+#![tactic(auto)]
+
+mod front;
+mod handle;
+mod held;
+mod slot;
+
+pub use front::{BUFFER_TOO_SHORT, DONE, put_front, tell};
+pub use handle::Handle;
+pub use held::Held;
+pub use slot::Slot;

@@ -1,0 +1,49 @@
+-- Statement: a replica that is given bytes: what they make of it, and the row that it keeps of its last step.
+use Rattle.std.specs.Prelude.{◌≡◌, ◌⊎◌, ℕ, List, Option, Some, None, Result, Ok, Err}
+use Rattle.host_types.specs.Configuration.{Configuration}
+use Rattle.lms_tree.specs.SigningState.{SigningState}
+use Rattle.seal.specs.Opening.{CheckedMessage, opening}
+use Rattle.seal.specs.declared.fault.SealFault.TheVariants as seals
+use Rattle.replica_core.specs.Facts.{RowFacts}
+use Rattle.replica_core.specs.Steps.{Goes, ReplicaFacts, Stops, first_with}
+use Rattle.replica_core.specs.declared.halt.Halt.{Halt}
+use Rattle.replica_core.specs.declared.row.Input.{Input}
+use Rattle.replica_core.specs.declared.row.Input.TheVariants as inputs
+use Rattle.members.specs.declared.fault.StepFault.{StepFault}
+use Rattle.members.specs.declared.fault.StepFault.TheVariants.{Unopened, Halted}
+
+-- What a contract sees of a member.
+pub record MemberFacts : Type 0 where
+  pub replica : ReplicaFacts
+  -- what its last step gave; none before the first one and once it has halted
+  pub row : Option RowFacts
+
+-- a member before its first message
+abbrev pub first_member : Configuration → ℕ → SigningState → MemberFacts
+first_member c me signer = record { replica = first_with c me signer; row = None }
+
+-- The replica continues, and its row is kept.
+pub record Continues (m : MemberFacts) (input : Input) (t : MemberFacts) : Type 0 where
+  pub row : RowFacts
+  pub goes : Goes m.replica input row t.replica
+  pub kept : t.row ≡ Some row
+
+-- The replica halts, or had halted before; no row is kept.
+pub record Ends (m : MemberFacts) (input : Input) (halt : Halt) (t : MemberFacts) : Type 0 where
+  pub stops : Stops m.replica input halt t.replica
+  pub kept : t.row ≡ None
+
+-- What a timeout makes of it.
+abbrev pub TimesOut : MemberFacts → Result (Unit {0}) Halt → MemberFacts → Type 0
+TimesOut m (Ok done) t = Continues m inputs.Timeout t
+TimesOut m (Err halt) t = Ends m inputs.Timeout halt t
+
+-- What bytes make of it: the message that they are, opened under its configuration, is taken. Bytes that aren't opened
+-- change nothing.
+abbrev pub Takes : MemberFacts → List ℕ → Result (Unit {0}) StepFault → MemberFacts → Type 0
+Takes m bytes (Ok done) t =
+    (message : CheckedMessage) × (opening m.replica.config bytes ≡ Ok message) × Continues m (inputs.Message message) t
+Takes m bytes (Err (Unopened fault)) t =
+    ((fault ≡ seals.Memory) ⊎ (opening m.replica.config bytes ≡ Err fault)) × (t ≡ m)
+Takes m bytes (Err (Halted halt)) t =
+    (message : CheckedMessage) × (opening m.replica.config bytes ≡ Ok message) × Ends m (inputs.Message message) halt t

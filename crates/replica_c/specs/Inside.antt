@@ -1,0 +1,40 @@
+-- Statement: what a handle holds.
+use Rattle.std.specs.Prelude.{Option, Some, None, option_and_then}
+use Rattle.host_types.specs.Configuration.{Configuration}
+use Rattle.client_session.specs.Sessions.{SessionState}
+use Rattle.members.specs.Members.{MemberFacts}
+use Rattle.handles.specs.declared.held.Held.{Held}
+use Rattle.handles.specs.declared.held.Held.TheVariants as held
+
+-- What is to be a configuration.
+abbrev pub draft_of : Held → Option Configuration
+draft_of (held.Draft d) = Some d
+draft_of _ = None
+
+-- The configuration.
+abbrev pub config_of : Held → Option Configuration
+config_of (held.Config c) = Some c.value
+config_of _ = None
+
+-- The replica, with the row of its last step.
+abbrev pub member_of : Held → Option MemberFacts
+member_of (held.Member m) = Some m
+member_of _ = None
+
+-- The client's session.
+abbrev pub client_of : Held → Option SessionState
+client_of (held.Client s) = Some s
+client_of _ = None
+
+-- The same of what is inside a handle.
+abbrev pub draft_in : Option Held → Option Configuration
+draft_in inside = option_and_then draft_of inside
+
+abbrev pub config_in : Option Held → Option Configuration
+config_in inside = option_and_then config_of inside
+
+abbrev pub member_in : Option Held → Option MemberFacts
+member_in inside = option_and_then member_of inside
+
+abbrev pub client_in : Option Held → Option SessionState
+client_in inside = option_and_then client_of inside

@@ -1,0 +1,9 @@
+pub mod Inside
+pub mod Keys
+pub mod Statuses
+pub mod Joining
+pub mod Stepping
+pub mod Doing
+pub mod Opened
+pub mod Calling
+pub mod Standing

@@ -1,0 +1,56 @@
+-- Statement: what the exports answer that have a replica step, and that tell what it did.
+use Rattle.std.specs.Prelude.{◌≡◌, ℕ, List, Option, Some, None, Result, Ok, Err, slice_get}
+use Rattle.handles.specs.declared.held.Held.{Held}
+use Rattle.handles.specs.declared.held.Held.TheVariants as held
+use Rattle.handles.specs.Told.{AreTold}
+use Rattle.members.specs.Members.{MemberFacts, Takes, TimesOut}
+use Rattle.members.specs.declared.fault.StepFault.{StepFault}
+use Rattle.pbft_codec.specs.Encoding.{encoding}
+use Rattle.replica_core.specs.Facts.{RowFacts}
+use Rattle.replica_core.specs.declared.halt.Halt.{Halt}
+use Rattle.replica_core.specs.declared.row.Dest.{Dest}
+use Rattle.replica_core.specs.declared.row.Dest.TheVariants as dests
+use Rattle.replica_core.specs.declared.row.Output.{Output}
+use Rattle.replica_c.specs.Statuses.{number_of, of_taking, of_timeout}
+use Rattle.replica_c.specs.declared.status.Status.TheVariants.{NoReplica, NoRow, NoEntry}
+
+-- A replica takes bytes, or a timeout: the status is that of the step's result.
+abbrev pub TookIn : Option Held → List ℕ → ℕ → Option Held → Type 0
+TookIn (Some (held.Member m)) bytes status after =
+    (result : Result (Unit {0}) StepFault) × (t : MemberFacts) × Takes m bytes result t × (after ≡ Some (held.Member t))
+    × (status ≡ number_of (of_taking result))
+TookIn before bytes status after = (status ≡ number_of NoReplica) × (after ≡ before)
+
+abbrev pub TimedOutIn : Option Held → ℕ → Option Held → Type 0
+TimedOutIn (Some (held.Member m)) status after =
+    (result : Result (Unit {0}) Halt) × (t : MemberFacts) × TimesOut m result t × (after ≡ Some (held.Member t))
+    × (status ≡ number_of (of_timeout result))
+TimedOutIn before status after = (status ≡ number_of NoReplica) × (after ≡ before)
+
+-- ---- what the last step gave
+
+-- Whom a message is for, as two numbers: all other replicas, a replica, or a client, and its id.
+abbrev pub kind_of : Dest → ℕ
+kind_of dests.All = 0
+kind_of (dests.Replica id) = 1
+kind_of (dests.Client id) = 2
+
+abbrev pub id_of : Dest → ℕ
+id_of dests.All = 0
+id_of (dests.Replica id) = id.0
+id_of (dests.Client id) = id.0
+
+-- A message of the row is told: its bytes, and whom it is for.
+abbrev pub OutputTold : Option Output → ℕ → ℕ → ℕ → ℕ → List ℕ → List ℕ → Type 0
+OutputTold None status kind id told before after = (status ≡ number_of NoEntry) × (after ≡ before)
+OutputTold (Some output) status kind id told before after =
+    AreTold (encoding output.message.message) status told before after × (kind ≡ kind_of output.to) × (id ≡ id_of output.to)
+
+abbrev pub OutputOf : Option RowFacts → ℕ → ℕ → ℕ → ℕ → ℕ → List ℕ → List ℕ → Type 0
+OutputOf None index status kind id told before after = (status ≡ number_of NoRow) × (after ≡ before)
+OutputOf (Some row) index status kind id told before after =
+    OutputTold (slice_get row.outputs index) status kind id told before after
+
+abbrev pub OutputIn : Option MemberFacts → ℕ → ℕ → ℕ → ℕ → ℕ → List ℕ → List ℕ → Type 0
+OutputIn None index status kind id told before after = (status ≡ number_of NoReplica) × (after ≡ before)
+OutputIn (Some m) index status kind id told before after = OutputOf m.row index status kind id told before after

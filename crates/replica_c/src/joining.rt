@@ -1,0 +1,230 @@
+//! The exports that make members of a configuration.
+
+ghost use Rattle.std.specs.Prelude.{◌≡◌, ◌≢◌, ◌⊎◌, ◌<◌, ◌≤◌, ◌^◌, Some, None, Ok, MatchResult};
+ghost use Rattle.host_types.specs.Configuration.{Configuration};
+ghost use Rattle.lms_tree.specs.SigningState.{SigningState};
+ghost use Rattle.client_session.specs.Sessions.{session_behind};
+ghost use Rattle.handles.specs.declared.held.Held.TheVariants as kinds;
+ghost use Rattle.members.specs.Members.{first_member};
+ghost use Rattle.pbft_codec.specs.declared.signed.Role.TheVariants as roles;
+ghost use Rattle.seal.specs.Signers.{key_of};
+ghost use Rattle.replica_c.specs.Inside.{client_in, config_in, config_of, member_in};
+ghost use Rattle.replica_c.specs.Joining.{JoinsIn};
+ghost use Rattle.replica_c.specs.Keys.{signer_in};
+ghost use Rattle.replica_c.specs.Statuses.{number_of};
+ghost use Rattle.replica_c.specs.declared.status.Status.{Status as StatusSaid};
+ghost use Rattle.replica_c.specs.declared.status.Status.TheVariants as statuses;
+
+use crate::keys::signer_of;
+use crate::status::Status;
+use handles::{Handle, Held};
+use host_types::{ClientId, Config, ReplicaId};
+use lms_tree::Signer;
+use members::{Client, Member};
+use std::alloc::Global;
+use std::sync::Arc;
+
+/// The greatest time behind which a session goes on.
+const MAX_TIME: u64 = 1 << 63;
+
+/// Makes a replica before its first message, with the signer of a seed that has used the leaves below `leaf`. **No leaf from
+/// there on may have signed.** The handle's former content is freed; the replica is inside where the status is 0, else
+/// nothing.
+#[unsafe(no_mangle)]
+pub extern "C" fn bpfh_replica_new(
+    alloc: Global,
+    config: &mut Handle,
+    id: u8,
+    seed: &[u8],
+    top: u8,
+    bottom: u8,
+    leaf: u32,
+    replica: &mut Handle,
+) -> u32
+    ensures status { (result ≡ 21) ⊎ ((status : StatusSaid) × (result ≡ number_of status)
+        × JoinsIn (λ c. key_of c roles.Replica id) (config_in config.old.slot.inside) (signer_in seed.now top bottom leaf) status) }
+    ensures inside { (c : Configuration) → (signer : SigningState) → config_in config.old.slot.inside ≡ Some c
+        → signer_in seed.now top bottom leaf ≡ Ok signer → result ≡ 0
+        → member_in replica.new.slot.inside ≡ Some (first_member c id signer) }
+    ensures none { 0 < result → replica.new.slot.inside ≡ None }
+    ensures kept { config.new.slot.inside ≡ config.old.slot.inside }
+{
+    join_replica(
+        alloc,
+        config,
+        ReplicaId(id),
+        seed,
+        top,
+        bottom,
+        leaf,
+        replica,
+    )
+    .number()
+}
+
+fn join_replica(
+    alloc: Global,
+    config: &mut Handle,
+    id: ReplicaId,
+    seed: &[u8],
+    top: u8,
+    bottom: u8,
+    leaf: u32,
+    replica: &mut Handle,
+) -> Status
+    ensures status { (result ≡ statuses.Memory) ⊎ JoinsIn (λ c. key_of c roles.Replica id.0) (config_in config.old.slot.inside)
+        (signer_in seed.now top bottom leaf) result }
+    ensures inside { (c : Configuration) → (signer : SigningState) → config_in config.old.slot.inside ≡ Some c
+        → signer_in seed.now top bottom leaf ≡ Ok signer → result ≡ statuses.Done
+        → member_in replica.new.slot.inside ≡ Some (first_member c id.0 signer) }
+    ensures none { (result ≡ statuses.Done) ⊎ (replica.new.slot.inside ≡ None) }
+    ensures kept { config.new.slot.inside ≡ config.old.slot.inside }
+{
+    replica.clear(alloc);
+    let Some(held) = config.take(alloc) else {
+        return Status::NoConfig;
+    };
+    let made = boxed_member(alloc, &held, id, seed, top, bottom, leaf);
+    config.put(held);
+    match made {
+        Ok(boxed) => {
+            replica.put(boxed);
+            Status::Done
+        }
+        Err(status) => status,
+    }
+}
+
+fn boxed_member(
+    alloc: Global,
+    held: &Held,
+    id: ReplicaId,
+    seed: &[u8],
+    top: u8,
+    bottom: u8,
+    leaf: u32,
+) -> Result<Box<Held>, Status>
+    ensures { MatchResult result
+        (λ boxed. JoinsIn (λ c. key_of c roles.Replica id.0) (config_of held.now) (signer_in seed.now top bottom leaf) statuses.Done
+        × ((c : Configuration) → (signer : SigningState) → config_of held.now ≡ Some c → signer_in seed.now top bottom leaf ≡ Ok signer
+        → boxed.value ≡ kinds.Member (first_member c id.0 signer)))
+        (λ status. (status ≡ statuses.Memory) ⊎ ((status ≢ statuses.Done)
+        × JoinsIn (λ c. key_of c roles.Replica id.0) (config_of held.now) (signer_in seed.now top bottom leaf) status)) }
+{
+    let Held::Config(config) = held else {
+        return Err(Status::NoConfig);
+    };
+    let signer = signer_of(alloc, seed, top, bottom, leaf)?;
+    let member = Member::new(alloc, config, id, signer)?;
+    match Box::new(alloc, Held::Member(member)) {
+        Ok(boxed) => Ok(boxed),
+        Err(_) => Err(Status::Memory),
+    }
+}
+
+/// Makes a client's session whose first request has the time behind `time`, with the signer of a seed that has used the
+/// leaves below `leaf`. **No leaf from there on may have signed**, the client may not have asked with a later time, and one
+/// session at a time reads its replies. The handle's former content is freed; the session is inside where the status is 0,
+/// else nothing.
+#[unsafe(no_mangle)]
+pub extern "C" fn bpfh_client_new(
+    alloc: Global,
+    config: &mut Handle,
+    id: u32,
+    seed: &[u8],
+    top: u8,
+    bottom: u8,
+    leaf: u32,
+    time: u64,
+    client: &mut Handle,
+) -> u32
+    ensures status { (result ≡ 21) ⊎ ((result ≡ 64) × (2 ^ 63 < time)) ⊎ ((status : StatusSaid) × (result ≡ number_of status)
+        × JoinsIn (λ c. key_of c roles.Client id) (config_in config.old.slot.inside) (signer_in seed.now top bottom leaf) status) }
+    ensures inside { (c : Configuration) → (signer : SigningState) → config_in config.old.slot.inside ≡ Some c
+        → signer_in seed.now top bottom leaf ≡ Ok signer → result ≡ 0
+        → client_in client.new.slot.inside ≡ Some (session_behind c (record { 0 = id }) signer time) }
+    ensures late { 2 ^ 63 < time → result ≡ 64 }
+    ensures none { 0 < result → client.new.slot.inside ≡ None }
+    ensures kept { config.new.slot.inside ≡ config.old.slot.inside }
+{
+    if time > MAX_TIME {
+        client.clear(alloc);
+        return Status::NoTime.number();
+    }
+    join_client(
+        alloc,
+        config,
+        ClientId(id),
+        seed,
+        top,
+        bottom,
+        leaf,
+        time,
+        client,
+    )
+    .number()
+}
+
+fn join_client(
+    alloc: Global,
+    config: &mut Handle,
+    id: ClientId,
+    seed: &[u8],
+    top: u8,
+    bottom: u8,
+    leaf: u32,
+    time: u64,
+    client: &mut Handle,
+) -> Status
+    requires { time ≤ 2 ^ 63 }
+    ensures status { (result ≡ statuses.Memory) ⊎ JoinsIn (λ c. key_of c roles.Client id.0) (config_in config.old.slot.inside)
+        (signer_in seed.now top bottom leaf) result }
+    ensures inside { (c : Configuration) → (signer : SigningState) → config_in config.old.slot.inside ≡ Some c
+        → signer_in seed.now top bottom leaf ≡ Ok signer → result ≡ statuses.Done
+        → client_in client.new.slot.inside ≡ Some (session_behind c id signer time) }
+    ensures none { (result ≡ statuses.Done) ⊎ (client.new.slot.inside ≡ None) }
+    ensures kept { config.new.slot.inside ≡ config.old.slot.inside }
+{
+    client.clear(alloc);
+    let Some(held) = config.take(alloc) else {
+        return Status::NoConfig;
+    };
+    let made = boxed_client(alloc, &held, id, seed, top, bottom, leaf, time);
+    config.put(held);
+    match made {
+        Ok(boxed) => {
+            client.put(boxed);
+            Status::Done
+        }
+        Err(status) => status,
+    }
+}
+
+fn boxed_client(
+    alloc: Global,
+    held: &Held,
+    id: ClientId,
+    seed: &[u8],
+    top: u8,
+    bottom: u8,
+    leaf: u32,
+    time: u64,
+) -> Result<Box<Held>, Status>
+    requires { time ≤ 2 ^ 63 }
+    ensures { MatchResult result
+        (λ boxed. JoinsIn (λ c. key_of c roles.Client id.0) (config_of held.now) (signer_in seed.now top bottom leaf) statuses.Done
+        × ((c : Configuration) → (signer : SigningState) → config_of held.now ≡ Some c → signer_in seed.now top bottom leaf ≡ Ok signer
+        → boxed.value ≡ kinds.Client (session_behind c id signer time)))
+        (λ status. (status ≡ statuses.Memory) ⊎ ((status ≢ statuses.Done)
+        × JoinsIn (λ c. key_of c roles.Client id.0) (config_of held.now) (signer_in seed.now top bottom leaf) status)) }
+{
+    let Held::Config(config) = held else {
+        return Err(Status::NoConfig);
+    };
+    let signer = signer_of(alloc, seed, top, bottom, leaf)?;
+    let client = Client::new(alloc, config, id, signer, time)?;
+    match Box::new(alloc, Held::Client(client)) {
+        Ok(boxed) => Ok(boxed),
+        Err(_) => Err(Status::Memory),
+    }
+}

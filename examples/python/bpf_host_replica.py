@@ -1,0 +1,399 @@
+"""Replicas and clients of bpf_host from Python: each takes bytes and gives bytes, and the program moves them.
+
+    >>> from bpf_host_replica import Client, Configuration, Replica, Seed
+    >>> seeds = [Seed(bytes([n]) * 16, bytes([n]) * 32, top=5) for n in range(5)]
+    >>> config = Configuration(1, 8, [seed.public_key() for seed in seeds[:4]], {100: (1, seeds[4].public_key())})
+    >>> replicas = [Replica(config, n, seeds[n]) for n in range(4)]
+    >>> client = Client(config, 100, seeds[4])
+    >>> request = client.request(b"\\x02\\x00\\x00\\x00\\x07")
+    >>> [(message.to, message.id) for message in replicas[0].take(request)]
+    [(<To.ALL: 0>, 0)]
+
+A replica's step is the protocol's, and a client accepts what f + 1 replicas have answered: that is proved. It needs
+libbpf_host_replica.so (tools/c-library makes it), beside this file or at the path in BPF_HOST_REPLICA, and nothing else.
+
+What a caller owes stands in include/bpf_host_replica.h. The first thing: **a seed never begins twice at one leaf.**
+
+A `Replica` or a `Client` serves one call at a time: each thread has its own, or a lock.
+"""
+from __future__ import annotations
+
+import ctypes
+import enum
+import os
+import pathlib
+from collections.abc import Mapping, Sequence
+from typing import NamedTuple
+
+__all__ = [
+    "Accepted",
+    "Client",
+    "Configuration",
+    "Executed",
+    "GroupError",
+    "Installed",
+    "Message",
+    "Replica",
+    "Role",
+    "Seed",
+    "Signer",
+    "Standing",
+    "Status",
+    "To",
+]
+
+PUBLIC_KEY = 60
+ROOM = 65536
+
+
+class Status(enum.IntEnum):
+    """What a call answered, as in include/bpf_host_replica.h."""
+
+    DONE = 0
+    MEMORY = 21
+    BUFFER_TOO_SHORT = 35
+    NO_DRAFT = 51
+    NO_CONFIG = 52
+    NO_REPLICA = 53
+    NO_CLIENT = 54
+    NO_KEY = 55
+    NO_SEED = 56
+    NO_HEIGHT = 57
+    NO_LEAF = 58
+    NOT_LISTED = 59
+    OTHER_KEY = 60
+    NO_ROW = 61
+    NO_ENTRY = 62
+    NO_STATE = 63
+    NO_TIME = 64
+    OPERATION_TOO_LONG = 65
+    NO_REQUEST = 66
+    NO_REPLY = 67
+    BAD_F = 71
+    WRONG_REPLICA_COUNT = 72
+    BAD_INTERVAL = 73
+    DUPLICATE_CLIENT = 74
+    TOO_MANY = 76
+    UNKNOWN_SIGNER = 102
+    BAD_SIGNATURE = 103
+    WRONG_ROLE = 104
+    TRUNCATED = 111
+    TRAILING = 112
+    BAD_KIND = 113
+    BAD_FIELD = 114
+    MESSAGE_TOO_LONG = 115
+    NOT_ASCENDING = 116
+    EXHAUSTED = 201
+    OUT_OF_MEMORY = 202
+    WORN = 203
+    ALREADY_HALTED = 205
+    NO_LEAVES = 301
+    REQUEST_MEMORY = 304
+
+
+class GroupError(Exception):
+    """A call was refused. Where memory ran out its status is MEMORY; from 201 to 205 the replica has halted."""
+
+    def __init__(self, status: int):
+        self.status = Status(status)
+        super().__init__(self.status.name)
+
+
+class To(enum.IntEnum):
+    """Whom a message is for."""
+
+    ALL = 0  # all other replicas
+    REPLICA = 1
+    CLIENT = 2
+
+
+class Role(enum.IntEnum):
+    """Who signs."""
+
+    REPLICA = 1
+    CLIENT = 2
+
+
+class Message(NamedTuple):
+    """A message that a replica gives."""
+
+    to: To
+    id: int  # of the replica or the client
+    bytes: bytes
+
+
+class Executed(NamedTuple):
+    """A request that a replica executed."""
+
+    number: int
+    digest: bytes  # SHA-256 of the request's bytes
+    result: bytes  # empty where there is no reply
+
+
+class Installed(NamedTuple):
+    """A state that a replica took over."""
+
+    number: int
+    digest: bytes  # SHA-256 of the state's bytes
+
+
+class Signer(NamedTuple):
+    """Who signed a message."""
+
+    role: Role
+    id: int
+
+
+class Standing(NamedTuple):
+    """Where a replica stands after its last step."""
+
+    low: int  # the low water mark
+    executed: int  # the last executed number
+    view: int
+    active: bool  # in the view, and not changing to it
+    halted: Status | None
+    leaves: int  # that have not signed
+
+
+class Accepted(NamedTuple):
+    """The reply that a client accepts."""
+
+    time: int
+    number: int
+    result: bytes
+
+
+class Seed(NamedTuple):
+    """What a key pair comes from: 16 bytes that name it, and 32 that are secret.
+
+    `top` is the height of the top tree, 5 or 10: it has 32 or 1,024 leaves, each of which signs once; `bottom` is the height of
+    trees below each of those leaves, or 0 for one tree."""
+
+    identifier: bytes
+    secret: bytes
+    top: int = 10
+    bottom: int = 0
+
+    def public_key(self) -> bytes:
+        """The key for the configuration, of 60 bytes (RFC 8554, section 6.1)."""
+        key = ctypes.create_string_buffer(PUBLIC_KEY)
+        _check(_library.bpfh_key(*self._words(), key, PUBLIC_KEY))
+        return key.raw
+
+    def _words(self) -> tuple[bytes, int, int, int]:
+        return self.identifier + self.secret, len(self.identifier) + len(self.secret), self.top, self.bottom
+
+
+class _Handle(ctypes.Structure):
+    _fields_ = [("at", ctypes.c_void_p), ("is_full", ctypes.c_bool)]
+
+
+class _Sent(ctypes.Structure):
+    _fields_ = [("kind", ctypes.c_uint32), ("id", ctypes.c_uint32), ("length", ctypes.c_uint64)]
+
+
+class _DoneItem(ctypes.Structure):
+    _fields_ = [("kind", ctypes.c_uint32), ("number", ctypes.c_uint64), ("digest", ctypes.c_uint8 * 32), ("length", ctypes.c_uint64)]
+
+
+class _SignedBy(ctypes.Structure):
+    _fields_ = [("role", ctypes.c_uint32), ("id", ctypes.c_uint32)]
+
+
+class _Standing(ctypes.Structure):
+    _fields_ = [(name, ctypes.c_uint64) for name in ("low", "executed")] + [
+        (name, ctypes.c_uint32) for name in ("view", "active", "halted", "leaves")
+    ]
+
+
+class _Accepted(ctypes.Structure):
+    _fields_ = [(name, ctypes.c_uint64) for name in ("time", "number", "length")]
+
+
+def _load() -> ctypes.CDLL:
+    beside = pathlib.Path(__file__).resolve().parent / "libbpf_host_replica.so"
+    library = ctypes.CDLL(os.environ.get("BPF_HOST_REPLICA", str(beside)))
+    handle, size, data = ctypes.POINTER(_Handle), ctypes.c_size_t, ctypes.c_char_p
+    byte, number, long = ctypes.c_uint8, ctypes.c_uint32, ctypes.c_uint64
+    seed = [data, size, byte, byte]
+    for name, words in {
+        "key": [*seed, data, size],
+        "draft_new": [byte, byte, handle],
+        "draft_replica": [handle, data, size],
+        "draft_client": [handle, number, number, data, size],
+        "config": [handle, handle],
+        "replica_new": [handle, byte, *seed, number, handle],
+        "replica_take": [handle, data, size],
+        "replica_timeout": [handle],
+        "replica_output": [handle, number, data, size, ctypes.POINTER(_Sent)],
+        "replica_done": [handle, number, data, size, ctypes.POINTER(_DoneItem)],
+        "open": [handle, data, size, ctypes.POINTER(_SignedBy)],
+        "replica_standing": [handle, ctypes.POINTER(_Standing)],
+        "replica_state": [handle, data, size, ctypes.POINTER(long)],
+        "client_new": [handle, number, *seed, number, long, handle],
+        "client_request": [handle, data, size],
+        "client_message": [handle, data, size, ctypes.POINTER(long)],
+        "client_hear": [handle, data, size],
+        "client_accepted": [handle, data, size, ctypes.POINTER(_Accepted)],
+        "release": [handle],
+    }.items():
+        function = getattr(library, f"bpfh_{name}")
+        function.argtypes = words
+        function.restype = None if name == "release" else number
+    return library
+
+
+_library = _load()
+
+
+class _Held:
+    """What keeps a handle, and gives it back at last."""
+
+    def __init__(self) -> None:
+        self._handle = _Handle()
+        self._at = ctypes.pointer(self._handle)
+
+    def __del__(self, release=_library.bpfh_release) -> None:
+        if hasattr(self, "_at"):
+            release(self._at)
+
+
+class Configuration(_Held):
+    """Who takes part: 3f + 1 replicas by their public keys, and clients by their ids, each with its tenant and its public key. A
+    checkpoint is made at every k-th number.
+
+    Raises `GroupError` with the first fault. All members of a group are made under the same configuration."""
+
+    def __init__(self, f: int, k: int, replicas: Sequence[bytes], clients: Mapping[int, tuple[int, bytes]]) -> None:
+        super().__init__()
+        draft = _Held()
+        _check(_library.bpfh_draft_new(f, k, draft._at))
+        for key in replicas:
+            _check(_library.bpfh_draft_replica(draft._at, key, len(key)))
+        for client, (tenant, key) in clients.items():
+            _check(_library.bpfh_draft_client(draft._at, client, tenant, key, len(key)))
+        _check(_library.bpfh_config(draft._at, self._at))
+
+
+    def open(self, message: bytes) -> Signer:
+        """Who signed a message, all of whose parts have listed signers, who may say what they say, and valid signatures. Raises
+        `GroupError` for other bytes."""
+        signed_by = _SignedBy()
+        _check(_library.bpfh_open(self._at, message, len(message), ctypes.byref(signed_by)))
+        return Signer(Role(signed_by.role), signed_by.id)
+
+
+class Replica(_Held):
+    """A replica before its first message, whose signer has used the leaves below `leaf`."""
+
+    def __init__(self, config: Configuration, replica: int, seed: Seed, leaf: int = 0) -> None:
+        super().__init__()
+        _check(_library.bpfh_replica_new(config._at, replica, *seed._words(), leaf, self._at))
+        self._room = ROOM
+        self._buffer = ctypes.create_string_buffer(self._room)
+        self._sent = _Sent()
+
+    def take(self, message: bytes) -> list[Message]:
+        """Has it take a message, and returns what it gives for that. Raises `GroupError` for bytes that its configuration doesn't
+        take, which change nothing, and where it has halted."""
+        _check(_library.bpfh_replica_take(self._at, message, len(message)))
+        return self._outputs()
+
+    def timeout(self) -> list[Message]:
+        """Has it take a timeout: it asks for the next view."""
+        _check(_library.bpfh_replica_timeout(self._at))
+        return self._outputs()
+
+    def done(self) -> list[Executed | Installed]:
+        """What its last step did to its state: nothing before the first one, and once it has halted."""
+        items: list[Executed | Installed] = []
+        told, room = _DoneItem(), 512
+        while True:
+            answer = ctypes.create_string_buffer(room)
+            status = _library.bpfh_replica_done(self._at, len(items), answer, room, ctypes.byref(told))
+            if status in (Status.NO_ENTRY, Status.NO_ROW):
+                return items
+            if status == Status.BUFFER_TOO_SHORT:
+                room = told.length
+                continue
+            _check(status)
+            number, digest = told.number, bytes(told.digest)
+            items.append(Installed(number, digest) if told.kind else Executed(number, digest, answer.raw[: told.length]))
+
+    def standing(self) -> Standing:
+        """Where it stands."""
+        stands = _Standing()
+        _check(_library.bpfh_replica_standing(self._at, ctypes.byref(stands)))
+        halted = Status(200 + stands.halted) if stands.halted else None
+        return Standing(stands.low, stands.executed, stands.view, bool(stands.active), halted, stands.leaves)
+
+    def state(self) -> bytes:
+        """The canonical encoding of its state: replicas that have executed as many requests have the same bytes."""
+        return _told(_library.bpfh_replica_state, self._at)
+
+    def _outputs(self) -> list[Message]:
+        outputs: list[Message] = []
+        while True:
+            status = _library.bpfh_replica_output(self._at, len(outputs), self._buffer, self._room, ctypes.byref(self._sent))
+            if status == Status.NO_ENTRY:
+                return outputs
+            if status == Status.BUFFER_TOO_SHORT:
+                self._room = self._sent.length
+                self._buffer = ctypes.create_string_buffer(self._room)
+                continue
+            _check(status)
+            sent = self._sent
+            outputs.append(Message(To(sent.kind), sent.id, ctypes.string_at(self._buffer, sent.length)))
+
+
+class Client(_Held):
+    """A client's session, whose signer has used the leaves below `leaf`, and whose first request has the time behind `time`."""
+
+    def __init__(self, config: Configuration, client: int, seed: Seed, leaf: int = 0, time: int = 0) -> None:
+        super().__init__()
+        _check(_library.bpfh_client_new(config._at, client, *seed._words(), leaf, time, self._at))
+
+    def request(self, operation: bytes) -> bytes:
+        """Makes the signed request of an operation, for all replicas. What was open is given up."""
+        _check(_library.bpfh_client_request(self._at, operation, len(operation)))
+        return self.message()
+
+    def message(self) -> bytes:
+        """The bytes of the last request, to be sent again where no reply comes."""
+        return _told(_library.bpfh_client_message, self._at)
+
+    def hear(self, message: bytes) -> Accepted | None:
+        """Hears a message, and returns the reply to the last request once one is accepted. Raises `GroupError` for bytes that the
+        configuration doesn't take, which change nothing."""
+        _check(_library.bpfh_client_hear(self._at, message, len(message)))
+        return self.accepted()
+
+    def accepted(self) -> Accepted | None:
+        """The reply to the last request that is accepted; none until then."""
+        told, room = _Accepted(), 512
+        while True:
+            answer = ctypes.create_string_buffer(room)
+            status = _library.bpfh_client_accepted(self._at, answer, room, ctypes.byref(told))
+            if status == Status.NO_REPLY:
+                return None
+            if status != Status.BUFFER_TOO_SHORT:
+                _check(status)
+                return Accepted(told.time, told.number, answer.raw[: told.length])
+            room = told.length
+
+
+def _told(function, at) -> bytes:
+    """What a call writes into a buffer, which is made longer where it is too short."""
+    told, room = ctypes.c_uint64(), ROOM
+    while True:
+        buffer = ctypes.create_string_buffer(room)
+        status = function(at, buffer, room, ctypes.byref(told))
+        if status != Status.BUFFER_TOO_SHORT:
+            _check(status)
+            return buffer.raw[: told.value]
+        room = told.value
+
+
+def _check(status: int) -> None:
+    if status:
+        raise GroupError(status)

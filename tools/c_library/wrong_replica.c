@@ -1,0 +1,171 @@
+/* Wrong use of the replicas' library, as far as a client may make it: each call a status, and nothing lost by it. It prints a line for
+ * each call that answers another status than it is to, or changes what it may not, and at last how many calls were made. */
+#include <inttypes.h>
+#include <stdio.h>
+#include <stdlib.h>
+#include <string.h>
+
+#include "bpf_host_replica.h"
+
+static int calls, wrong;
+
+static void is(const char *what, uint32_t got, uint32_t want) {
+  calls++;
+  if (got != want) {
+    printf("%s: status %" PRIu32 ", wanted %" PRIu32 "\n", what, got, want);
+    wrong++;
+  }
+}
+
+static void holds(const char *what, bool so) {
+  if (!so) {
+    printf("%s: no\n", what);
+    wrong++;
+  }
+}
+
+static uint8_t seeds[5][BPFH_SEED], keys[5][BPFH_PUBLIC_KEY], large[9000000], message[65536];
+
+static void makes_keys(void) {
+  for (int n = 0; n < 5; n++) {
+    memset(seeds[n], n + 1, BPFH_SEED);
+    is("a key", bpfh_key(seeds[n], BPFH_SEED, 5, 0, keys[n], BPFH_PUBLIC_KEY), BPFH_GROUP_DONE);
+  }
+  uint8_t room[BPFH_PUBLIC_KEY] = {0xaa};
+  is("a short seed", bpfh_key(seeds[0], 47, 5, 0, room, sizeof room), BPFH_GROUP_NO_SEED);
+  is("no seed", bpfh_key(seeds[0], 0, 5, 0, room, sizeof room), BPFH_GROUP_NO_SEED);
+  is("a long seed", bpfh_key(large, sizeof large, 5, 0, room, sizeof room), BPFH_GROUP_NO_SEED);
+  is("height 6", bpfh_key(seeds[0], BPFH_SEED, 6, 0, room, sizeof room), BPFH_GROUP_NO_HEIGHT);
+  is("height 0", bpfh_key(seeds[0], BPFH_SEED, 0, 0, room, sizeof room), BPFH_GROUP_NO_HEIGHT);
+  is("bottom height 15", bpfh_key(seeds[0], BPFH_SEED, 5, 15, room, sizeof room), BPFH_GROUP_NO_HEIGHT);
+  is("a short key", bpfh_key(seeds[0], BPFH_SEED, 5, 0, room, 59), BPFH_GROUP_BUFFER_TOO_SHORT);
+  is("no room", bpfh_key(seeds[0], BPFH_SEED, 5, 0, room, 0), BPFH_GROUP_BUFFER_TOO_SHORT);
+  holds("nothing is written", room[0] == 0xaa);
+}
+
+static void draws_up(bpfh_handle *config, bpfh_handle *nothing) {
+  bpfh_handle draft = {0};
+  is("no draft", bpfh_draft_replica(nothing, keys[0], BPFH_PUBLIC_KEY), BPFH_GROUP_NO_DRAFT);
+  is("no draft for a client", bpfh_draft_client(nothing, 16, 1, keys[0], BPFH_PUBLIC_KEY), BPFH_GROUP_NO_DRAFT);
+  is("no draft to finish", bpfh_config(nothing, config), BPFH_GROUP_NO_DRAFT);
+  is("a draft", bpfh_draft_new(0, 8, &draft), BPFH_GROUP_DONE);
+  is("no draft twice", bpfh_draft_new(4, 8, &draft), BPFH_GROUP_DONE);
+  is("f is 4", bpfh_config(&draft, config), BPFH_GROUP_BAD_F);
+  holds("both are empty", !draft.is_full && !config->is_full);
+  is("another", bpfh_draft_new(1, 9, &draft), BPFH_GROUP_DONE);
+  is("a short key", bpfh_draft_replica(&draft, keys[0], 59), BPFH_GROUP_NO_KEY);
+  is("no key", bpfh_draft_replica(&draft, keys[0], 0), BPFH_GROUP_NO_KEY);
+  is("a key of no level", bpfh_draft_replica(&draft, large, BPFH_PUBLIC_KEY), BPFH_GROUP_NO_KEY);
+  is("9 MB", bpfh_draft_client(&draft, 100, 1, large, sizeof large), BPFH_GROUP_NO_KEY);
+  is("three replicas", bpfh_config(&draft, config), BPFH_GROUP_WRONG_REPLICA_COUNT);
+  is("another draft", bpfh_draft_new(1, 9, &draft), BPFH_GROUP_DONE);
+  for (int n = 0; n < 4; n++) is("a replica", bpfh_draft_replica(&draft, keys[n], BPFH_PUBLIC_KEY), BPFH_GROUP_DONE);
+  is("k is 9", bpfh_config(&draft, config), BPFH_GROUP_BAD_INTERVAL);
+  is("once more", bpfh_draft_new(1, 8, &draft), BPFH_GROUP_DONE);
+  for (int n = 0; n < 4; n++) is("a replica", bpfh_draft_replica(&draft, keys[n], BPFH_PUBLIC_KEY), BPFH_GROUP_DONE);
+  is("a client", bpfh_draft_client(&draft, 100, 1, keys[4], BPFH_PUBLIC_KEY), BPFH_GROUP_DONE);
+  is("a draft as configuration", bpfh_replica_new(&draft, 0, seeds[0], BPFH_SEED, 5, 0, 0, nothing), BPFH_GROUP_NO_CONFIG);
+  is("the configuration", bpfh_config(&draft, config), BPFH_GROUP_DONE);
+  is("a configuration as draft", bpfh_draft_replica(config, keys[0], BPFH_PUBLIC_KEY), BPFH_GROUP_NO_DRAFT);
+}
+
+static void joins(bpfh_handle *config, bpfh_handle *replica, bpfh_handle *client, bpfh_handle *nothing) {
+  is("no configuration", bpfh_replica_new(nothing, 0, seeds[0], BPFH_SEED, 5, 0, 0, replica), BPFH_GROUP_NO_CONFIG);
+  is("replica 4", bpfh_replica_new(config, 4, seeds[0], BPFH_SEED, 5, 0, 0, replica), BPFH_GROUP_NOT_LISTED);
+  is("replica 255", bpfh_replica_new(config, 255, seeds[0], BPFH_SEED, 5, 0, 0, replica), BPFH_GROUP_NOT_LISTED);
+  is("another's seed", bpfh_replica_new(config, 1, seeds[0], BPFH_SEED, 5, 0, 0, replica), BPFH_GROUP_OTHER_KEY);
+  is("another height", bpfh_replica_new(config, 0, seeds[0], BPFH_SEED, 5, 5, 0, replica), BPFH_GROUP_OTHER_KEY);
+  is("leaf 33", bpfh_replica_new(config, 0, seeds[0], BPFH_SEED, 5, 0, 33, replica), BPFH_GROUP_NO_LEAF);
+  is("leaf 2^32 - 1", bpfh_replica_new(config, 0, seeds[0], BPFH_SEED, 5, 0, UINT32_MAX, replica), BPFH_GROUP_NO_LEAF);
+  is("no seed", bpfh_replica_new(config, 0, seeds[0], 0, 5, 0, 0, replica), BPFH_GROUP_NO_SEED);
+  is("no client 0", bpfh_client_new(config, 0, seeds[4], BPFH_SEED, 5, 0, 0, 0, client), BPFH_GROUP_NOT_LISTED);
+  is("a late time", bpfh_client_new(config, 100, seeds[4], BPFH_SEED, 5, 0, 0, UINT64_MAX, client), BPFH_GROUP_NO_TIME);
+  is("a replica's seed", bpfh_client_new(config, 100, seeds[0], BPFH_SEED, 5, 0, 0, 0, client), BPFH_GROUP_OTHER_KEY);
+  holds("nobody joined", !replica->is_full && !client->is_full);
+  is("replica 0", bpfh_replica_new(config, 0, seeds[0], BPFH_SEED, 5, 0, 0, replica), BPFH_GROUP_DONE);
+  is("client 100", bpfh_client_new(config, 100, seeds[4], BPFH_SEED, 5, 0, 30, 0, client), BPFH_GROUP_DONE);
+}
+
+static void opens(bpfh_handle *config, bpfh_handle *client, uint64_t length) {
+  bpfh_signed_by signed_by = {7, 7};
+  is("a client is no configuration", bpfh_open(client, message, length, &signed_by), BPFH_GROUP_NO_CONFIG);
+  is("nothing to open", bpfh_open(config, message, 0, &signed_by), BPFH_GROUP_TRUNCATED);
+  is("9 MB to open", bpfh_open(config, large, sizeof large, &signed_by), BPFH_GROUP_MESSAGE_TOO_LONG);
+  message[length - 1] ^= 1;
+  is("another signature", bpfh_open(config, message, length, &signed_by), BPFH_GROUP_BAD_SIGNATURE);
+  message[length - 1] ^= 1;
+  holds("nobody is told", signed_by.role == 7 && signed_by.id == 7);
+  is("a request's bytes", bpfh_open(config, message, length, &signed_by), BPFH_GROUP_DONE);
+  holds("client 100 signed them", signed_by.role == 2 && signed_by.id == 100);
+}
+
+static void steps(bpfh_handle *config, bpfh_handle *replica, bpfh_handle *client) {
+  bpfh_sent sent = {0};
+  bpfh_standing standing = {0};
+  uint64_t told = 0;
+  is("nothing done yet", bpfh_replica_done(replica, 0, message, sizeof message, &(bpfh_done_item){0}), BPFH_GROUP_NO_ROW);
+  is("a client does nothing", bpfh_replica_done(client, 0, message, 0, &(bpfh_done_item){0}), BPFH_GROUP_NO_REPLICA);
+  is("no row yet", bpfh_replica_output(replica, 0, message, sizeof message, &sent), BPFH_GROUP_NO_ROW);
+  is("a client as replica", bpfh_replica_take(client, message, 0), BPFH_GROUP_NO_REPLICA);
+  is("no message", bpfh_replica_take(replica, message, 0), BPFH_GROUP_TRUNCATED);
+  is("9 MB", bpfh_replica_take(replica, large, sizeof large), BPFH_GROUP_MESSAGE_TOO_LONG);
+  is("zeros", bpfh_replica_take(replica, large, 100), BPFH_GROUP_BAD_FIELD);
+  is("a replica as client", bpfh_client_request(replica, message, 0), BPFH_GROUP_NO_CLIENT);
+  is("no request yet", bpfh_client_message(client, message, sizeof message, &told), BPFH_GROUP_NO_REQUEST);
+  is("no reply yet", bpfh_client_accepted(client, message, sizeof message, &(bpfh_accepted){0}), BPFH_GROUP_NO_REPLY);
+  is("a long operation", bpfh_client_request(client, large, BPFH_MAX_OPERATION + 1), BPFH_GROUP_OPERATION_TOO_LONG);
+  is("an empty one", bpfh_client_request(client, large, 0), BPFH_GROUP_DONE);
+  is("no room", bpfh_client_message(client, message, 0, &told), BPFH_GROUP_BUFFER_TOO_SHORT);
+  uint64_t length = told;
+  is("a byte short", bpfh_client_message(client, message, length - 1, &told), BPFH_GROUP_BUFFER_TOO_SHORT);
+  is("room", bpfh_client_message(client, message, length, &told), BPFH_GROUP_DONE);
+  opens(config, client, length);
+  message[length - 1] ^= 1;
+  is("a bit flipped", bpfh_replica_take(replica, message, length), BPFH_GROUP_BAD_SIGNATURE);
+  message[length - 1] ^= 1;
+  is("a byte behind", bpfh_replica_take(replica, message, length + 1), BPFH_GROUP_TRAILING);
+  is("the request", bpfh_replica_take(replica, message, length), BPFH_GROUP_DONE);
+  is("nothing done", bpfh_replica_done(replica, 0, message, sizeof message, &(bpfh_done_item){0}), BPFH_GROUP_NO_ENTRY);
+  is("its first message", bpfh_replica_output(replica, 0, message, sizeof message, &sent), BPFH_GROUP_DONE);
+  holds("to all", sent.kind == 0 && sent.length > length);
+  is("no second one", bpfh_replica_output(replica, 1, message, sizeof message, &sent), BPFH_GROUP_NO_ENTRY);
+  is("nor a last one", bpfh_replica_output(replica, UINT32_MAX, message, sizeof message, &sent), BPFH_GROUP_NO_ENTRY);
+  is("standing", bpfh_replica_standing(replica, &standing), BPFH_GROUP_DONE);
+  holds("in view 0", standing.view == 0 && standing.active == 1 && standing.halted == 0 && standing.leaves == 31);
+  is("a client stands nowhere", bpfh_replica_standing(client, &standing), BPFH_GROUP_NO_REPLICA);
+  is("the state's length", bpfh_replica_state(replica, message, 0, &told), BPFH_GROUP_BUFFER_TOO_SHORT);
+  is("the state", bpfh_replica_state(replica, message, told, &told), BPFH_GROUP_DONE);
+}
+
+static void ends(bpfh_handle *replica, bpfh_handle *client) {
+  bpfh_standing standing = {0};
+  bpfh_sent sent = {0};
+  uint64_t told = 0;
+  is("the last leaf", bpfh_client_request(client, large, 1), BPFH_GROUP_DONE);
+  is("no leaf", bpfh_client_request(client, large, 1), BPFH_GROUP_NO_LEAVES);
+  uint32_t status = BPFH_GROUP_DONE;
+  for (int n = 0; n < 40 && status == BPFH_GROUP_DONE; n++) status = bpfh_replica_timeout(replica);
+  is("no leaf left", status, BPFH_GROUP_EXHAUSTED);
+  is("halted", bpfh_replica_timeout(replica), BPFH_GROUP_ALREADY_HALTED);
+  is("no state", bpfh_replica_state(replica, message, sizeof message, &told), BPFH_GROUP_NO_STATE);
+  is("no row", bpfh_replica_output(replica, 0, message, sizeof message, &sent), BPFH_GROUP_NO_ROW);
+  is("stands still", bpfh_replica_standing(replica, &standing), BPFH_GROUP_DONE);
+  holds("halted for want of leaves", standing.halted == 1 && standing.leaves == 0);
+}
+
+int main(void) {
+  bpfh_handle config = {0}, replica = {0}, client = {0}, nothing = {0};
+  bpfh_release(&nothing);
+  makes_keys();
+  draws_up(&config, &nothing);
+  joins(&config, &replica, &client, &nothing);
+  steps(&config, &replica, &client);
+  ends(&replica, &client);
+  bpfh_release(&config);
+  bpfh_release(&replica);
+  bpfh_release(&client);
+  bpfh_release(&client);
+  holds("all are empty", !config.is_full && !replica.is_full && !client.is_full && !nothing.is_full);
+  printf("%d calls, %d wrong\n", calls, wrong);
+  return wrong > 0;
+}
