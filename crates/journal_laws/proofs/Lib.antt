@@ -1,0 +1,5 @@
+mod Again
+mod LeafOnce
+mod Committed
+mod Checked
+mod Claimed

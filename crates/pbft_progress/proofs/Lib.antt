@@ -1,0 +1,9 @@
+pub mod Resting
+pub mod Telling
+pub mod Lives
+pub mod Standing
+pub mod Changes
+pub mod Duties
+pub mod Spreading
+pub mod Views
+pub mod Drained

@@ -1,0 +1,163 @@
+-- The history behind a journal: what was received was taken at a point of it, what was signed was given, and behind the row
+-- of a message nothing is due while it is the message just taken.
+use Rattle.std.proofs.Common.{◌≡◌, ◌⊎◌, ℕ, Bool, true, false, cond, List, [], ◌∷◌, Option, Some, None, refl, sym, ap, subst, ◌∙◌, inl, inr}
+use Rattle.std.specs.Prelude.{nat_lt}
+use Rattle.pbft_model.specs.Words.{SigningState, Signed, Body, Part}
+use Rattle.pbft_codec.specs.declared.body.Body.TheVariants as bodies
+use Rattle.pbft_codec.specs.declared.body.fetch.Fetch.TheVariants as fetches
+use Rattle.pbft_model.specs.Sequential.{Service}
+use Rattle.pbft_model.specs.Setup.{Setup}
+use Rattle.pbft_model.specs.Core.{Core, start_of}
+use Rattle.pbft_model.specs.Acts.{Act, Take, Timeout, Send, Enter, after, said, left_for, left_if_above}
+use Rattle.pbft_model.specs.Duties.{due}
+use Rattle.pbft_model.specs.Rows.{Row, Input, Received, TimedOut, Output, Begins, Follows, IsLawfulFrom, outputs_of, all_outputs}
+use Rattle.pbft_model.specs.Histories.{core_after, IsHistory, IsEarlier, IsIn, HasSigned, HasTaken, signed_in, signed_by_act}
+use Rattle.pbft_agreement.specs.Journals.{HasReceived, HasGiven}
+use Rattle.pbft_model.proofs.Events.{earlier_trans}
+use Rattle.pbft_model.proofs.Found.{in_append_left, in_append_right}
+use Rattle.pbft_model.proofs.Reactions.{IsReaction, is_reaction}
+use Rattle.pbft_agreement.proofs.Reporting.{pushed, earlier_pushed, acts_from, earlier_from, row_core, core_from, history_from, taken_from, given_from}
+
+-- ---- the message just taken
+
+left_taken : (c : Setup) (s : Core) (view : ℕ) → (left_if_above c s view).taken ≡ s.taken
+left_taken c s view = cases (nat_lt s.view view) where
+  cases : (b : Bool) → (cond b (left_for c s view) s).taken ≡ s.taken
+  cases true = refl
+  cases false = refl
+
+said_taken : (c : Setup) (s : Core) (m : Signed Body) (b : Body) → (said c s m b).taken ≡ s.taken
+said_taken c s m (bodies.NewView b) = left_taken c s b.view.0
+said_taken c s m (bodies.Fetch (fetches.Request d)) = refl
+said_taken c s m (bodies.Fetch (fetches.State n)) = refl
+said_taken c s m _ = refl
+
+taken_by : (c : Setup) (s : Core) (a : Act) → IsReaction a → (after c s a).taken ≡ s.taken
+taken_by c s (Take m r) h = absurd h
+taken_by c s Timeout h = absurd h
+taken_by c s (Send to m) h = said_taken c s m m.body
+taken_by c s (Enter m) h = left_taken c s m.body.view.0
+taken_by c s _ h = refl
+
+-- what does what is due leaves it as it is
+taken_follows : (c : Setup) (me : ℕ) (acts : List Act) (s t : Core) → Follows c me s acts t → t.taken ≡ s.taken
+taken_follows c me [] s t same = ap (λ (x : Core). x.taken) same
+taken_follows c me (a ∷ acts) s t (does, leaves, rest) = taken_follows c me acts (after c s a) t rest ∙ taken_by c s a (is_reaction c me s a does)
+
+-- ---- inputs
+
+same_received : (m x : Signed Body) → Received m ≡ Received x → m ≡ x
+same_received m x e = cc
+
+never_received : (m : Signed Body) → TimedOut ≡ Received m → ⊥
+never_received m e = cc
+
+begins_received : (c : Setup) (input : Input) (a : Act) (m : Signed Body) → Begins c input a → input ≡ Received m → (reading : Option Service) × (a ≡ Take m reading)
+begins_received c (Received x) a m (reading, may, is) e = (reading, is ∙ ap (λ (y : Signed Body). Take y reading) (same_received x m e))
+begins_received c TimedOut a m is e = absurd (never_received m e)
+
+begins_unsigned : (c : Setup) (input : Input) (a : Act) (p : Part) → Begins c input a → IsIn p (signed_by_act a) → ⊥
+begins_unsigned c (Received m) a p (reading, may, is) h = subst (λ (x : Act). IsIn p (signed_by_act x)) is h
+begins_unsigned c TimedOut a p is h = subst (λ (x : Act). IsIn p (signed_by_act x)) is h
+
+-- ---- what acts sign
+
+signed_pushed : (p : Part) (acts early : List Act) → HasSigned p (pushed acts early) → HasSigned p early ⊎ ((a : Act) × IsIn a acts × IsIn p (signed_by_act a))
+signed_pushed p [] early h = inl h
+signed_pushed p (a ∷ acts) early h = elim (signed_pushed p acts (a ∷ early) h) [
+  | inl (inl here) ↦ inr (a, inl refl, here)
+  | inl (inr older) ↦ inl older
+  | inr w ↦ inr (w.0, inr w.1, w.2)
+]
+
+-- in an own output
+own_output : (p : Part) (a : Act) → IsIn p (signed_by_act a) → (output : Output) × IsIn output (outputs_of a) × (output.own ≡ true) × IsIn p (signed_in output.message)
+own_output p (Send to m) h = (record { to = to; message = m; own = true }, inl refl, refl, h)
+own_output p _ h = absurd h
+
+in_outputs : (a : Act) (output : Output) (acts : List Act) → IsIn a acts → IsIn output (outputs_of a) → IsIn output (all_outputs acts)
+in_outputs a output [] none h = absurd none
+in_outputs a output (b ∷ acts) (inl same) h = in_append_left output (outputs_of b) (all_outputs acts) (subst (λ (x : Act). IsIn output (outputs_of x)) same h)
+in_outputs a output (b ∷ acts) (inr later) h = in_append_right output (outputs_of b) (all_outputs acts) (in_outputs a output acts later h)
+
+-- ---- points of a history
+
+-- a message was taken at a point
+pub record TakenAt (m : Signed Body) (acts : List Act) : Type 0 where
+  pub reading : Option Service
+  pub early : List Act
+  pub point : IsEarlier (Take m reading ∷ early) acts
+
+module _ (c : Setup) (me : ℕ) (signer : SigningState) where
+  -- at a point nothing is due, with a message as the one just taken
+  pub record Heard (m : Signed Body) (acts : List Act) : Type 0 where
+    pub early : List Act
+    pub point : IsEarlier early acts
+    pub taken : (core_after c signer early).taken ≡ Some m
+    pub rests : due c me (core_after c signer early) ≡ None
+
+  taken_in : (m : Signed Body) (early : List Act) (rows : List Row) (s t : Core) (w : IsLawfulFrom c me s rows t) → HasReceived m rows → TakenAt m (acts_from c me signer early rows s t w)
+  taken_in m early [] s t w (row, none, e) = absurd none
+  taken_in m early (row ∷ rows) s t (u, next, rest) (r, inr later, e) = taken_in m (pushed (next.first ∷ next.acts) early) rows u t rest (r, later, e)
+  taken_in m early (row ∷ rows) s t (u, next, rest) (r, inl same, e) =
+      let b = begins_received c row.input next.first m next.begins (ap (λ (x : Row). x.input) (sym same) ∙ e) in
+      let done : List Act = pushed (next.first ∷ next.acts) early in
+      record {
+        reading = b.0;
+        early = early;
+        point = earlier_trans (Take m b.0 ∷ early) done (acts_from c me signer done rows u t rest)
+            (subst (λ (a : Act). IsEarlier (a ∷ early) done) b.1 (earlier_pushed next.acts (next.first ∷ early)))
+            (earlier_from c me signer done rows u t rest);
+      }
+
+  heard_in : (m : Signed Body) (early : List Act) (rows : List Row) (s t : Core) (w : IsLawfulFrom c me s rows t) → core_after c signer early ≡ s → HasReceived m rows → Heard m (acts_from c me signer early rows s t w)
+  heard_in m early [] s t w at (row, none, e) = absurd none
+  heard_in m early (row ∷ rows) s t (u, next, rest) at (r, inr later, e) =
+      heard_in m (pushed (next.first ∷ next.acts) early) rows u t rest (row_core c me signer early s u row next at) (r, later, e)
+  heard_in m early (row ∷ rows) s t (u, next, rest) at (r, inl same, e) =
+      let b = begins_received c row.input next.first m next.begins (ap (λ (x : Row). x.input) (sym same) ∙ e) in
+      let done : List Act = pushed (next.first ∷ next.acts) early in
+      let core = row_core c me signer early s u row next at in
+      let first : (after c s next.first).taken ≡ Some m = ap (λ (a : Act). (after c s a).taken) b.1 in
+      record {
+        early = done;
+        point = earlier_from c me signer done rows u t rest;
+        taken = ap (λ (x : Core). x.taken) core ∙ taken_follows c me next.acts (after c s next.first) u next.reacts.follows ∙ first;
+        rests = subst (λ (x : Core). due c me x ≡ None) (sym core) next.reacts.rests;
+      }
+
+  signed_given : (p : Part) (early : List Act) (rows : List Row) (s t : Core) (w : IsLawfulFrom c me s rows t) → HasSigned p (acts_from c me signer early rows s t w) → HasSigned p early ⊎ HasGiven p rows
+  signed_given p early [] s t w h = inl h
+  signed_given p early (row ∷ rows) s t (u, next, rest) h = elim (signed_given p (pushed (next.first ∷ next.acts) early) rows u t rest h) [
+    | inl here ↦ elim (signed_pushed p next.acts (next.first ∷ early) here) [
+      | inl (inl first) ↦ absurd (begins_unsigned c row.input next.first p next.begins first)
+      | inl (inr older) ↦ inl older
+      | inr w ↦
+          let o = own_output p w.0 w.2 in
+          inr (row, o.0, inl refl, subst (λ (os : List Output). IsIn o.0 os) (sym next.outputs) (in_outputs w.0 o.0 next.acts w.1 o.1), o.2, o.3)
+    ]
+    | inr v ↦ inr (v.0, v.1, inr v.2, v.3, v.4, v.5)
+  ]
+
+  -- A journal's history, which ends in this core.
+  pub record Life (rows : List Row) (s : Core) : Type 0 where
+    pub acts : List Act
+    pub is : IsHistory c me signer acts
+    pub core_is : core_after c signer acts ≡ s
+    pub takes : (m : Signed Body) → HasReceived m rows → TakenAt m acts
+    pub hears : (m : Signed Body) → HasReceived m rows → Heard m acts
+    pub received : (m : Signed Body) → HasTaken m acts → HasReceived m rows
+    pub gives : (p : Part) → HasSigned p acts → HasGiven p rows
+    pub signs : (p : Part) → HasGiven p rows → HasSigned p acts
+
+  pub life : (rows : List Row) (s : Core) → IsLawfulFrom c me (start_of c signer) rows s → Life rows s
+  life rows s w = record {
+    acts = acts_from c me signer [] rows (start_of c signer) s w;
+    is = history_from c me signer [] rows (start_of c signer) s w refl tt;
+    core_is = core_from c me signer [] rows (start_of c signer) s w refl;
+    takes = λ m h. taken_in m [] rows (start_of c signer) s w h;
+    hears = λ m h. heard_in m [] rows (start_of c signer) s w refl h;
+    received = λ m h. elim (taken_from c me signer m [] rows (start_of c signer) s w h) [ inl none ↦ absurd none | inr is ↦ is ];
+    gives = λ p h. elim (signed_given p [] rows (start_of c signer) s w h) [ inl none ↦ absurd none | inr is ↦ is ];
+    signs = λ p h. given_from c me signer p [] rows (start_of c signer) s w h;
+  }
