@@ -9,7 +9,9 @@
  * - A seed never begins twice at one leaf. Two messages that one leaf signed give the key away (RFC 8554, section 9.2). A
  *   process that begins again with its seed begins at a leaf that none of its signatures has used: what is kept for that, on disk,
  *   is raised before a message is given to anybody. A replica begins with no memory of what it said before, and counts among the
- *   f faulty ones from then on; a client goes on with a time at least that of its last request.
+ *   f faulty ones from then on; but one that begins at the leaf at which it began before, and takes all again that it took, in that
+ *   order, before anything of it is sent, gives the same bytes again and goes on from there. A client goes on with a time at least that
+ *   of its last request.
  * - A seed has 32 secret bytes from a good source of random numbers, and stays where it is used.
  * - All members of a group are made under the same configuration, by the same calls in the same order.
  * - A handle is all zero at first ({0}), isn't copied, moved only while no call has it, and is given to bpfh_release at last.
@@ -65,6 +67,7 @@ enum bpfh_group_status {
   BPFH_GROUP_OPERATION_TOO_LONG = 65,
   BPFH_GROUP_NO_REQUEST = 66, /* the session has made no request */
   BPFH_GROUP_NO_REPLY = 67,   /* no reply to the last request is accepted yet */
+  BPFH_GROUP_NO_VOTES = 68,   /* the handle holds no early votes */
   /* The first fault of a configuration. */
   BPFH_GROUP_BAD_F = 71,               /* f is 1 to 3 */
   BPFH_GROUP_WRONG_REPLICA_COUNT = 72, /* there are 3f + 1 replicas */
@@ -171,6 +174,11 @@ uint32_t bpfh_replica_take(bpfh_handle *replica, const uint8_t *bytes, size_t le
 /* Has the replica take a timeout: it asks for the next view. 53, 201 to 205. */
 uint32_t bpfh_replica_timeout(bpfh_handle *replica);
 
+/* Opens bytes and tells whether the replica waits for the message that they are: *waits is 1 where it is a request that its state
+ * hasn't answered, else 0. Who drives a replica gives it timeouts while it waits and executes nothing. 21, 53, 102 to 116: *waits
+ * stays as it was. */
+uint32_t bpfh_replica_waits(bpfh_handle *replica, const uint8_t *bytes, size_t length, uint32_t *waits);
+
 /* A message of what the last step gave, by its place from 0 on. 0: sent->length bytes of message, and sent, are written. 35: sent
  * alone. 53, 61, 62: message stays as it was. */
 uint32_t bpfh_replica_output(bpfh_handle *replica, uint32_t index, uint8_t *message, size_t message_length, bpfh_sent *sent);
@@ -185,6 +193,22 @@ uint32_t bpfh_replica_standing(bpfh_handle *replica, bpfh_standing *standing);
 /* The canonical encoding of a replica's state: *told bytes. 35: *told is how many it takes. 21, 53, 63. Replicas that have executed
  * as many requests have the same bytes. */
 uint32_t bpfh_replica_state(bpfh_handle *replica, uint8_t *state, size_t state_length, uint64_t *told);
+
+/* Makes what keeps the votes that come early for one replica. A replica drops a vote for a number above its high mark, and nobody
+ * sends it again: so each message goes through bpfh_votes_hold first, and bpfh_votes_next gives back what is on time once the replica has
+ * gone on. What votes held is freed first. 21, 52: it holds nothing. */
+uint32_t bpfh_votes_new(bpfh_handle *config, bpfh_handle *votes);
+
+/* Opens bytes. *early is 1 where they are a vote that comes early, which is kept (or passed over, where it is for a number much too far
+ * ahead, for another view, or there already), and 0 where the replica is to take them now. 21, 68, 102 to 116: *early stays as it was. */
+uint32_t bpfh_votes_hold(bpfh_handle *votes, const uint8_t *bytes, size_t length, uint32_t *early);
+
+/* Says where the replica stands, after each of its steps. 68. */
+uint32_t bpfh_votes_move(bpfh_handle *votes, uint64_t low, uint32_t view);
+
+/* The first vote that is on time, which is given up: *told bytes, which the replica is to take. 35: *told is how many it takes, and the
+ * vote stays the next one. 62: none is on time. 68. */
+uint32_t bpfh_votes_next(bpfh_handle *votes, uint8_t *message, size_t message_length, uint64_t *told);
 
 /* Makes a client's session, whose signer has used the leaves below leaf, and whose first request has the time behind time: 0 for
  * a new client. What client held is freed first. 21, 52, 56 to 60, 64: it holds nothing. */

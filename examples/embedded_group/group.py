@@ -6,6 +6,7 @@ replicas that aren't faulty are compared.
     silent     replica 3 says nothing
     primary    replica 0, the first primary, says nothing, so that the others go on to the next view
     liar       replica 3 is two, of one seed: one for replica 0 and client 100, one for the others
+    restart    replicas 1 and 3 end again and again, and begin anew with what they have written down
 
     tools/c-library && BPF_HOST_REPLICA=out/c-library/libbpf_host_replica.so PYTHONPATH=examples/python \\
         python3 examples/embedded_group/group.py [CALLS [SEED]]"""
@@ -14,8 +15,10 @@ from __future__ import annotations
 import pathlib
 import random
 import sys
+from collections.abc import Callable
+from functools import partial
 
-from bpf_host_replica import Client, Configuration, GroupError, Message, Replica, Seed, To
+from bpf_host_replica import Client, Configuration, GroupError, Message, Replica, Seed, To, Votes
 
 COUNTER = pathlib.Path(__file__).resolve().parents[1] / "procedures/counter.hex"
 REPLICAS, CLIENTS = range(4), (100, 101)
@@ -33,22 +36,70 @@ def argument(number: int) -> bytes:
     return number.to_bytes(8, "little")
 
 
-class Honest:
-    """A replica that is one."""
+def step(replica: Replica, message: bytes | None) -> list[Message]:
+    """What a replica gives for a message, or for a timeout."""
+    return replica.timeout() if message is None else replica.take(message)
 
-    def __init__(self, replicas: list[Replica]):
-        self.replicas = replicas
+
+class Honest:
+    """A replica that is one, with the votes that came early for it."""
+
+    is_faulty = False
+
+    def __init__(self, make: Callable[[], Replica], votes: Votes):
+        self.replicas, self.votes = [make()], votes
 
     def take(self, sender: int, message: bytes) -> list[tuple[int | None, Message]]:
         """What it gives for a message of this sender, and to whom alone of those that it is for."""
-        return [(None, output) for output in self.replicas[0].take(message)]
+        if self.votes.hold(message):
+            return []
+        outputs = self._step(message)
+        while vote := self.votes.next():
+            outputs = outputs + self._step(vote)
+        return [(None, output) for output in outputs]
 
     def timeout(self) -> list[tuple[int | None, Message]]:
-        return [(None, output) for output in self.replicas[0].timeout()]
+        return [(None, output) for output in self._step(None)]
+
+    def _step(self, message: bytes | None) -> list[Message]:
+        outputs = step(self.replicas[0], message)
+        self.votes.move(self.replicas[0].standing())
+        return outputs
+
+
+class Restarted(Honest):
+    """One that ends at each hundredth message or timeout, when it has written that down and not yet taken it, and begins anew: with the
+    seed and the leaf that it had, it takes all that was written down. What it gave before it gives again, byte for byte, signatures
+    included, so nothing that it said is contradicted and no leaf signs a second message."""
+
+    INTERVAL = 100
+
+    def __init__(self, make: Callable[[], Replica], votes: Votes):
+        super().__init__(make, votes)
+        self.make = make
+        self.journal: list[bytes | None] = []  # messages; None for a timeout
+        self.given: list[list[Message]] = []
+
+    def _step(self, message: bytes | None) -> list[Message]:
+        self.journal.append(message)
+        if len(self.journal) % self.INTERVAL == 0:
+            self._begin_again()
+        else:
+            self.given.append(step(self.replicas[0], message))
+        self.votes.move(self.replicas[0].standing())
+        return self.given[-1]
+
+    def _begin_again(self) -> None:
+        replica = self.make()
+        given = [step(replica, message) for message in self.journal]
+        assert given[:-1] == self.given, "a replica gave something else as it took the same again"
+        self.replicas, self.given = [replica], given
 
 
 class Silent(Honest):
     """One that takes everything and says nothing."""
+
+    is_faulty = True
 
     def take(self, sender: int, message: bytes) -> list[tuple[int | None, Message]]:
         return []
@@ -60,6 +111,11 @@ class Silent(Honest):
 class Liar(Honest):
     """Two replicas of one seed. What replica 0 and client 100 say is heard by the first, which speaks to them; what the others say by
     the second, which speaks to the others: leaves sign twice, and votes for one number differ."""
+
+    is_faulty = True
+
+    def __init__(self, make: Callable[[], Replica], votes: Votes):
+        self.replicas = [make(), make()]
 
     def take(self, sender: int, message: bytes) -> list[tuple[int | None, Message]]:
         half = self._half(sender)
@@ -81,11 +137,8 @@ class Group:
         seeds = {who: seed_of(who) for who in (*REPLICAS, *CLIENTS)}
         clients = {who: (who - 99, seeds[who].public_key()) for who in CLIENTS}
         config = Configuration(1, 8, [seeds[who].public_key() for who in REPLICAS], clients)
-        self.faulty = set(kinds)
-        self.members = {
-            who: kinds.get(who, Honest)([Replica(config, who, seeds[who]) for _ in range(2 if kinds.get(who) is Liar else 1)])
-            for who in REPLICAS
-        }
+        self.faulty = {who for who, kind in kinds.items() if kind.is_faulty}
+        self.members = {who: kinds.get(who, Honest)(partial(Replica, config, who, seeds[who]), Votes(config)) for who in REPLICAS}
         self.clients = {who: Client(config, who, seeds[who]) for who in CLIENTS}
         self.on_the_way: list[tuple[int, int, bytes]] = []  # from, to, bytes
         self.timeouts = self.lost = 0
@@ -182,7 +235,8 @@ def run(name: str, kinds: dict[int, type[Honest]], loss: float, calls: int, seed
 def main() -> int:
     calls = int(sys.argv[1]) if len(sys.argv) > 1 else 300
     seed = int(sys.argv[2]) if len(sys.argv) > 2 else 1
-    ways = {"loss": ({}, 0.05), "silent": ({3: Silent}, 0.02), "primary": ({0: Silent}, 0.02), "liar": ({3: Liar}, 0.02)}
+    ways = {"loss": ({}, 0.05), "silent": ({3: Silent}, 0.02), "primary": ({0: Silent}, 0.02), "liar": ({3: Liar}, 0.02),
+            "restart": ({1: Restarted, 3: Restarted}, 0.05)}
     same = [run(name, kinds, loss, calls, seed) for name, (kinds, loss) in ways.items()]
     return 0 if all(same) else 1
 

@@ -69,6 +69,7 @@ class Status(enum.IntEnum):
     OPERATION_TOO_LONG = 65
     NO_REQUEST = 66
     NO_REPLY = 67
+    NO_VOTES = 68
     BAD_F = 71
     WRONG_REPLICA_COUNT = 72
     BAD_INTERVAL = 73
@@ -225,11 +226,16 @@ def _load() -> ctypes.CDLL:
         "replica_new": [handle, byte, *seed, number, handle],
         "replica_take": [handle, data, size],
         "replica_timeout": [handle],
+        "replica_waits": [handle, data, size, ctypes.POINTER(number)],
         "replica_output": [handle, number, data, size, ctypes.POINTER(_Sent)],
         "replica_done": [handle, number, data, size, ctypes.POINTER(_DoneItem)],
         "open": [handle, data, size, ctypes.POINTER(_SignedBy)],
         "replica_standing": [handle, ctypes.POINTER(_Standing)],
         "replica_state": [handle, data, size, ctypes.POINTER(long)],
+        "votes_new": [handle, handle],
+        "votes_hold": [handle, data, size, ctypes.POINTER(number)],
+        "votes_move": [handle, long, number],
+        "votes_next": [handle, data, size, ctypes.POINTER(long)],
         "client_new": [handle, number, *seed, number, long, handle],
         "client_request": [handle, data, size],
         "client_message": [handle, data, size, ctypes.POINTER(long)],
@@ -304,6 +310,13 @@ class Replica(_Held):
         _check(_library.bpfh_replica_timeout(self._at))
         return self._outputs()
 
+    def waits_for(self, message: bytes) -> bool:
+        """Whether it waits for a message: whether that is a request which its state hasn't answered. It is given timeouts while it waits
+        and executes nothing. Raises `GroupError` for bytes that its configuration doesn't take."""
+        waits = ctypes.c_uint32()
+        _check(_library.bpfh_replica_waits(self._at, message, len(message), ctypes.byref(waits)))
+        return bool(waits.value)
+
     def done(self) -> list[Executed | Installed]:
         """What its last step did to its state: nothing before the first one, and once it has halted."""
         items: list[Executed | Installed] = []
@@ -344,6 +357,46 @@ class Replica(_Held):
             _check(status)
             sent = self._sent
             outputs.append(Message(To(sent.kind), sent.id, ctypes.string_at(self._buffer, sent.length)))
+
+
+class Votes(_Held):
+    """The votes that come early for one replica, which would drop them for good: each message goes through `hold` first.
+
+        if not votes.hold(message):
+            outputs = replica.take(message)
+            votes.move(replica.standing())
+            while vote := votes.next():
+                outputs += replica.take(vote)
+                votes.move(replica.standing())
+    """
+
+    def __init__(self, config: Configuration) -> None:
+        super().__init__()
+        _check(_library.bpfh_votes_new(config._at, self._at))
+
+    def hold(self, message: bytes) -> bool:
+        """Keeps a vote that comes early, and says whether it does; else the replica is to take the message now. Raises `GroupError` for
+        bytes that the configuration doesn't take, which change nothing."""
+        early = ctypes.c_uint32()
+        _check(_library.bpfh_votes_hold(self._at, message, len(message), ctypes.byref(early)))
+        return bool(early.value)
+
+    def move(self, standing: Standing) -> None:
+        """The replica stands so, after a step."""
+        _check(_library.bpfh_votes_move(self._at, standing.low, standing.view))
+
+    def next(self) -> bytes | None:
+        """The first vote that is on time, which is given up; none where there is none."""
+        told, room = ctypes.c_uint64(), ROOM
+        while True:
+            buffer = ctypes.create_string_buffer(room)
+            status = _library.bpfh_votes_next(self._at, buffer, room, ctypes.byref(told))
+            if status == Status.NO_ENTRY:
+                return None
+            if status != Status.BUFFER_TOO_SHORT:
+                _check(status)
+                return buffer.raw[: told.value]
+            room = told.value
 
 
 class Client(_Held):

@@ -73,6 +73,16 @@ static bool drawn_up(bpfh_handle *draft, bpfh_handle *config) {
   return false;
 }
 
+static void keep(bpfh_handle *config, bpfh_handle *replica, uint64_t length) {
+  bpfh_handle votes = {0};
+  uint32_t early = 7;
+  if (went("votes", bpfh_votes_new(config, &votes)) && !went("a request is offered", bpfh_votes_hold(&votes, message, length, &early))) {
+    holds("nothing is told", early == 7);
+  }
+  if (!went("whether it waits", bpfh_replica_waits(replica, message, length, &early))) holds("nothing is told of that", early == 7 || early == 0);
+  bpfh_release(&votes);
+}
+
 static void step(bpfh_handle *config, bpfh_handle *replica, bpfh_handle *client) {
   uint64_t told = 0;
   bpfh_sent sent = {0};
@@ -80,6 +90,7 @@ static void step(bpfh_handle *config, bpfh_handle *replica, bpfh_handle *client)
   if (!went("a request", bpfh_client_request(client, message, 5))) return;
   if (!went("its bytes", bpfh_client_message(client, message, sizeof message, &told))) return;
   went("who asks", bpfh_open(config, message, told, &(bpfh_signed_by){0}));
+  keep(config, replica, told);
   went("standing", bpfh_replica_standing(replica, &before));
   uint32_t status = bpfh_replica_take(replica, message, told);
   went("the request", status);

@@ -99,7 +99,39 @@ static void opens(bpfh_handle *config, bpfh_handle *client, uint64_t length) {
   holds("client 100 signed them", signed_by.role == 2 && signed_by.id == 100);
 }
 
+static void keeps_votes(bpfh_handle *config, bpfh_handle *replica, bpfh_handle *nothing, uint64_t length) {
+  bpfh_handle votes = {0};
+  uint32_t early = 7;
+  uint64_t told = 7;
+  is("votes of no configuration", bpfh_votes_new(nothing, &votes), BPFH_GROUP_NO_CONFIG);
+  is("of a replica", bpfh_votes_new(replica, &votes), BPFH_GROUP_NO_CONFIG);
+  is("no votes", bpfh_votes_hold(&votes, message, length, &early), BPFH_GROUP_NO_VOTES);
+  is("none to move", bpfh_votes_move(&votes, 0, 0), BPFH_GROUP_NO_VOTES);
+  is("none to hand in", bpfh_votes_next(&votes, message, 0, &told), BPFH_GROUP_NO_VOTES);
+  is("votes", bpfh_votes_new(config, &votes), BPFH_GROUP_DONE);
+  is("votes twice", bpfh_votes_new(config, &votes), BPFH_GROUP_DONE);
+  is("a replica keeps none", bpfh_votes_hold(replica, message, length, &early), BPFH_GROUP_NO_VOTES);
+  is("votes don't step", bpfh_replica_take(&votes, message, length), BPFH_GROUP_NO_REPLICA);
+  is("9 MB to keep", bpfh_votes_hold(&votes, large, sizeof large, &early), BPFH_GROUP_MESSAGE_TOO_LONG);
+  holds("nothing is told", early == 7);
+  is("a request", bpfh_votes_hold(&votes, message, length, &early), BPFH_GROUP_DONE);
+  holds("is for now", early == 0);
+  is("any mark", bpfh_votes_move(&votes, UINT64_MAX, UINT32_MAX), BPFH_GROUP_DONE);
+  is("none is on time", bpfh_votes_next(&votes, message, 0, &told), BPFH_GROUP_NO_ENTRY);
+  bpfh_release(&votes);
+}
+
+static void waits(bpfh_handle *replica, bpfh_handle *client, uint64_t length) {
+  uint32_t so = 7;
+  is("a client waits for nothing", bpfh_replica_waits(client, message, length, &so), BPFH_GROUP_NO_REPLICA);
+  is("9 MB to wait for", bpfh_replica_waits(replica, large, sizeof large, &so), BPFH_GROUP_MESSAGE_TOO_LONG);
+  holds("nothing is told of it", so == 7);
+  is("a request to wait for", bpfh_replica_waits(replica, message, length, &so), BPFH_GROUP_DONE);
+  holds("it isn't answered", so == 1);
+}
+
 static void steps(bpfh_handle *config, bpfh_handle *replica, bpfh_handle *client) {
+  bpfh_handle nothing = {0};
   bpfh_sent sent = {0};
   bpfh_standing standing = {0};
   uint64_t told = 0;
@@ -120,6 +152,8 @@ static void steps(bpfh_handle *config, bpfh_handle *replica, bpfh_handle *client
   is("a byte short", bpfh_client_message(client, message, length - 1, &told), BPFH_GROUP_BUFFER_TOO_SHORT);
   is("room", bpfh_client_message(client, message, length, &told), BPFH_GROUP_DONE);
   opens(config, client, length);
+  keeps_votes(config, replica, &nothing, length);
+  waits(replica, client, length);
   message[length - 1] ^= 1;
   is("a bit flipped", bpfh_replica_take(replica, message, length), BPFH_GROUP_BAD_SIGNATURE);
   message[length - 1] ^= 1;

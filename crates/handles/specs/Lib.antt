@@ -1,2 +1,14 @@
 pub mod Slots
 pub mod Told
+pub use Rattle.members.specs.Clients
+pub use Rattle.members.specs.Dest
+pub use Rattle.members.specs.Done
+pub use Rattle.members.specs.Facts
+pub use Rattle.members.specs.Halt
+pub use Rattle.members.specs.Halts
+pub use Rattle.members.specs.Members
+pub use Rattle.members.specs.Output
+pub use Rattle.members.specs.Steps
+pub use Rattle.members.specs.declared.fault.JoinFault
+pub use Rattle.members.specs.declared.fault.StepFault
+pub use Rattle.members.specs.Votes

@@ -2,11 +2,12 @@
 
 use bpf_verifier::Procedure;
 use host_types::Config;
-use members::{Client, Draft, Member};
+use members::{Client, Draft, Member, Votes};
 use std::sync::Arc;
 use tenant_maps::TenantMap;
 
-/// A procedure that was accepted, a map, a configuration and what is to be one, a replica, or a client's session.
+/// A procedure that was accepted, a map, a configuration and what is to be one, a replica, a client's session, or votes that
+/// came early.
 #[derive(Drop)]
 pub enum Held {
     Procedure(Procedure),
@@ -15,4 +16,5 @@ pub enum Held {
     Config(Arc<Config>),
     Member(Member),
     Client(Client),
+    Votes(Votes),
 }

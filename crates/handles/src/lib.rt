@@ -10,4 +10,7 @@ mod slot;
 pub use front::{BUFFER_TOO_SHORT, DONE, put_front, tell};
 pub use handle::Handle;
 pub use held::Held;
+pub use members::{
+    Client, Dest, Done, Draft, Halt, JoinFault, Member, Output, Row, StepFault, Votes,
+};
 pub use slot::Slot;

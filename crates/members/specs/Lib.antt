@@ -1,2 +1,10 @@
 pub mod Members
 pub mod Clients
+pub mod Votes
+pub use Rattle.replica_core.specs.Facts
+pub use Rattle.replica_core.specs.Halts
+pub use Rattle.replica_core.specs.Steps
+pub use Rattle.replica_core.specs.declared.halt.Halt
+pub use Rattle.replica_core.specs.declared.row.Dest
+pub use Rattle.replica_core.specs.declared.row.Done
+pub use Rattle.replica_core.specs.declared.row.Output

@@ -10,8 +10,11 @@ mod client;
 mod draft;
 mod fault;
 mod member;
+mod votes;
 
 pub use client::Client;
 pub use draft::Draft;
 pub use fault::{JoinFault, StepFault};
 pub use member::Member;
+pub use replica_core::{Dest, Done, Halt, Output, Row};
+pub use votes::Votes;

@@ -7,14 +7,15 @@ ghost use Rattle.pbft_codec.specs.declared.signed.Role.TheVariants as roles;
 ghost use Rattle.replica_core.specs.Steps.{Steps};
 ghost use Rattle.replica_core.specs.declared.row.Input.TheVariants as inputs;
 ghost use Rattle.seal.specs.Signers.{key_of};
-ghost use Rattle.members.specs.Members.{MemberFacts, Takes, TimesOut, first_member};
+ghost use Rattle.members.specs.Members.{MemberFacts, Takes, TimesOut, Waits, first_member, is_waited_for};
 ghost use Rattle.members.specs.declared.fault.JoinFault.TheVariants.{Memory, NotListed, OtherKey};
 
 use crate::fault::{JoinFault, StepFault};
-use host_types::{Config, ReplicaId};
+use host_types::{ClientId, Config, ReplicaId};
 use lms_tree::Signer;
+use pbft_codec::Body;
 use replica_core::{Halt, Replica, Row};
-use seal::{Checked, open};
+use seal::{Checked, SealFault, open};
 use std::alloc::Global;
 use std::marker::Model;
 use std::sync::Arc;
@@ -100,6 +101,30 @@ impl Member {
         self.row = None;
         self.row = Some(self.replica.timeout()?);
         Ok(())
+    }
+
+    /// Opens bytes, and says whether the replica waits for them: whether they are a request that its state hasn't answered. The
+    /// error is that they aren't opened, or that memory ran out.
+    pub fn waits_for(&self, bytes: &[u8]) -> Result<bool, SealFault>
+        ensures { Waits self.now bytes.now result }
+    {
+        let message = open(self.alloc, &self.config, bytes)?;
+        Ok(self.is_unanswered(&message))
+    }
+
+    fn is_unanswered(&self, message: &Checked) -> bool
+        ensures { result ≡ is_waited_for self.now.replica.core message.now.message }
+    {
+        let Body::Request(request) = message.body() else {
+            return false;
+        };
+        let Some(state) = self.replica.state() else {
+            return false;
+        };
+        match state.last_time(ClientId(message.signer().1)) {
+            Some(time) => time < request.time,
+            None => true,
+        }
     }
 
     /// What the last step gave: none before the first one, and once the replica has halted.

@@ -1,17 +1,11 @@
 //! The exports that have a client ask and hear, and that tell which reply it accepts.
 
-ghost use Rattle.std.specs.Prelude.{◌≡◌, Some};
-ghost use Rattle.replica_c.specs.Calling.{AskedIn, HeardIn, ReplyIn, ReplyTold, RequestIn, RequestTold};
-ghost use Rattle.replica_c.specs.Inside.{client_in, client_of};
-ghost use Rattle.replica_c.specs.Statuses.{number_of};
+ghost use Rattle.std.specs.Prelude.{◌≡◌};
+ghost use Rattle.member_calls.specs.Calling.{AskedIn, HeardIn, ReplyIn, RequestIn};
+ghost use Rattle.member_calls.specs.Inside.{client_in};
 
-use crate::status::Status;
-use handles::{Handle, Held, tell};
-use host_types::{Bytes, Reply};
+use member_calls::{Accepted, Handle, Status, ask, hear, last_message, reply};
 use std::alloc::Global;
-
-/// The most bytes of an operation.
-const MAX_OPERATION: usize = 1_048_576;
 
 /// Makes the signed request of an operation, which is then the session's open one; what was open is given up. Where the
 /// signer has no leaf left the status is 301, and nothing is changed. Where memory runs out it is 21, and nothing is changed,
@@ -61,17 +55,6 @@ pub extern "C" fn bpfh_client_hear(alloc: Global, client: &mut Handle, bytes: &[
     status.number()
 }
 
-/// The reply that is accepted.
-#[repr(C)]
-pub struct Accepted {
-    /// The time of the request.
-    pub time: u64,
-    /// The number at which it was executed.
-    pub number: u64,
-    /// How many bytes the result has.
-    pub length: u64,
-}
-
 /// Writes the result of the reply to the last request that is accepted. Where none is yet, the status is 67. Where the buffer
 /// is too short only `accepted` is written.
 #[unsafe(no_mangle)]
@@ -90,66 +73,4 @@ pub extern "C" fn bpfh_client_accepted(
     let status = reply(&held, answer, accepted);
     client.put(held);
     status
-}
-
-fn ask(alloc: Global, held: &mut Held, operation: &[u8]) -> Status
-    ensures { AskedIn (Some held.old) operation.now (number_of result) (Some held.new) }
-{
-    let Held::Client(client) = held else {
-        return Status::NoClient;
-    };
-    if operation.len() > MAX_OPERATION {
-        return Status::OperationTooLong;
-    }
-    let Ok(operation) = Vec::from_slice(alloc, operation) else {
-        return Status::Memory;
-    };
-    match client.request(Bytes::from_vec(operation)) {
-        Ok(()) => Status::Done,
-        Err(fault) => Status::Session(fault),
-    }
-}
-
-fn last_message(held: &Held, message: &mut [u8], told: &mut u64) -> u32
-    ensures { RequestIn (client_of held.now) result told.new message.old message.new }
-{
-    let Held::Client(client) = held else {
-        return Status::NoClient.number();
-    };
-    match client.session().last_request() {
-        Some(request) => tell(request.bytes(), message, told),
-        None => Status::NoRequest.number(),
-    }
-}
-
-fn hear(held: &mut Held, bytes: &[u8]) -> Status
-    ensures { HeardIn (Some held.old) bytes.now (number_of result) (Some held.new) }
-{
-    let Held::Client(client) = held else {
-        return Status::NoClient;
-    };
-    match client.hear(bytes) {
-        Ok(()) => Status::Done,
-        Err(fault) => Status::from(fault),
-    }
-}
-
-fn reply(held: &Held, buffer: &mut [u8], accepted: &mut Accepted) -> u32
-    ensures { ReplyIn (client_of held.now) result accepted.new.time accepted.new.number accepted.new.length buffer.old buffer.new }
-{
-    let Held::Client(client) = held else {
-        return Status::NoClient.number();
-    };
-    match client.session().accepted() {
-        Some(reply) => tell_reply(reply, buffer, accepted),
-        None => Status::NoReply.number(),
-    }
-}
-
-fn tell_reply(reply: &Reply, buffer: &mut [u8], accepted: &mut Accepted) -> u32
-    ensures { ReplyTold (Some reply.now) result accepted.new.time accepted.new.number accepted.new.length buffer.old buffer.new }
-{
-    accepted.time = reply.time;
-    accepted.number = reply.number.0;
-    tell(reply.result.as_slice(), buffer, &mut accepted.length)
 }

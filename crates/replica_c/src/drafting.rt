@@ -1,19 +1,13 @@
 //! The exports that write down a configuration.
 
-ghost use Rattle.std.specs.Prelude.{◌≡◌, ◌≢◌, ◌⊎◌, ◌<◌, [], Some, None, MatchResult};
-ghost use Rattle.replica_c.specs.Inside.{config_in, config_of, draft_in, draft_of};
-ghost use Rattle.replica_c.specs.Joining.{client_status, finish_status, replica_status, with_client, with_replica};
-ghost use Rattle.replica_c.specs.Keys.{key_in};
-ghost use Rattle.replica_c.specs.Statuses.{number_of};
-ghost use Rattle.replica_c.specs.declared.status.Status.TheVariants as statuses;
+ghost use Rattle.std.specs.Prelude.{◌≡◌, ◌⊎◌, ◌<◌, [], Some, None};
+ghost use Rattle.member_calls.specs.Inside.{config_in, draft_in};
+ghost use Rattle.member_calls.specs.Joining.{client_status, finish_status, replica_status, with_client, with_replica};
+ghost use Rattle.member_calls.specs.Keys.{key_in};
+ghost use Rattle.member_calls.specs.Statuses.{number_of};
 
-use crate::keys::key_in;
-use crate::status::Status;
-use handles::{Handle, Held};
-use host_types::{ClientEntry, ClientId, TenantId};
-use members::Draft;
+use member_calls::{Handle, Status, finished, list_client, list_replica, new_draft};
 use std::alloc::Global;
-use std::sync::Arc;
 
 /// Begins a configuration for `f` faulty replicas, with a checkpoint at every `k`-th number. The handle's former content is
 /// freed.
@@ -23,12 +17,12 @@ pub extern "C" fn bpfh_draft_new(alloc: Global, f: u8, k: u8, draft: &mut Handle
         ⊎ ((result ≡ 21) × (draft.new.slot.inside ≡ None)) }
 {
     draft.clear(alloc);
-    match Box::new(alloc, Held::Draft(Draft::new(alloc, f, k))) {
+    match new_draft(alloc, f, k) {
         Ok(boxed) => {
             draft.put(boxed);
             Status::Done.number()
         }
-        Err(_) => Status::Memory.number(),
+        Err(status) => status.number(),
     }
 }
 
@@ -89,65 +83,5 @@ pub extern "C" fn bpfh_config(alloc: Global, draft: &mut Handle, config: &mut Ha
             Status::Done.number()
         }
         Err(status) => status.number(),
-    }
-}
-
-fn list_replica(held: &mut Held, key: &[u8]) -> Status
-    ensures status { (result ≡ statuses.Memory) ⊎ (result ≡ replica_status (draft_of held.old) key.now) }
-    ensures after { result ≡ statuses.Done → draft_of held.new ≡ with_replica (draft_of held.old) (key_in key.now) }
-    ensures kept { (result ≡ statuses.Done) ⊎ (held.new ≡ held.old) }
-{
-    let Held::Draft(draft) = held else {
-        return Status::NoDraft;
-    };
-    let Some(key) = key_in(key) else {
-        return Status::NoKey;
-    };
-    match draft.add_replica(key) {
-        Ok(()) => Status::Done,
-        Err(_) => Status::Memory,
-    }
-}
-
-fn list_client(held: &mut Held, client: u32, tenant: u32, key: &[u8]) -> Status
-    ensures status { (result ≡ statuses.Memory) ⊎ (result ≡ client_status (draft_of held.old) key.now) }
-    ensures after { result ≡ statuses.Done → draft_of held.new ≡ with_client (draft_of held.old) client tenant (key_in key.now) }
-    ensures kept { (result ≡ statuses.Done) ⊎ (held.new ≡ held.old) }
-{
-    let Held::Draft(draft) = held else {
-        return Status::NoDraft;
-    };
-    let Some(key) = key_in(key) else {
-        return Status::NoKey;
-    };
-    let entry = ClientEntry {
-        id: ClientId(client),
-        tenant: TenantId(tenant),
-        key,
-    };
-    match draft.add_client(entry) {
-        Ok(()) => Status::Done,
-        Err(_) => Status::Memory,
-    }
-}
-
-/// The configuration that a draft is, in a box.
-fn finished(alloc: Global, held: Held) -> Result<Box<Held>, Status>
-    ensures { MatchResult result (λ boxed. (finish_status (draft_of held) ≡ statuses.Done) × (config_of boxed.value ≡ draft_of held))
-        (λ status. (status ≡ statuses.Memory) ⊎ ((status ≡ finish_status (draft_of held)) × (status ≢ statuses.Done))) }
-{
-    let Held::Draft(draft) = held else {
-        return Err(Status::NoDraft);
-    };
-    let config = match draft.finish() {
-        Ok(config) => config,
-        Err(fault) => return Err(Status::Config(fault)),
-    };
-    let Ok(config) = Arc::new(alloc, config) else {
-        return Err(Status::Memory);
-    };
-    match Box::new(alloc, Held::Config(config)) {
-        Ok(boxed) => Ok(boxed),
-        Err(_) => Err(Status::Memory),
     }
 }

@@ -1,28 +1,16 @@
 //! The exports that make members of a configuration.
 
-ghost use Rattle.std.specs.Prelude.{◌≡◌, ◌≢◌, ◌⊎◌, ◌<◌, ◌≤◌, ◌^◌, Some, None, Ok, MatchResult};
-ghost use Rattle.host_types.specs.Configuration.{Configuration};
-ghost use Rattle.lms_tree.specs.SigningState.{SigningState};
-ghost use Rattle.client_session.specs.Sessions.{session_behind};
-ghost use Rattle.handles.specs.declared.held.Held.TheVariants as kinds;
-ghost use Rattle.members.specs.Members.{first_member};
-ghost use Rattle.pbft_codec.specs.declared.signed.Role.TheVariants as roles;
-ghost use Rattle.seal.specs.Signers.{key_of};
-ghost use Rattle.replica_c.specs.Inside.{client_in, config_in, config_of, member_in};
-ghost use Rattle.replica_c.specs.Joining.{JoinsIn};
-ghost use Rattle.replica_c.specs.Keys.{signer_in};
-ghost use Rattle.replica_c.specs.Statuses.{number_of};
-ghost use Rattle.replica_c.specs.declared.status.Status.{Status as StatusSaid};
-ghost use Rattle.replica_c.specs.declared.status.Status.TheVariants as statuses;
+ghost use Rattle.std.specs.Prelude.{◌≡◌, ◌⊎◌, ◌<◌, ◌≤◌, ◌^◌, Some, None, Ok};
+ghost use Rattle.member_calls.specs.Inside.{client_in, config_in, member_in};
+ghost use Rattle.member_calls.specs.Joining.{JoinsIn, client_key_of, replica_key_of};
+ghost use Rattle.member_calls.specs.Keys.{signer_in};
+ghost use Rattle.member_calls.specs.Statuses.{number_of};
+ghost use Rattle.member_calls.specs.Words.{Configuration, SigningState, first_member, session_behind};
+ghost use Rattle.member_calls.specs.declared.status.Status.{Status as StatusSaid};
+ghost use Rattle.member_calls.specs.declared.status.Status.TheVariants as statuses;
 
-use crate::keys::signer_of;
-use crate::status::Status;
-use handles::{Handle, Held};
-use host_types::{ClientId, Config, ReplicaId};
-use lms_tree::Signer;
-use members::{Client, Member};
+use member_calls::{ClientId, Handle, ReplicaId, Status, boxed_client, boxed_member};
 use std::alloc::Global;
-use std::sync::Arc;
 
 /// The greatest time behind which a session goes on.
 const MAX_TIME: u64 = 1 << 63;
@@ -42,7 +30,7 @@ pub extern "C" fn bpfh_replica_new(
     replica: &mut Handle,
 ) -> u32
     ensures status { (result ≡ 21) ⊎ ((status : StatusSaid) × (result ≡ number_of status)
-        × JoinsIn (λ c. key_of c roles.Replica id) (config_in config.old.slot.inside) (signer_in seed.now top bottom leaf) status) }
+        × JoinsIn (replica_key_of id) (config_in config.old.slot.inside) (signer_in seed.now top bottom leaf) status) }
     ensures inside { (c : Configuration) → (signer : SigningState) → config_in config.old.slot.inside ≡ Some c
         → signer_in seed.now top bottom leaf ≡ Ok signer → result ≡ 0
         → member_in replica.new.slot.inside ≡ Some (first_member c id signer) }
@@ -72,7 +60,7 @@ fn join_replica(
     leaf: u32,
     replica: &mut Handle,
 ) -> Status
-    ensures status { (result ≡ statuses.Memory) ⊎ JoinsIn (λ c. key_of c roles.Replica id.0) (config_in config.old.slot.inside)
+    ensures status { (result ≡ statuses.Memory) ⊎ JoinsIn (replica_key_of id.0) (config_in config.old.slot.inside)
         (signer_in seed.now top bottom leaf) result }
     ensures inside { (c : Configuration) → (signer : SigningState) → config_in config.old.slot.inside ≡ Some c
         → signer_in seed.now top bottom leaf ≡ Ok signer → result ≡ statuses.Done
@@ -95,33 +83,6 @@ fn join_replica(
     }
 }
 
-fn boxed_member(
-    alloc: Global,
-    held: &Held,
-    id: ReplicaId,
-    seed: &[u8],
-    top: u8,
-    bottom: u8,
-    leaf: u32,
-) -> Result<Box<Held>, Status>
-    ensures { MatchResult result
-        (λ boxed. JoinsIn (λ c. key_of c roles.Replica id.0) (config_of held.now) (signer_in seed.now top bottom leaf) statuses.Done
-        × ((c : Configuration) → (signer : SigningState) → config_of held.now ≡ Some c → signer_in seed.now top bottom leaf ≡ Ok signer
-        → boxed.value ≡ kinds.Member (first_member c id.0 signer)))
-        (λ status. (status ≡ statuses.Memory) ⊎ ((status ≢ statuses.Done)
-        × JoinsIn (λ c. key_of c roles.Replica id.0) (config_of held.now) (signer_in seed.now top bottom leaf) status)) }
-{
-    let Held::Config(config) = held else {
-        return Err(Status::NoConfig);
-    };
-    let signer = signer_of(alloc, seed, top, bottom, leaf)?;
-    let member = Member::new(alloc, config, id, signer)?;
-    match Box::new(alloc, Held::Member(member)) {
-        Ok(boxed) => Ok(boxed),
-        Err(_) => Err(Status::Memory),
-    }
-}
-
 /// Makes a client's session whose first request has the time behind `time`, with the signer of a seed that has used the
 /// leaves below `leaf`. **No leaf from there on may have signed**, the client may not have asked with a later time, and one
 /// session at a time reads its replies. The handle's former content is freed; the session is inside where the status is 0,
@@ -139,7 +100,7 @@ pub extern "C" fn bpfh_client_new(
     client: &mut Handle,
 ) -> u32
     ensures status { (result ≡ 21) ⊎ ((result ≡ 64) × (2 ^ 63 < time)) ⊎ ((status : StatusSaid) × (result ≡ number_of status)
-        × JoinsIn (λ c. key_of c roles.Client id) (config_in config.old.slot.inside) (signer_in seed.now top bottom leaf) status) }
+        × JoinsIn (client_key_of id) (config_in config.old.slot.inside) (signer_in seed.now top bottom leaf) status) }
     ensures inside { (c : Configuration) → (signer : SigningState) → config_in config.old.slot.inside ≡ Some c
         → signer_in seed.now top bottom leaf ≡ Ok signer → result ≡ 0
         → client_in client.new.slot.inside ≡ Some (session_behind c (record { 0 = id }) signer time) }
@@ -177,7 +138,7 @@ fn join_client(
     client: &mut Handle,
 ) -> Status
     requires { time ≤ 2 ^ 63 }
-    ensures status { (result ≡ statuses.Memory) ⊎ JoinsIn (λ c. key_of c roles.Client id.0) (config_in config.old.slot.inside)
+    ensures status { (result ≡ statuses.Memory) ⊎ JoinsIn (client_key_of id.0) (config_in config.old.slot.inside)
         (signer_in seed.now top bottom leaf) result }
     ensures inside { (c : Configuration) → (signer : SigningState) → config_in config.old.slot.inside ≡ Some c
         → signer_in seed.now top bottom leaf ≡ Ok signer → result ≡ statuses.Done
@@ -197,34 +158,5 @@ fn join_client(
             Status::Done
         }
         Err(status) => status,
-    }
-}
-
-fn boxed_client(
-    alloc: Global,
-    held: &Held,
-    id: ClientId,
-    seed: &[u8],
-    top: u8,
-    bottom: u8,
-    leaf: u32,
-    time: u64,
-) -> Result<Box<Held>, Status>
-    requires { time ≤ 2 ^ 63 }
-    ensures { MatchResult result
-        (λ boxed. JoinsIn (λ c. key_of c roles.Client id.0) (config_of held.now) (signer_in seed.now top bottom leaf) statuses.Done
-        × ((c : Configuration) → (signer : SigningState) → config_of held.now ≡ Some c → signer_in seed.now top bottom leaf ≡ Ok signer
-        → boxed.value ≡ kinds.Client (session_behind c id signer time)))
-        (λ status. (status ≡ statuses.Memory) ⊎ ((status ≢ statuses.Done)
-        × JoinsIn (λ c. key_of c roles.Client id.0) (config_of held.now) (signer_in seed.now top bottom leaf) status)) }
-{
-    let Held::Config(config) = held else {
-        return Err(Status::NoConfig);
-    };
-    let signer = signer_of(alloc, seed, top, bottom, leaf)?;
-    let client = Client::new(alloc, config, id, signer, time)?;
-    match Box::new(alloc, Held::Client(client)) {
-        Ok(boxed) => Ok(boxed),
-        Err(_) => Err(Status::Memory),
     }
 }

@@ -11,12 +11,12 @@ mod joining;
 mod keys;
 mod opening;
 mod standing;
-mod status;
 mod stepping;
+mod voting;
 
 ghost use Rattle.std.specs.Prelude.{◌≡◌, None};
 
-use handles::Handle;
+use member_calls::Handle;
 use std::alloc::Global;
 
 /// Frees what a handle holds. One that holds nothing stays as it is.

@@ -1,25 +1,11 @@
 //! The export that tells who signed bytes.
 
-ghost use Rattle.std.specs.Prelude.{◌≡◌, ◌⊎◌};
-ghost use Rattle.pbft_codec.specs.declared.signed.Role.{Role as RoleSaid};
-ghost use Rattle.replica_c.specs.Inside.{config_in, config_of};
-ghost use Rattle.replica_c.specs.Opened.{OpenedIn, role_number};
-ghost use Rattle.replica_c.specs.Statuses.{number_of};
+ghost use Rattle.std.specs.Prelude.{◌≡◌};
+ghost use Rattle.member_calls.specs.Inside.{config_in};
+ghost use Rattle.member_calls.specs.Opened.{OpenedIn};
 
-use crate::status::Status;
-use handles::{Handle, Held};
-use pbft_codec::Role;
-use seal::open;
+use member_calls::{Handle, SignedBy, Status, open_under};
 use std::alloc::Global;
-
-/// Who signed a message.
-#[repr(C)]
-pub struct SignedBy {
-    /// 1 for a replica, 2 for a client.
-    pub role: u32,
-    /// The id of the replica or the client.
-    pub id: u32,
-}
 
 /// Opens the bytes of a message under a configuration, and tells who signed it. It is written where the status is 0 alone: the
 /// bytes are a message then, all of whose parts have listed signers, who may say what they say, and valid signatures.
@@ -39,30 +25,4 @@ pub extern "C" fn bpfh_open(
     let status = open_under(alloc, &held, bytes, signed_by);
     config.put(held);
     status.number()
-}
-
-fn open_under(alloc: Global, held: &Held, bytes: &[u8], signed_by: &mut SignedBy) -> Status
-    ensures { OpenedIn (config_of held.now) bytes.now (number_of result) signed_by.old signed_by.new }
-{
-    let Held::Config(config) = held else {
-        return Status::NoConfig;
-    };
-    match open(alloc, config, bytes) {
-        Ok(message) => {
-            let (role, id) = message.signer();
-            signed_by.role = role_number(role);
-            signed_by.id = id;
-            Status::Done
-        }
-        Err(fault) => Status::from(fault),
-    }
-}
-
-fn role_number(role: Role) -> u32
-    ensures { result ≡ role_number role }
-{
-    match role {
-        Role::Replica => 1,
-        Role::Client => 2,
-    }
 }

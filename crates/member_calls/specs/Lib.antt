@@ -1,3 +1,4 @@
+pub mod Words
 pub mod Inside
 pub mod Keys
 pub mod Statuses
@@ -7,3 +8,4 @@ pub mod Doing
 pub mod Opened
 pub mod Calling
 pub mod Standing
+pub mod Voting

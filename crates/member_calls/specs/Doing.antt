@@ -1,13 +1,13 @@
 -- Statement: what the export answers that tells what a replica did to its state.
 use Rattle.std.specs.Prelude.{◌≡◌, ℕ, List, [], Option, Some, None, slice_get}
 use Rattle.handles.specs.Told.{AreTold}
-use Rattle.members.specs.Members.{MemberFacts}
-use Rattle.replica_core.specs.Facts.{RowFacts}
-use Rattle.replica_core.specs.declared.row.Done.{Done}
-use Rattle.replica_core.specs.declared.row.Done.TheVariants as dones
-use Rattle.replica_c.specs.Statuses.{number_of}
-use Rattle.replica_c.specs.declared.doing.DoneItem.{DoneItem}
-use Rattle.replica_c.specs.declared.status.Status.TheVariants.{NoReplica, NoRow, NoEntry}
+use Rattle.handles.specs.Members.{MemberFacts}
+use Rattle.handles.specs.Facts.{RowFacts}
+use Rattle.handles.specs.Done.{Done}
+use Rattle.handles.specs.Done.TheVariants as dones
+use Rattle.member_calls.specs.Statuses.{number_of}
+use Rattle.member_calls.specs.declared.doing.DoneItem.{DoneItem}
+use Rattle.member_calls.specs.declared.status.Status.TheVariants.{NoReplica, NoRow, NoEntry}
 
 -- A done item is told: its kind, its number, its digest, and the result of a request.
 abbrev pub DoneTold : Option Done → ℕ → DoneItem → List ℕ → List ℕ → Type 0

@@ -6,9 +6,11 @@ use Rattle.host_types.specs.declared.config.ConfigFault.{ConfigFault}
 use Rattle.host_types.specs.declared.key.PublicKey.{PublicKey}
 use Rattle.lms_tree.specs.Keys.{public_key_of_signer}
 use Rattle.lms_tree.specs.SigningState.{SigningState}
-use Rattle.replica_c.specs.Keys.{key_in}
-use Rattle.replica_c.specs.declared.status.Status.{Status}
-use Rattle.replica_c.specs.declared.status.Status.TheVariants.{Done, NoDraft, NoConfig, NoKey, NotListed, OtherKey, Config}
+use Rattle.pbft_codec.specs.declared.signed.Role.TheVariants as roles
+use Rattle.seal.specs.Signers.{key_of}
+use Rattle.member_calls.specs.Keys.{key_in}
+use Rattle.member_calls.specs.declared.status.Status.{Status}
+use Rattle.member_calls.specs.declared.status.Status.TheVariants.{Done, NoDraft, NoConfig, NoKey, NotListed, OtherKey, Config}
 
 abbrev key_status : Option PublicKey → Status
 key_status None = NoKey
@@ -42,6 +44,13 @@ finish_status None = NoDraft
 finish_status (Some draft) = config_status (fault_of draft)
 
 -- ---- members
+
+-- the key that is listed for a replica, and for a client
+abbrev pub replica_key_of : ℕ → Configuration → Option PublicKey
+replica_key_of id c = key_of c roles.Replica id
+
+abbrev pub client_key_of : ℕ → Configuration → Option PublicKey
+client_key_of id c = key_of c roles.Client id
 
 -- What is answered for a member of this configuration with a signer, whose listed key is this one: that it joins, or why not.
 abbrev pub Joins : Option PublicKey → SigningState → Status → Type 0

@@ -2,7 +2,8 @@
 use Rattle.std.specs.Prelude.{Option, Some, None, option_and_then}
 use Rattle.host_types.specs.Configuration.{Configuration}
 use Rattle.client_session.specs.Sessions.{SessionState}
-use Rattle.members.specs.Members.{MemberFacts}
+use Rattle.handles.specs.Members.{MemberFacts}
+use Rattle.handles.specs.Votes.{VotesFacts}
 use Rattle.handles.specs.declared.held.Held.{Held}
 use Rattle.handles.specs.declared.held.Held.TheVariants as held
 
@@ -26,6 +27,11 @@ abbrev pub client_of : Held → Option SessionState
 client_of (held.Client s) = Some s
 client_of _ = None
 
+-- The votes that came early.
+abbrev pub votes_of : Held → Option VotesFacts
+votes_of (held.Votes v) = Some v
+votes_of _ = None
+
 -- The same of what is inside a handle.
 abbrev pub draft_in : Option Held → Option Configuration
 draft_in inside = option_and_then draft_of inside
@@ -38,3 +44,6 @@ member_in inside = option_and_then member_of inside
 
 abbrev pub client_in : Option Held → Option SessionState
 client_in inside = option_and_then client_of inside
+
+abbrev pub votes_in : Option Held → Option VotesFacts
+votes_in inside = option_and_then votes_of inside

@@ -5,9 +5,9 @@ use Rattle.pbft_codec.specs.declared.signed.Role.{Role}
 use Rattle.pbft_codec.specs.declared.signed.Role.TheVariants as roles
 use Rattle.seal.specs.Opening.{CheckedMessage, opening}
 use Rattle.seal.specs.declared.fault.SealFault.{SealFault}
-use Rattle.replica_c.specs.Statuses.{number_of, of_opening}
-use Rattle.replica_c.specs.declared.opening.SignedBy.{SignedBy}
-use Rattle.replica_c.specs.declared.status.Status.TheVariants.{NoConfig, Memory}
+use Rattle.member_calls.specs.Statuses.{number_of, of_opening}
+use Rattle.member_calls.specs.declared.opening.SignedBy.{SignedBy}
+use Rattle.member_calls.specs.declared.status.Status.TheVariants.{NoConfig, Memory}
 
 abbrev pub role_number : Role → ℕ
 role_number roles.Replica = 1

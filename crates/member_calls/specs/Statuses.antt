@@ -1,19 +1,19 @@
 -- Statement: the numbers by which the library tells what became of a call.
-use Rattle.std.specs.Prelude.{ℕ, ◌+◌, Result, Ok, Err}
+use Rattle.std.specs.Prelude.{ℕ, ◌+◌, Bool, true, false, Result, Ok, Err}
 use Rattle.host_types.specs.Configuration as configurations
 use Rattle.codec_fields.specs.Faults as codec
 use Rattle.seal.specs.Faults as seals
 use Rattle.seal.specs.declared.fault.SealFault.{SealFault}
 use Rattle.seal.specs.declared.fault.SealFault.TheVariants as unopened
-use Rattle.replica_core.specs.Halts as halts
-use Rattle.replica_core.specs.declared.halt.Halt.{Halt}
+use Rattle.handles.specs.Halts as halts
+use Rattle.handles.specs.Halt.{Halt}
 use Rattle.client_session.specs.Faults as sessions
-use Rattle.members.specs.declared.fault.JoinFault.{JoinFault}
-use Rattle.members.specs.declared.fault.JoinFault.TheVariants as joins
-use Rattle.members.specs.declared.fault.StepFault.{StepFault}
-use Rattle.members.specs.declared.fault.StepFault.TheVariants as steps
-use Rattle.replica_c.specs.declared.status.Status.{Status}
-use Rattle.replica_c.specs.declared.status.Status.TheVariants.{Done, Memory, BufferTooShort, NoDraft, NoConfig, NoReplica, NoClient, NoKey, NoSeed, NoHeight, NoLeaf, NotListed, OtherKey, NoRow, NoEntry, NoState, NoTime, OperationTooLong, NoRequest, NoReply, Config, Codec, Unopened, Halted, Session}
+use Rattle.handles.specs.JoinFault.{JoinFault}
+use Rattle.handles.specs.JoinFault.TheVariants as joins
+use Rattle.handles.specs.StepFault.{StepFault}
+use Rattle.handles.specs.StepFault.TheVariants as steps
+use Rattle.member_calls.specs.declared.status.Status.{Status}
+use Rattle.member_calls.specs.declared.status.Status.TheVariants.{Done, Memory, BufferTooShort, NoDraft, NoConfig, NoReplica, NoClient, NoVotes, NoKey, NoSeed, NoHeight, NoLeaf, NotListed, OtherKey, NoRow, NoEntry, NoState, NoTime, OperationTooLong, NoRequest, NoReply, Config, Codec, Unopened, Halted, Session}
 
 abbrev pub number_of : Status → ℕ
 number_of Done = 0
@@ -23,6 +23,7 @@ number_of NoDraft = 51
 number_of NoConfig = 52
 number_of NoReplica = 53
 number_of NoClient = 54
+number_of NoVotes = 68
 number_of NoKey = 55
 number_of NoSeed = 56
 number_of NoHeight = 57
@@ -68,3 +69,16 @@ of_timeout (Err halt) = Halted halt
 abbrev pub of_hearing : Result (Unit {0}) SealFault → Status
 of_hearing (Ok done) = Done
 of_hearing (Err fault) = of_opening fault
+
+-- Whether something is so, as a status, and as what is told of it: 1 or 0, or nothing.
+abbrev pub bit : Bool → ℕ
+bit true = 1
+bit false = 0
+
+abbrev pub of_asking : Result Bool SealFault → Status
+of_asking (Ok so) = Done
+of_asking (Err fault) = of_opening fault
+
+abbrev pub told_of : Result Bool SealFault → ℕ → ℕ
+told_of (Ok so) before = bit so
+told_of (Err fault) before = before

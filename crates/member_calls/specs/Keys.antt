@@ -6,8 +6,8 @@ use Rattle.lms_tree.specs.Keys.{signer_at}
 use Rattle.lms_tree.specs.SigningState.{SigningState, total_of}
 use Rattle.lms_level.specs.declared.height.Height.{Height}
 use Rattle.lms_level.specs.declared.height.Height.TheVariants.{H5, H10}
-use Rattle.replica_c.specs.declared.status.Status.{Status}
-use Rattle.replica_c.specs.declared.status.Status.TheVariants.{NoSeed, NoHeight, NoLeaf}
+use Rattle.member_calls.specs.declared.status.Status.{Status}
+use Rattle.member_calls.specs.declared.status.Status.TheVariants.{NoSeed, NoHeight, NoLeaf}
 
 -- A public key is that of RFC 8554, section 6.1, of 60 bytes: the number of levels, 1 or 2, and the key of the top tree.
 abbrev pub one_level : List ℕ

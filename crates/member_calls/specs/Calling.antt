@@ -8,13 +8,13 @@ use Rattle.handles.specs.declared.held.Held.TheVariants as held
 use Rattle.handles.specs.Told.{AreTold}
 use Rattle.lms_tree.specs.Keys.{after_signing, leaf_count}
 use Rattle.lms_tree.specs.SigningState.{SigningState}
-use Rattle.members.specs.Clients.{Hears}
+use Rattle.handles.specs.Clients.{Hears}
 use Rattle.pbft_codec.specs.Encoding.{encoding}
 use Rattle.pbft_codec.specs.declared.body.Body.{Body}
 use Rattle.pbft_codec.specs.declared.signed.Signed.{Signed}
 use Rattle.seal.specs.declared.fault.SealFault.{SealFault}
-use Rattle.replica_c.specs.Statuses.{number_of, of_hearing}
-use Rattle.replica_c.specs.declared.status.Status.TheVariants.{Done, Memory, NoClient, NoRequest, NoReply, OperationTooLong, Session}
+use Rattle.member_calls.specs.Statuses.{number_of, of_hearing}
+use Rattle.member_calls.specs.declared.status.Status.TheVariants.{Done, Memory, NoClient, NoRequest, NoReply, OperationTooLong, Session}
 
 -- A session makes the signed request of an operation, which is its open one from then on.
 abbrev pub HasAsked : SessionState → List ℕ → ℕ → Option Held → Type 0

@@ -1,18 +1,19 @@
 -- Statement: what the exports answer that have a replica step, and that tell what it did.
-use Rattle.std.specs.Prelude.{◌≡◌, ℕ, List, Option, Some, None, Result, Ok, Err, slice_get}
+use Rattle.std.specs.Prelude.{◌≡◌, ℕ, Bool, List, Option, Some, None, Result, Ok, Err, slice_get}
 use Rattle.handles.specs.declared.held.Held.{Held}
 use Rattle.handles.specs.declared.held.Held.TheVariants as held
 use Rattle.handles.specs.Told.{AreTold}
-use Rattle.members.specs.Members.{MemberFacts, Takes, TimesOut}
-use Rattle.members.specs.declared.fault.StepFault.{StepFault}
+use Rattle.handles.specs.Members.{MemberFacts, Takes, TimesOut, Waits}
+use Rattle.handles.specs.StepFault.{StepFault}
 use Rattle.pbft_codec.specs.Encoding.{encoding}
-use Rattle.replica_core.specs.Facts.{RowFacts}
-use Rattle.replica_core.specs.declared.halt.Halt.{Halt}
-use Rattle.replica_core.specs.declared.row.Dest.{Dest}
-use Rattle.replica_core.specs.declared.row.Dest.TheVariants as dests
-use Rattle.replica_core.specs.declared.row.Output.{Output}
-use Rattle.replica_c.specs.Statuses.{number_of, of_taking, of_timeout}
-use Rattle.replica_c.specs.declared.status.Status.TheVariants.{NoReplica, NoRow, NoEntry}
+use Rattle.seal.specs.declared.fault.SealFault.{SealFault}
+use Rattle.handles.specs.Facts.{RowFacts}
+use Rattle.handles.specs.Halt.{Halt}
+use Rattle.handles.specs.Dest.{Dest}
+use Rattle.handles.specs.Dest.TheVariants as dests
+use Rattle.handles.specs.Output.{Output}
+use Rattle.member_calls.specs.Statuses.{number_of, of_asking, of_taking, of_timeout, told_of}
+use Rattle.member_calls.specs.declared.status.Status.TheVariants.{NoReplica, NoRow, NoEntry}
 
 -- A replica takes bytes, or a timeout: the status is that of the step's result.
 abbrev pub TookIn : Option Held → List ℕ → ℕ → Option Held → Type 0
@@ -26,6 +27,16 @@ TimedOutIn (Some (held.Member m)) status after =
     (result : Result (Unit {0}) Halt) × (t : MemberFacts) × TimesOut m result t × (after ≡ Some (held.Member t))
     × (status ≡ number_of (of_timeout result))
 TimedOutIn before status after = (status ≡ number_of NoReplica) × (after ≡ before)
+
+-- Whether a replica waits for the request that bytes are, as 1 or 0.
+abbrev pub WaitsAs : MemberFacts → List ℕ → ℕ → ℕ → ℕ → Type 0
+WaitsAs m bytes status before after =
+    (result : Result Bool SealFault) × Waits m bytes result
+    × (status ≡ number_of (of_asking result)) × (after ≡ told_of result before)
+
+abbrev pub WaitsIn : Option MemberFacts → List ℕ → ℕ → ℕ → ℕ → Type 0
+WaitsIn None bytes status before after = (status ≡ number_of NoReplica) × (after ≡ before)
+WaitsIn (Some m) bytes status before after = WaitsAs m bytes status before after
 
 -- ---- what the last step gave
 

@@ -1,14 +1,12 @@
 //! What an export answers, as a number.
 
 ghost use Rattle.std.specs.Prelude.{◌≡◌};
-ghost use Rattle.replica_c.specs.Statuses.{number_of};
+ghost use Rattle.member_calls.specs.Statuses.{number_of};
 
 use client_session::SessionFault;
-use handles::{BUFFER_TOO_SHORT, DONE};
+use handles::{BUFFER_TOO_SHORT, DONE, Halt, JoinFault, StepFault};
 use host_types::ConfigFault;
-use members::{JoinFault, StepFault};
 use pbft_codec::CodecFault;
-use replica_core::Halt;
 use seal::SealFault;
 
 /// What became of a call.
@@ -28,6 +26,8 @@ pub enum Status {
     NoReplica,
     /// A handle holds no client's session.
     NoClient,
+    /// A handle holds no early votes.
+    NoVotes,
     /// A key isn't 60 bytes that begin with 1 or 2 levels.
     NoKey,
     /// A seed hasn't 48 bytes.
@@ -79,6 +79,7 @@ impl Status {
             Status::NoConfig => 52,
             Status::NoReplica => 53,
             Status::NoClient => 54,
+            Status::NoVotes => 68,
             Status::NoKey => 55,
             Status::NoSeed => 56,
             Status::NoHeight => 57,
@@ -103,7 +104,7 @@ impl Status {
 
 impl From<JoinFault> for Status {
     ghost use Rattle.std.specs.Prelude.{◌≡◌};
-    ghost use Rattle.replica_c.specs.Statuses.{of_joining};
+    ghost use Rattle.member_calls.specs.Statuses.{of_joining};
 
     ghost from_gives = { λ fault gives. gives ≡ of_joining fault };
 
@@ -118,7 +119,7 @@ impl From<JoinFault> for Status {
 
 impl From<SealFault> for Status {
     ghost use Rattle.std.specs.Prelude.{◌≡◌};
-    ghost use Rattle.replica_c.specs.Statuses.{of_opening};
+    ghost use Rattle.member_calls.specs.Statuses.{of_opening};
 
     ghost from_gives = { λ fault gives. gives ≡ of_opening fault };
 
@@ -133,7 +134,7 @@ impl From<SealFault> for Status {
 
 impl From<StepFault> for Status {
     ghost use Rattle.std.specs.Prelude.{◌≡◌};
-    ghost use Rattle.replica_c.specs.Statuses.{of_step};
+    ghost use Rattle.member_calls.specs.Statuses.{of_step};
 
     ghost from_gives = { λ fault gives. gives ≡ of_step fault };
 

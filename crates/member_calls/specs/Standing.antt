@@ -1,20 +1,16 @@
 -- Statement: what the exports answer that tell where a replica stands.
-use Rattle.std.specs.Prelude.{◌≡◌, ◌⊎◌, ℕ, Bool, true, false, List, Option, Some, None}
+use Rattle.std.specs.Prelude.{◌≡◌, ◌⊎◌, ℕ, List, Option, Some, None}
 use Rattle.host_types.specs.declared.View.{View}
 use Rattle.handles.specs.Told.{AreTold}
-use Rattle.members.specs.Members.{MemberFacts}
+use Rattle.handles.specs.Members.{MemberFacts}
 use Rattle.pbft_model.specs.Core.{Core}
-use Rattle.replica_core.specs.Halts as halts
-use Rattle.replica_core.specs.Steps.{leaves_left_of}
-use Rattle.replica_core.specs.declared.halt.Halt.{Halt}
+use Rattle.handles.specs.Halts as halts
+use Rattle.handles.specs.Steps.{leaves_left_of}
+use Rattle.handles.specs.Halt.{Halt}
 use Rattle.service_model.specs.Encoding.{encoded}
-use Rattle.replica_c.specs.Statuses.{number_of}
-use Rattle.replica_c.specs.declared.standing.Standing.{Standing}
-use Rattle.replica_c.specs.declared.status.Status.TheVariants.{NoReplica, NoState, Memory}
-
-abbrev pub bit : Bool → ℕ
-bit true = 1
-bit false = 0
+use Rattle.member_calls.specs.Statuses.{bit, number_of}
+use Rattle.member_calls.specs.declared.standing.Standing.{Standing}
+use Rattle.member_calls.specs.declared.status.Status.TheVariants.{NoReplica, NoState, Memory}
 
 abbrev pub halt_number : Option Halt → ℕ
 halt_number None = 0
