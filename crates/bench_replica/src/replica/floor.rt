@@ -10,6 +10,7 @@ use host_types::Config;
 use lms_tree::{Height, Signer};
 use pbft_codec::signed_bytes;
 use seal::Checked;
+use sha2::{Digest, Sha256};
 use std::alloc::Global;
 use std::time::CpuClock;
 
@@ -81,6 +82,22 @@ impl Floor {
         }
         Ok(start.nanoseconds(rt)?)
     }
+}
+
+/// The processor time of so many hashes of these bytes, of which each but the first has a byte of the one before.
+pub(crate) fn nanoseconds_of_hashes(
+    rt: &impl CpuClock,
+    mut bytes: Vec<u8>,
+    count: u32,
+) -> Result<u128> {
+    let start = ProcessorTime::now(rt)?;
+    for _ in 0..count {
+        let digest = Sha256::digest(&bytes);
+        if let Some(first) = bytes.first_mut() {
+            *first = digest[0];
+        }
+    }
+    Ok(start.nanoseconds(rt)?)
 }
 
 /// Who signed each message, and what.

@@ -63,6 +63,14 @@ impl Node {
         self.replica.leaves_left()
     }
 
+    /// The bytes of its state.
+    pub(crate) fn state(&self) -> Result<Vec<u8>> {
+        match self.replica.state() {
+            Some(state) => Ok(state.to_bytes()?),
+            None => Err(anyhow!("a replica has halted")),
+        }
+    }
+
     /// The number that it executed last.
     pub(crate) fn executed(&self) -> u64 {
         self.replica.status().executed.0

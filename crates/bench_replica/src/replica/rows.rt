@@ -1,6 +1,6 @@
 //! Requests that a group executes, and what they cost.
 
-use crate::replica::floor::Floor;
+use crate::replica::floor::{Floor, nanoseconds_of_hashes};
 use crate::replica::group::{Group, REPLICAS, Setup};
 use crate::replica::node::Node;
 use crate::replica::traffic::Traffic;
@@ -20,6 +20,8 @@ pub(crate) struct Cost {
     pub(crate) requests: u32,
     pub(crate) all: u128,
     pub(crate) signatures: u128,
+    /// What it takes to hash the state once at each checkpoint of each replica.
+    pub(crate) hashes: u128,
     pub(crate) opened: u64,
     pub(crate) signed: u64,
     /// The leaves that the primary took.
@@ -177,16 +179,35 @@ fn require_executed(group: &Group, wanted: u64) -> Result<()> {
     }
 }
 
-/// What so many requests cost that a group executes after its installations.
-fn measured(rt: &impl Measures, bench: &mut Bench, clients: u8, requests: u32) -> Result<Cost> {
+/// What it takes to hash the state once at each checkpoint of each replica.
+fn nanoseconds_of_checkpoints(
+    rt: &impl CpuClock,
+    group: &Group,
+    interval: u8,
+    requests: u32,
+) -> Result<u128> {
+    let Some(node) = group.nodes().first() else {
+        return Err(anyhow!("there is no replica"));
+    };
+    let checkpoints = requests / u32::from(interval).max(1);
+    nanoseconds_of_hashes(
+        rt,
+        node.state()?,
+        checkpoints.saturating_mul(u32::from(REPLICAS)),
+    )
+}
+
+/// What so many requests cost that a group of this kind executes after its installations.
+fn measured(rt: &impl Measures, bench: &mut Bench, setup: Setup, requests: u32) -> Result<Cost> {
     let before = leaves_left(&bench.group);
-    bench.run_all(rt, clients, requests)?;
+    bench.run_all(rt, setup.clients, requests)?;
     let wanted = bench.installed.saturating_add(u64::from(requests));
     require_executed(&bench.group, wanted)?;
     let after = leaves_left(&bench.group);
     Ok(Cost {
         primary: before.0.saturating_sub(after.0),
         backup: before.1.saturating_sub(after.1),
+        hashes: nanoseconds_of_checkpoints(rt, &bench.group, setup.interval, requests)?,
         ..bench.cost
     })
 }
@@ -194,5 +215,5 @@ fn measured(rt: &impl Measures, bench: &mut Bench, clients: u8, requests: u32) -
 /// What so many requests cost after the installations.
 pub(crate) fn measure(rt: &impl Measures, setup: Setup, requests: u32) -> Result<Cost> {
     let mut bench = Bench::new(rt, setup)?;
-    measured(rt, &mut bench, setup.clients, requests)
+    measured(rt, &mut bench, setup, requests)
 }

@@ -8,12 +8,12 @@ use bench_common::ratio::{Comparison, Limit, require_within_limits};
 use lms_tree::Height;
 use std::alloc::{AllocError, Global};
 
-/// What requests may cost of their signatures.
-const LIMIT: Limit = Limit::Thousandths(1250);
+/// What requests may cost of their signatures, and of those and the hashes of the state at each checkpoint where that is large.
+const LIMIT: Limit = Limit::Thousandths(1350);
 
-/// The same where the state is large and a checkpoint follows each request: each replica then writes out and
-/// hashes the whole state for each request, which takes about as long as the request's signatures.
-const LIMIT_OF_HASHES: Limit = Limit::Thousandths(2500);
+/// The same where the state is large and a checkpoint follows each request: nearly all is then the state, which is written out before
+/// it is hashed.
+const LIMIT_OF_HASHES: Limit = Limit::Thousandths(1750);
 
 /// The requests of a row.
 const REQUESTS: u32 = 300;
@@ -52,11 +52,17 @@ fn print_ratio(rt: &impl Measures, setup: Setup, cost: &Cost) -> Result<bool> {
         LIMIT
     };
     let name = name_of(rt.alloc(), setup, cost.requests)?;
+    let (other, floor) = if setup.procedures > 0 {
+        let both = cost.signatures.saturating_add(cost.hashes);
+        ("signatures and hashes of the state alone", both)
+    } else {
+        ("signatures alone", cost.signatures)
+    };
     Comparison {
         work: name.as_str(),
         taken: cost.all,
-        other: "signatures alone",
-        floor: cost.signatures,
+        other,
+        floor,
         limit,
     }
     .print_microseconds(rt)
