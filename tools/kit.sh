@@ -6,7 +6,7 @@ say() { printf 'bpf_host: %s\n' "$*" >&2; }
 # need_rt: ends with status 69 where the kit's command isn't there
 need_rt() {
   command -v rt > /dev/null || {
-    say "this needs Rattle's command rt on the PATH, from the kit's folder bin (README.md, Quick start)"
+    say "this needs Rattle's command rt on the PATH, from the kit's folder bin (README.md, Three ways in)"
     exit 69
   }
 }
@@ -15,7 +15,7 @@ need_rt() {
 need_kit() {
   need_rt
   rt version > /dev/null 2>&1 || {
-    say "rt is on the PATH, but its kit doesn't answer: try 'rt version' (README.md, Quick start)"
+    say "rt is on the PATH, but its kit doesn't answer: try 'rt version' (README.md, Three ways in)"
     exit 69
   }
 }
