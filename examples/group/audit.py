@@ -1,0 +1,198 @@
+"""The journals of several parties side by side. Whether what they did agrees is their own word; who contradicts itself, or signs two messages
+with one leaf, is proved by signatures, whoever's journal they stand in. No seed is needed."""
+from __future__ import annotations
+
+import hashlib
+import itertools
+import sqlite3
+from collections.abc import Iterator
+from dataclasses import dataclass, field
+from pathlib import Path
+
+from bpf_host_replica import Configuration, GroupError
+from configuration import FILE, Group, read_group
+from faults import ConfigurationFault, DiskFault
+from journal import NAME, VERSION, sum_behind
+from messages import CLIENT, REPLICA, VOTES, Kind, Part, leaf_of, parts_of
+
+
+NOTHING: tuple[int, list] = (0, [])
+NULL_REQUEST = hashlib.sha256().digest()  # `null_digest` in pbft_model/specs/Setup.antt
+
+
+def _by_row(entries: Iterator[tuple]) -> Iterator[tuple[int, list]]:
+    """Entries that begin with a row's number, row by row, without it."""
+    for row, group in itertools.groupby(entries, key=lambda entry: entry[0]):
+        yield row, [entry[1:] for entry in group]
+
+
+@dataclass(frozen=True, slots=True)
+class Record:
+    """A party's journal: what it says, and where it stands."""
+
+    path: Path
+    replica: int
+    base: sqlite3.Connection
+
+    def messages(self) -> Iterator[bytes]:
+        """What it took, and what it gave."""
+        for (message,) in self.base.execute("SELECT message FROM row WHERE message IS NOT NULL ORDER BY number"):
+            yield message
+        for (message,) in self.base.execute("SELECT message FROM output ORDER BY row, place"):
+            yield message
+
+    def done(self) -> Iterator[tuple[int, bytes, bytes | None]]:
+        """What it did, in order: number, digest and result; no result where a state was installed."""
+        yield from self.base.execute("SELECT number, digest, result FROM done ORDER BY row, place")
+
+    def is_whole(self) -> bool:
+        """Whether its running hash is that of what it gave and did."""
+        taken, last = self.base.execute("SELECT taken, sum FROM standing").fetchone()
+        outputs = _by_row(self.base.execute("SELECT row, receiver, message FROM output ORDER BY row, place"))
+        done = _by_row(self.base.execute("SELECT row, number, digest, result FROM done ORDER BY row, place"))
+        sums = bytes(32)
+        given, did = next(outputs, NOTHING), next(done, NOTHING)
+        rows = self.base.execute("SELECT number, message FROM row WHERE number <= ? ORDER BY number", (taken,))
+        row = 0
+        for row, message in rows:
+            sums = sum_behind(sums, message, given[1] if given[0] == row else [], did[1] if did[0] == row else [])
+            given = next(outputs, NOTHING) if given[0] == row else given
+            did = next(done, NOTHING) if did[0] == row else did
+        return row == taken and sums == last and given == did == NOTHING
+
+
+@dataclass(slots=True)
+class Findings:
+    """What an audit has found: who is blamed, and where the parties' words differ."""
+
+    blamed: list[str] = field(default_factory=list)
+    differ: list[str] = field(default_factory=list)
+    messages: int = 0
+    unopened: int = 0
+    reached: int = 0
+
+
+def records_of(folders: list[Path]) -> tuple[Group, list[Record]]:
+    """The journals in these folders, all of one group."""
+    groups = [read_group(folder) for folder in folders]
+    if len({group.digest() for group in groups}) != 1:
+        raise ConfigurationFault(f"The folders have different groups: {FILE} differs.")
+    group = groups[0]
+    records = [_record(path, group) for folder in folders for path in sorted(folder.glob(f"replica-*/{NAME}"))]
+    if not records:
+        raise ConfigurationFault(f"There is no journal to audit: no file replica-N/{NAME} in these folders.")
+    return group, records
+
+
+def _record(path: Path, group: Group) -> Record:
+    try:
+        base = sqlite3.connect(f"file:{path}?mode=ro", uri=True, isolation_level=None)
+        base.execute("BEGIN")
+        version, configuration, replica, _ = base.execute("SELECT version, configuration, replica, key FROM header").fetchone()
+    except (sqlite3.Error, TypeError) as fault:
+        raise DiskFault(f"{path} can't be read: {fault}.") from None
+    if (version, configuration) != (VERSION, group.digest()):
+        raise ConfigurationFault(f"{path} is a journal of another version or configuration.")
+    return Record(path, replica, base)
+
+
+class Audit:
+    """Goes over messages, each once, and keeps what each signer said of a topic and signed with a leaf."""
+
+    def __init__(self, group: Group) -> None:
+        self._group, self._config = group, group.configuration()
+        self._known: set[bytes] = set()
+        self._claims: dict[tuple, Part] = {}
+        self._leaves: dict[tuple[int, int, int], Part] = {}
+        self._blamed: set[tuple] = set()
+        self.findings = Findings()
+
+    def hear(self, message: bytes) -> None:
+        digest = hashlib.sha256(message).digest()
+        if digest in self._known:
+            return
+        self._known.add(digest)
+        self.findings.messages += 1
+        if not _opens(self._config, message):
+            self.findings.unopened += 1
+            return
+        for part in parts_of(message):
+            self._compare(part)
+
+    def _compare(self, part: Part) -> None:
+        leaf = leaf_of(self._group.key_of(part.role, part.id), part.signature)
+        other = self._leaves.setdefault((part.role, part.id, leaf), part)
+        if other.text != part.text:
+            self._blame((part.role, part.id, "leaf", leaf), f"signed two messages with leaf {leaf}: {said(other)}; and {said(part)}")
+        topic = topic_of(part)
+        if topic and self._claims.setdefault(topic, part).digest != part.digest:
+            self._blame(topic, f"contradicts itself: {said(self._claims[topic])}; and {said(part)}")
+
+    def _blame(self, topic: tuple, what: str) -> None:
+        if topic not in self._blamed:
+            self._blamed.add(topic)
+            self.findings.blamed.append(f"{'replica' if topic[0] == REPLICA else 'client'} {topic[1]} {what}.")
+
+    def compare_done(self, records: list[Record]) -> None:
+        """The definitions' audit (byz_world/specs/Audits.antt): no two say different things of a number, and executions rise by one."""
+        first: dict[tuple[bool, int], tuple[int, bytes, bytes | None]] = {}
+        for record in records:
+            last = 0
+            for number, digest, result in record.done():
+                installed = result is None
+                other, *words = first.setdefault((installed, number), (record.replica, digest, result))
+                if words != [digest, result]:
+                    what = "installed" if installed else "executed"
+                    self.findings.differ.append(f"replicas {other} and {record.replica} {what} different things at number {number}.")
+                if not installed and number != last + 1:
+                    self.findings.differ.append(f"replica {record.replica} executed number {number} behind number {last}.")
+                last = number
+            self.findings.reached = max(self.findings.reached, last)
+
+
+def topic_of(part: Part) -> tuple | None:
+    """Of what a part claims a digest, which its signer does once: `claim_in` in conflicts/specs/Claims.antt."""
+    if part.kind in VOTES:
+        return part.role, part.id, part.kind, part.view, part.number
+    if part.kind == Kind.CHECKPOINT:
+        return part.role, part.id, part.kind, part.number
+    return None
+
+
+def said(part: Part) -> str:
+    """A part in words."""
+    name = part.kind.name.lower().replace("_", "-")
+    if part.role == CLIENT:
+        return f"{name} of time {part.time}, {part.request_digest.hex()[:8]}"
+    digest = f" {'null' if part.digest == NULL_REQUEST else part.digest.hex()[:8]}" if part.digest else ""
+    return f"{name} view {part.view} number {part.number}{digest}"
+
+
+def _opens(config: Configuration, message: bytes) -> bool:
+    try:
+        config.open(message)
+    except GroupError:
+        return False
+    return True
+
+
+def run_audit(folders: list[Path]) -> int:
+    """The command `group audit`: a line for each finding, and the status 1 where there is one."""
+    group, records = records_of(folders)
+    audit = Audit(group)
+    found = audit.findings
+    for record in records:
+        if not record.is_whole():
+            found.differ.append(f"{record.path} was changed: its running hash isn't that of what stands in it.")
+        for message in record.messages():
+            audit.hear(message)
+    audit.compare_done(records)
+    if found.unopened:
+        found.differ.append(f"{found.unopened} messages of these journals are none of this configuration.")
+    for line in found.blamed + found.differ:
+        print(line)
+    who = ", ".join(str(record.replica) for record in records)
+    agreed = "agree" if not found.differ else "DON'T agree"
+    blamed = "nobody is blamed" if not found.blamed else f"{len(found.blamed)} times somebody is BLAMED"
+    print(f"audit: the journals of replicas {who} {agreed} up to number {found.reached}; of {found.messages} messages, {blamed}.")
+    return 1 if found.blamed or found.differ else 0

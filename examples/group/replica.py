@@ -1,0 +1,242 @@
+"""The process of a replica: it opens what comes, commits, takes and sends, gives its replica timeouts, and sends again what may have
+been lost."""
+from __future__ import annotations
+
+import asyncio
+import signal
+import time
+from collections import Counter
+from pathlib import Path
+
+import zmq.asyncio
+
+from bpf_host_replica import GroupError, Message, Replica, Status, To
+from configuration import Group, Member, Secrets, other_secrets, read_group, read_secrets
+from faults import ConfigurationFault, GroupFault, MemoryRanOut
+from journal import Header, Journal, Lock
+from keeper import Keeper, Offer
+from log import Log
+from messages import REPLICA
+from transport import MAX_MESSAGE, MAX_QUEUE, Came, Inbox, Outbox, Tag
+
+MOST_OF_A_BATCH = 256
+MOST_INTERVALS = 1024
+MOST_BETWEEN_REPEATS = 64
+
+
+class Doubling:
+    """A timer that is due after an interval, then after two, four .. until it is set back."""
+
+    def __init__(self, interval: float, most: int, now: float) -> None:
+        self._interval, self._most = interval, most
+        self.set_back(now)
+
+    def set_back(self, now: float) -> None:
+        self._intervals, self.at = 1, now + self._interval
+
+    def is_due(self, now: float) -> bool:
+        """Whether it is; then it waits for twice as long."""
+        if now < self.at:
+            return False
+        self._intervals = min(2 * self._intervals, self._most)
+        self.at = now + self._intervals * self._interval
+        return True
+
+
+class Process:
+    """A replica's process, once its journal was taken again."""
+
+    def __init__(self, keeper: Keeper, secrets: Secrets, log: Log) -> None:
+        self.keeper, self.log = keeper, log
+        group, me = keeper.group, keeper.me
+        context, now = zmq.asyncio.Context(), time.monotonic()
+        self._inbox = Inbox(context, group, me, secrets.curve)
+        self.outboxes = {peer.id: Outbox(context, me, secrets.curve, peer) for peer in group.replicas if peer != me}
+        self._impatience = Doubling(group.interval, MOST_INTERVALS, now)
+        self._repeating = Doubling(group.interval, MOST_BETWEEN_REPEATS, now)
+        self._stop = asyncio.Event()
+        self._answered: set[int] = set()  # the peers that have told this replica's highest leaf
+        self._helped: dict[int, float] = {}  # when a peer that has started was sent all again
+        self._backlog: list[Came] | None = []  # what came before all were asked; none from then on
+        self._room = MAX_QUEUE
+        self._refused: Counter[str] = Counter()
+        self._seen = keeper.standing
+
+    async def run(self) -> None:
+        loop = asyncio.get_running_loop()
+        for number in (signal.SIGTERM, signal.SIGINT):
+            loop.add_signal_handler(number, self._stop.set)
+        for outbox in self.outboxes.values():
+            outbox.post(Tag.STARTED, b"")
+        tasks = [asyncio.ensure_future(it) for it in (self._serve(), *(outbox.run() for outbox in self.outboxes.values()))]
+        try:
+            done, _ = await asyncio.wait(tasks, return_when=asyncio.FIRST_COMPLETED)
+            for task in done:
+                task.result()
+        finally:
+            for task in tasks:
+                task.cancel()
+            self.keeper.journal.close()
+
+    async def _serve(self) -> None:
+        asked_until = time.monotonic() + self.keeper.group.interval
+        coming = asyncio.ensure_future(self._inbox.receive())
+        stopped = asyncio.ensure_future(self._stop.wait())
+        while not stopped.done():
+            now = time.monotonic()
+            await asyncio.wait({coming, stopped}, timeout=max(0.0, self._next_at(asked_until) - now), return_when=asyncio.FIRST_COMPLETED)
+            if coming.done():
+                await self._attend_all(coming.result())
+                coming = asyncio.ensure_future(self._inbox.receive())
+            now = time.monotonic()
+            if self._backlog is not None and (now >= asked_until or len(self._answered) == len(self.outboxes)):
+                await self._begin(now)
+            if self._backlog is None:
+                await self._tick(now)
+                await self._take(now)
+        self.keeper.flush()
+
+    def _next_at(self, asked_until: float) -> float:
+        return asked_until if self._backlog is not None else min(self._impatience.at, self._repeating.at)
+
+    # ---- what comes
+
+    async def _attend_all(self, came: Came | None) -> None:
+        size = 0
+        for _ in range(MOST_OF_A_BATCH):
+            if came is None:
+                return
+            self._attend(came, time.monotonic())
+            size += len(came.body)
+            came = await self._inbox.waiting() if size < MAX_MESSAGE else None
+
+    def _attend(self, came: Came, now: float) -> None:
+        if came.tag == Tag.STARTED:
+            self._help(came.sender, now)
+        elif came.tag == Tag.YOURS:
+            if came.body:
+                self.keeper.look(came.body)
+            self._answered |= {came.sender.id} & self.outboxes.keys()
+        elif self._backlog is not None:
+            self._room -= len(came.body)
+            if self._room > 0:
+                self._backlog.append(came)
+        elif self.keeper.offer(came.body, now) == Offer.REFUSED:
+            self._refused[came.sender.name] += 1
+
+    def _help(self, peer: Member, now: float) -> None:
+        """A peer has started: it is told the highest leaf of its own that was seen, and sent again what it may have missed."""
+        if peer.id not in self.outboxes or now - self._helped.get(peer.id, -3600.0) < self.keeper.group.interval / 4:
+            return
+        self._helped[peer.id] = now
+        outbox = self.outboxes[peer.id]
+        outbox.post(Tag.YOURS, self.keeper.highest.get(peer.id, (0, b""))[1])
+        for sent in self.keeper.repeats.all() if self._backlog is None else []:
+            if sent.to in (-1, peer.id):
+                outbox.post(Tag.MESSAGE, sent.message)
+
+    async def _begin(self, now: float) -> None:
+        """The peers were asked, and none has shown a signature that the journal doesn't know."""
+        backlog, self._backlog = self._backlog or [], None
+        self.log.say("begins", answered=sorted(self._answered), leaf=self.keeper.next_leaf)
+        await self._send_again()
+        for came in backlog:
+            self._attend(came, now)
+
+    # ---- what is done
+
+    async def _take(self, now: float) -> None:
+        await self.send(self.keeper.turn())
+        stands, seen = self.keeper.standing, self._seen
+        if stands.executed != seen.executed:
+            self._impatience.set_back(now)
+            self._repeating.set_back(now)
+        if stands.low != seen.low:
+            self.keeper.forget(now)
+            self._tell_lost()
+        if (stands.view, stands.active) != (seen.view, seen.active):
+            self.log.say("view", view=stands.view, active=stands.active)
+        self._seen = stands
+        if self.keeper.ended:
+            self.keeper.flush()
+            raise self.keeper.ended
+
+    async def _tick(self, now: float) -> None:
+        """A replica that waits and executes nothing gets a timeout; what may have been lost is sent again."""
+        if not self.keeper.is_waiting():
+            self._impatience.set_back(now)
+        if self._impatience.is_due(now):
+            self.keeper.timeout()
+            self.log.say("times out", view=self.keeper.standing.view, executed=self.keeper.standing.executed)
+        if self._repeating.is_due(now):
+            self.keeper.flush()
+            self.keeper.forget(now)
+            self._tell_lost()
+            await self._send_again()
+
+    def _tell_lost(self) -> None:
+        for name, count in self._refused.items():
+            self.log.say("refused", sender=name, messages=count)
+        self._refused.clear()
+        for outbox in self.outboxes.values():
+            if outbox.dropped:
+                self.log.say("dropped", receiver=outbox.peer.name, messages=outbox.dropped)
+                outbox.dropped = 0
+
+    async def send(self, messages: list[Message]) -> None:
+        for message in messages:
+            if message.to == To.CLIENT:
+                await self._inbox.reply(message.id, message.bytes)
+            for peer, outbox in self.outboxes.items():
+                if message.to == To.ALL or (message.to == To.REPLICA and message.id == peer):
+                    outbox.post(Tag.MESSAGE, message.bytes)
+
+    async def _send_again(self) -> None:
+        for sent in self.keeper.repeats.all():
+            if sent.to == -1:
+                await self.send([Message(To.ALL, 0, sent.message)])
+            else:
+                await self.send([Message(To.REPLICA if sent.to in self.outboxes else To.CLIENT, sent.to, sent.message)])
+
+
+def open_keeper(group: Group, me: Member) -> tuple[Keeper, Secrets]:
+    """A replica that has taken its journal again. Its folder's lock comes before all else."""
+    folder = group.folder_of(me)
+    if not folder.is_dir():
+        raise ConfigurationFault(f"{folder} isn't there: it is the folder with the secrets of {me.name}.")
+    Lock(folder)
+    secrets, config = read_secrets(group, me), group.configuration()
+    journal = Journal(folder, Header(group.digest(), me.id, me.key))
+    try:
+        keeper = Keeper(group, me, config, Replica(config, me.id, secrets.seed), journal)
+    except GroupError as fault:
+        if fault.status == Status.MEMORY:
+            raise MemoryRanOut("Memory ran out as the replica was made. The process may be started again.") from None
+        raise other_secrets(group, me) from None
+    return keeper, secrets
+
+
+def run_replica(folder: Path, id: int, process: type[Process] = Process) -> int:
+    """The command `group replica`."""
+    group = read_group(folder)
+    me = group.member(REPLICA, id)
+    log = Log(me.name)
+    try:
+        keeper, secrets = open_keeper(group, me)
+        began = time.monotonic()
+        rows = keeper.replay()
+        stands = keeper.standing
+        log.say("taken again", rows=rows, seconds=round(time.monotonic() - began, 3), view=stands.view, executed=stands.executed)
+        asyncio.run(_run(process, keeper, secrets, log))
+    except MemoryError:
+        log.say("ends", why="Memory ran out. The process may be started again.", status=MemoryRanOut.status)
+        return MemoryRanOut.status
+    except GroupFault as fault:
+        log.say("ends", why=str(fault), status=fault.status)
+        raise
+    log.say("ends", why="It was told to.", status=0)
+    return 0
+
+
+async def _run(process: type[Process], keeper: Keeper, secrets: Secrets, log: Log) -> None:
+    await process(keeper, secrets, log).run()
