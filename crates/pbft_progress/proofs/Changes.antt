@@ -1,7 +1,7 @@
 -- ViewChanges: one that comes to a replica which awaits its view is recorded, and stays so until a higher view.
 use Rattle.std.proofs.Common.{◌≡◌, ◌⊎◌, ℕ, ◌<◌, ◌≤◌, Bool, true, false, ◌&&◌, cond, List, [], ◌∷◌, Option, Some, refl, sym, ap, subst, ◌∙◌, arith, inl, inr}
 use Rattle.std.specs.Prelude.{nat_lt, nat_le, not, IsTrue, ◌==◌}
-use Rattle.std.proofs.lemmas.Bool.{true≢false, false≢true, cases_lt, and_from, or_left, or_right, eq-eqb, lt-ltb, le-leb}
+use Rattle.std.proofs.lemmas.Bool.{true≢false, false≢true, cases_lt, and_from, and_parts, or_cases, or_left, or_right, eq-eqb, lt-ltb, ltb-true, le-leb}
 use Rattle.pbft_model.specs.Words.{SigningState, Signed, Body, ViewChange, Role, Replica, Client, Configuration, Part}
 use Rattle.pbft_codec.specs.declared.body.Body.TheVariants as bodies
 use Rattle.pbft_codec.specs.declared.body.fetch.Fetch.TheVariants as fetches
@@ -130,6 +130,13 @@ awaits_is view s (inr (same, off)) =
 awaits_low : (view : ℕ) (s : Core) → Awaits view s → s.view ≤ view
 awaits_low view s (inl less) = omega (arith, less)
 awaits_low view s (inr w) = let same : s.view ≡ view = w.0 in omega (arith, same)
+
+-- what an active replica awaits is a higher view
+pub awaits_more : (s : Core) (view : ℕ) → s.active ≡ true → is_awaited s view ≡ true → s.view < view
+awaits_more s view on e = elim (or_cases (nat_lt s.view view) (view == s.view && not s.active) e) [
+  | inl more ↦ ltb-true s.view view more
+  | inr off ↦ absurd (false≢true (subst (λ (b : Bool). not b ≡ true) on ((and_parts (view == s.view) (not s.active) off).1)))
+]
 
 -- a view that is not awaited, and not below the replica's, is active
 pub not_awaiting : (view : ℕ) (s : Core) → s.view ≤ view → is_awaited s view ≡ false → (s.view ≡ view) × (s.active ≡ true)

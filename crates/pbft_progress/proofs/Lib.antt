@@ -7,3 +7,6 @@ pub mod Duties
 pub mod Spreading
 pub mod Views
 pub mod Drained
+pub mod Recording
+pub mod Noting
+pub mod Voting

@@ -5,18 +5,18 @@ use Rattle.std.specs.Prelude.{nat_lt}
 use Rattle.pbft_model.specs.Words.{SigningState, Signed, Body, Part}
 use Rattle.pbft_codec.specs.declared.body.Body.TheVariants as bodies
 use Rattle.pbft_codec.specs.declared.body.fetch.Fetch.TheVariants as fetches
-use Rattle.pbft_model.specs.Sequential.{Service}
+use Rattle.pbft_model.specs.Sequential.{Service, Outcome}
 use Rattle.pbft_model.specs.Setup.{Setup}
 use Rattle.pbft_model.specs.Core.{Core, start_of}
-use Rattle.pbft_model.specs.Acts.{Act, Take, Timeout, Send, Enter, after, said, left_for, left_if_above}
+use Rattle.pbft_model.specs.Acts.{Act, Take, Timeout, Send, Enter, Execute, after, said, left_for, left_if_above}
 use Rattle.pbft_model.specs.Duties.{due}
-use Rattle.pbft_model.specs.Rows.{Row, Input, Received, TimedOut, Output, Begins, Follows, IsLawfulFrom, outputs_of, all_outputs}
+use Rattle.pbft_model.specs.Rows.{Row, Input, Received, TimedOut, Output, Done, Executed, Begins, Follows, Fulfils, IsLawfulFrom, outputs_of, all_outputs, done_of, result_of}
 use Rattle.pbft_model.specs.Histories.{core_after, IsHistory, IsEarlier, IsIn, HasSigned, HasTaken, signed_in, signed_by_act}
-use Rattle.pbft_agreement.specs.Journals.{HasReceived, HasGiven}
+use Rattle.pbft_agreement.specs.Journals.{HasReceived, HasGiven, HasDone}
 use Rattle.pbft_model.proofs.Events.{earlier_trans}
 use Rattle.pbft_model.proofs.Found.{in_append_left, in_append_right}
 use Rattle.pbft_model.proofs.Reactions.{IsReaction, is_reaction}
-use Rattle.pbft_agreement.proofs.Reporting.{pushed, earlier_pushed, acts_from, earlier_from, row_core, core_from, history_from, taken_from, given_from}
+use Rattle.pbft_agreement.proofs.Reporting.{pushed, earlier_pushed, acts_from, earlier_from, row_core, row_follows, core_from, history_from, taken_from, given_from, done_from, execution_reported}
 
 -- ---- the message just taken
 
@@ -52,7 +52,7 @@ same_received m x e = cc
 never_received : (m : Signed Body) → TimedOut ≡ Received m → ⊥
 never_received m e = cc
 
-begins_received : (c : Setup) (input : Input) (a : Act) (m : Signed Body) → Begins c input a → input ≡ Received m → (reading : Option Service) × (a ≡ Take m reading)
+pub begins_received : (c : Setup) (input : Input) (a : Act) (m : Signed Body) → Begins c input a → input ≡ Received m → (reading : Option Service) × (a ≡ Take m reading)
 begins_received c (Received x) a m (reading, may, is) e = (reading, is ∙ ap (λ (y : Signed Body). Take y reading) (same_received x m e))
 begins_received c TimedOut a m is e = absurd (never_received m e)
 
@@ -139,6 +139,44 @@ module _ (c : Setup) (me : ℕ) (signer : SigningState) where
     | inr v ↦ inr (v.0, v.1, inr v.2, v.3, v.4, v.5)
   ]
 
+  -- ---- each act does what is due
+
+  -- an act that is no input does what is due before it
+  abbrev pub DoesDue : List Act → Type 0
+  DoesDue [] = Unit {0}
+  DoesDue (a ∷ early) = IsReaction a → Fulfils c (core_after c signer early) (due c me (core_after c signer early)) a
+
+  does_pushed : (x acts early : List Act) (t : Core) → Follows c me (core_after c signer early) acts t → IsEarlier x (pushed acts early) → IsEarlier x early ⊎ DoesDue x
+  does_pushed x [] early t same h = inl h
+  does_pushed x (a ∷ acts) early t (does, leaves, rest) h = elim (does_pushed x acts (a ∷ early) t rest h) [
+    | inl (inl same) ↦ inr (subst DoesDue (sym same) (λ r. does))
+    | inl (inr older) ↦ inl older
+    | inr done ↦ inr done
+  ]
+
+  no_reaction : (input : Input) (a : Act) → Begins c input a → IsReaction a → ⊥
+  no_reaction (Received m) a (reading, may, is) h = subst IsReaction is h
+  no_reaction TimedOut a is h = subst IsReaction is h
+
+  does_in : (x early : List Act) (rows : List Row) (s t : Core) (w : IsLawfulFrom c me s rows t) → core_after c signer early ≡ s → IsEarlier x (acts_from c me signer early rows s t w) → IsEarlier x early ⊎ DoesDue x
+  does_in x early [] s t w at h = inl h
+  does_in x early (row ∷ rows) s t (u, next, rest) at h =
+      let done : List Act = pushed (next.first ∷ next.acts) early in
+      elim (does_in x done rows u t rest (row_core c me signer early s u row next at) h) [
+        | inr due_done ↦ inr due_done
+        | inl here ↦ elim (does_pushed x next.acts (next.first ∷ early) u (row_follows c me signer early s u row next at) here) [
+          | inl (inl same) ↦ inr (subst DoesDue (sym same) (λ r. absurd (no_reaction row.input next.first next.begins r)))
+          | inl (inr older) ↦ inl older
+          | inr due_done ↦ inr due_done
+        ]
+      ]
+
+  does_all : (x early : List Act) (rows : List Row) (s t : Core) (w : IsLawfulFrom c me s rows t) → early ≡ [] → core_after c signer early ≡ s → IsEarlier x (acts_from c me signer early rows s t w) → DoesDue x
+  does_all x early rows s t w none at h = elim (does_in x early rows s t w at h) [
+    | inl first ↦ subst DoesDue (sym (subst (λ (acts : List Act). IsEarlier x acts) none first)) tt
+    | inr done ↦ done
+  ]
+
   -- A journal's history, which ends in this core.
   pub record Life (rows : List Row) (s : Core) : Type 0 where
     pub acts : List Act
@@ -149,6 +187,12 @@ module _ (c : Setup) (me : ℕ) (signer : SigningState) where
     pub received : (m : Signed Body) → HasTaken m acts → HasReceived m rows
     pub gives : (p : Part) → HasSigned p acts → HasGiven p rows
     pub signs : (p : Part) → HasGiven p rows → HasSigned p acts
+    pub does : (x : List Act) → IsEarlier x acts → DoesDue x
+    pub reports : (n : ℕ) (d : List ℕ) (t : Service) (o : Outcome) (early : List Act) → IsEarlier (Execute n d t o ∷ early) acts → HasDone (Executed n d (result_of o.reply)) rows
+    pub did : (done : Done) → HasDone done rows → (a : Act) × (early : List Act) × IsEarlier (a ∷ early) acts × IsIn done (done_of c a)
+
+  nothing : (n : ℕ) (d : List ℕ) (t : Service) (o : Outcome) (early : List Act) → Execute n d t o ∷ early ≡ [] → ⊥
+  nothing n d t o early e = cc
 
   pub life : (rows : List Row) (s : Core) → IsLawfulFrom c me (start_of c signer) rows s → Life rows s
   life rows s w = record {
@@ -160,4 +204,7 @@ module _ (c : Setup) (me : ℕ) (signer : SigningState) where
     received = λ m h. elim (taken_from c me signer m [] rows (start_of c signer) s w h) [ inl none ↦ absurd none | inr is ↦ is ];
     gives = λ p h. elim (signed_given p [] rows (start_of c signer) s w h) [ inl none ↦ absurd none | inr is ↦ is ];
     signs = λ p h. given_from c me signer p [] rows (start_of c signer) s w h;
+    does = λ x h. does_all x [] rows (start_of c signer) s w refl refl h;
+    reports = λ n d t o early h. elim (execution_reported c me signer n d t o early [] rows (start_of c signer) s w h) [ inl none ↦ absurd (nothing n d t o early none) | inr done ↦ done ];
+    did = λ done h. done_from c me signer done [] rows (start_of c signer) s w h;
   }
