@@ -1,7 +1,8 @@
 -- The history behind a journal: what was received was taken at a point of it, what was signed was given, and behind the row
 -- of a message nothing is due while it is the message just taken.
-use Rattle.std.proofs.Common.{◌≡◌, ◌⊎◌, ℕ, Bool, true, false, cond, List, [], ◌∷◌, Option, Some, None, refl, sym, ap, subst, ◌∙◌, inl, inr}
+use Rattle.std.proofs.Common.{◌≡◌, ◌⊎◌, ℕ, Bool, true, false, cond, List, [], ◌∷◌, ◌++◌, Option, Some, None, refl, sym, ap, subst, ◌∙◌, inl, inr}
 use Rattle.std.specs.Prelude.{nat_lt}
+use Rattle.std.specs.List.{AllByRecursion}
 use Rattle.pbft_model.specs.Words.{SigningState, Signed, Body, Part}
 use Rattle.pbft_codec.specs.declared.body.Body.TheVariants as bodies
 use Rattle.pbft_codec.specs.declared.body.fetch.Fetch.TheVariants as fetches
@@ -12,11 +13,11 @@ use Rattle.pbft_model.specs.Acts.{Act, Take, Timeout, Send, Enter, Execute, afte
 use Rattle.pbft_model.specs.Duties.{due}
 use Rattle.pbft_model.specs.Rows.{Row, Input, Received, TimedOut, Output, Done, Executed, Begins, Follows, Fulfils, IsLawfulFrom, outputs_of, all_outputs, done_of, result_of}
 use Rattle.pbft_model.specs.Histories.{core_after, IsHistory, IsEarlier, IsIn, HasSigned, HasTaken, signed_in, signed_by_act}
-use Rattle.pbft_agreement.specs.Journals.{HasReceived, HasGiven, HasDone}
+use Rattle.pbft_agreement.specs.Journals.{HasReceived, HasGiven, HasDone, RunsTo}
 use Rattle.pbft_model.proofs.Events.{earlier_trans}
 use Rattle.pbft_model.proofs.Found.{in_append_left, in_append_right}
 use Rattle.pbft_model.proofs.Reactions.{IsReaction, is_reaction}
-use Rattle.pbft_agreement.proofs.Reporting.{pushed, earlier_pushed, acts_from, earlier_from, row_core, row_follows, core_from, history_from, taken_from, given_from, done_from, execution_reported}
+use Rattle.pbft_agreement.proofs.Reporting.{pushed, earlier_pushed, acts_from, earlier_from, row_core, row_follows, core_from, history_from, taken_from, given_from, done_from, execution_reported, executed_from, reactions, taken_before, begins_take}
 
 -- ---- the message just taken
 
@@ -177,6 +178,66 @@ module _ (c : Setup) (me : ℕ) (signer : SigningState) where
     | inr done ↦ done
   ]
 
+  -- ---- what was received in rows before
+
+  -- The message came in this row, and what was taken before it in the rows before.
+  pub record Split (m : Signed Body) (x early : List Act) (rows : List Row) : Type 0 where
+    pub earlier : List Row
+    pub row : Row
+    pub later : List Row
+    pub splits : rows ≡ earlier ++ row ∷ later
+    pub came : row.input ≡ Received m
+    pub before_it : (p : Signed Body) → HasTaken p x → HasTaken p early ⊎ HasReceived p earlier
+
+  -- acts that are no inputs take nothing
+  react_pushed : (m : Signed Body) (r : Option Service) (x acts early : List Act) → AllByRecursion IsReaction acts → IsEarlier (Take m r ∷ x) (pushed acts early) → IsEarlier (Take m r ∷ x) early
+  react_pushed m r x [] early all h = h
+  react_pushed m r x (a ∷ acts) early all h = elim (react_pushed m r x acts (a ∷ early) all.1 h) [
+    | inl same ↦ absurd (subst IsReaction (head m r x a early same) all.0)
+    | inr older ↦ older
+  ] where
+    head : (m : Signed Body) (r : Option Service) (x : List Act) (a : Act) (early : List Act) → Take m r ∷ x ≡ a ∷ early → a ≡ Take m r
+    head m r x a early e = cc
+
+  split_in : (m : Signed Body) (r : Option Service) (x early : List Act) (rows : List Row) (s t : Core) (w : IsLawfulFrom c me s rows t) → IsEarlier (Take m r ∷ x) (acts_from c me signer early rows s t w)
+      → IsEarlier (Take m r ∷ x) early ⊎ Split m x early rows
+  split_in m r x early [] s t w h = inl h
+  split_in m r x early (row ∷ rows) s t (u, next, rest) h =
+      let done : List Act = pushed (next.first ∷ next.acts) early in
+      let quiet = reactions c me signer next.acts (after c s next.first) u next.reacts.follows in
+      elim (split_in m r x done rows u t rest h) [
+        | inr w ↦ inr (record {
+          earlier = row ∷ w.earlier;
+          row = w.row;
+          later = w.later;
+          splits = ap (λ (rs : List Row). row ∷ rs) w.splits;
+          came = w.came;
+          before_it = λ p taken. elim (w.before_it p taken) [
+            | inr later ↦ inr (later.0, inr later.1, later.2)
+            | inl here ↦ elim (taken_before p next.acts (next.first ∷ early) quiet here) [
+              | inl first ↦ inr (row, inl refl, begins_take c me signer row.input p first.0 next.first next.begins first.1)
+              | inr older ↦ inl older
+            ]
+          ];
+        })
+        | inl here ↦ elim (react_pushed m r x next.acts (next.first ∷ early) quiet here) [
+          | inr older ↦ inl older
+          | inl same ↦ inr (record {
+            earlier = [];
+            row = row;
+            later = rows;
+            splits = refl;
+            came = begins_take c me signer row.input m r next.first next.begins (first_is m r x next.first early same);
+            before_it = λ p taken. inl (subst (HasTaken p) (rest_is m r x next.first early same) taken);
+          })
+        ]
+      ] where
+        first_is : (m : Signed Body) (r : Option Service) (x : List Act) (a : Act) (early : List Act) → Take m r ∷ x ≡ a ∷ early → a ≡ Take m r
+        first_is m r x a early e = cc
+
+        rest_is : (m : Signed Body) (r : Option Service) (x : List Act) (a : Act) (early : List Act) → Take m r ∷ x ≡ a ∷ early → x ≡ early
+        rest_is m r x a early e = cc
+
   -- A journal's history, which ends in this core.
   pub record Life (rows : List Row) (s : Core) : Type 0 where
     pub acts : List Act
@@ -189,10 +250,15 @@ module _ (c : Setup) (me : ℕ) (signer : SigningState) where
     pub signs : (p : Part) → HasGiven p rows → HasSigned p acts
     pub does : (x : List Act) → IsEarlier x acts → DoesDue x
     pub reports : (n : ℕ) (d : List ℕ) (t : Service) (o : Outcome) (early : List Act) → IsEarlier (Execute n d t o ∷ early) acts → HasDone (Executed n d (result_of o.reply)) rows
+    pub runs : (n : ℕ) (d : List ℕ) (t : Service) (o : Outcome) (early : List Act) → IsEarlier (Execute n d t o ∷ early) acts → RunsTo c me (start_of c signer) rows t
+    pub splits : (m : Signed Body) (r : Option Service) (x : List Act) → IsEarlier (Take m r ∷ x) acts → Split m x [] rows
     pub did : (done : Done) → HasDone done rows → (a : Act) × (early : List Act) × IsEarlier (a ∷ early) acts × IsIn done (done_of c a)
 
   nothing : (n : ℕ) (d : List ℕ) (t : Service) (o : Outcome) (early : List Act) → Execute n d t o ∷ early ≡ [] → ⊥
   nothing n d t o early e = cc
+
+  never : (m : Signed Body) (r : Option Service) (x : List Act) → Take m r ∷ x ≡ [] → ⊥
+  never m r x e = cc
 
   pub life : (rows : List Row) (s : Core) → IsLawfulFrom c me (start_of c signer) rows s → Life rows s
   life rows s w = record {
@@ -206,5 +272,7 @@ module _ (c : Setup) (me : ℕ) (signer : SigningState) where
     signs = λ p h. given_from c me signer p [] rows (start_of c signer) s w h;
     does = λ x h. does_all x [] rows (start_of c signer) s w refl refl h;
     reports = λ n d t o early h. elim (execution_reported c me signer n d t o early [] rows (start_of c signer) s w h) [ inl none ↦ absurd (nothing n d t o early none) | inr done ↦ done ];
+    runs = λ n d t o early h. elim (executed_from c me signer n d t o early [] rows (start_of c signer) s w h) [ inl none ↦ absurd (nothing n d t o early none) | inr run ↦ run ];
+    splits = λ m r x h. elim (split_in m r x [] rows (start_of c signer) s w h) [ inl none ↦ absurd (never m r x none) | inr at ↦ at ];
     did = λ done h. done_from c me signer done [] rows (start_of c signer) s w h;
   }

@@ -1,0 +1,11 @@
+pub mod Kin
+pub mod FirstView
+pub mod Speaking
+pub mod Reaching
+pub mod Counts
+pub mod Certifying
+pub mod Deciding
+pub mod Proposing
+pub mod Holding
+pub mod OneResult
+pub mod Executing
