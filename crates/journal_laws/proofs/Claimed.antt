@@ -163,7 +163,7 @@ module _ (c : Setup) (me : ℕ) (signer : SigningState) (rows : List Row) (last 
 -- ---- of a family
 
 module _ (c : Setup) (j : Journals) (honest : IsRealFamily c j) where
-  heard_signed : (p : Signed Body) (id : ℕ) → IsHeard c j id p → IsCorrect c j.faulty id → HasSigned id p.body (j.rows id)
+  pub heard_signed : (p : Signed Body) (id : ℕ) → IsHeard c j id p → IsCorrect c j.faulty id → HasSigned id p.body (j.rows id)
   heard_signed p id h correct =
       let given = honest.real h.by h.correct h.message p h.received h.within h.role (subst (λ (k : ℕ). IsCorrect c j.faulty k) (sym h.id_is) correct) in
       let part : part_of p ≡ record { role = Replica; id = id; body = p.body } = λ k. record { role = h.role k; id = h.id_is k; body = p.body } in

@@ -3,3 +3,4 @@ mod LeafOnce
 mod Committed
 mod Checked
 mod Claimed
+mod Viewed

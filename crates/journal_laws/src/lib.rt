@@ -4,7 +4,7 @@
 //! an empty body.
 #![tactic(auto)]
 
-ghost use Rattle.std.specs.Prelude.{◌≡◌, ◌<◌, ◌≤◌, ◌+◌, ◌++◌, ℕ, List, Some};
+ghost use Rattle.std.specs.Prelude.{◌≡◌, ◌<◌, ◌≤◌, ◌+◌, ◌++◌, ℕ, true, List, Some};
 ghost use Rattle.conflicts.specs.Claims.{claim_in};
 ghost use Rattle.conflicts.specs.declared.claim.Claim.{Claim};
 ghost use Rattle.pbft_agreement.specs.Journals.{IsHonestFamily, Journals};
@@ -12,9 +12,11 @@ ghost use Rattle.pbft_model.specs.Core.{Core, start_of};
 ghost use Rattle.pbft_model.specs.Families.{IsCorrect};
 ghost use Rattle.pbft_model.specs.Rows.{Input, IsLawfulFrom, Row, leaves_in};
 ghost use Rattle.pbft_model.specs.Setup.{Setup};
-ghost use Rattle.pbft_model.specs.Words.{Body, Signed, SigningState};
+ghost use Rattle.pbft_model.specs.Validity.{is_valid, is_valid_new_view};
+ghost use Rattle.pbft_model.specs.Words.{Body, Commit, NewView, Signed, SigningState, ViewChange};
 ghost use Rattle.journal_laws.specs.Blame.{HasSigned, IsBlamed, IsBlamedByLeaf, IsRealFamily, IsSentFamily};
 ghost use Rattle.journal_laws.specs.Replay.{GoesOn, WasSigned, inputs_of, leaf_of};
+ghost use Rattle.journal_laws.specs.Views.{HasHidden, HasInvalid, HasTwo, Reports};
 
 /// A replica that takes again what it took, in the same order, gives the same rows: outputs, their signatures and leaves
 /// among them, and comes to the same core; and where it then takes more, it goes on from there. So a replica that notes each
@@ -62,4 +64,38 @@ pub fn who_signs_twice_with_a_leaf_is_faulty()
 /// An honest family is one of those of which [`who_contradicts_is_faulty`] speaks.
 pub fn an_honest_family_is_real()
     ensures { (c : Setup) (journals : Journals) → IsHonestFamily c journals → IsRealFamily c journals }
+{}
+
+/// A correct replica signs one ViewChange and one NewView for each view: in a lawful journal two of one view are one.
+pub fn own_view_messages_are_one()
+    ensures changes { (c : Setup) (me : ℕ) (signer : SigningState) (rows : List Row) (last : Core) → IsLawfulFrom c me (start_of c signer) rows last
+        → (v w : ViewChange) → HasSigned me (Body.ViewChange v) rows → HasSigned me (Body.ViewChange w) rows → v.view ≡ w.view → v ≡ w }
+    ensures openings { (c : Setup) (me : ℕ) (signer : SigningState) (rows : List Row) (last : Core) → IsLawfulFrom c me (start_of c signer) rows last
+        → (m n : NewView) → HasSigned me (Body.NewView m) rows → HasSigned me (Body.NewView n) rows → m.view ≡ n.view → m ≡ n }
+{}
+
+/// A correct replica's ViewChange is valid, and so is its NewView: V is, and O is what V gives.
+pub fn own_view_messages_are_valid()
+    ensures changes { (c : Setup) (me : ℕ) (signer : SigningState) (rows : List Row) (last : Core) → IsLawfulFrom c me (start_of c signer) rows last
+        → (v : ViewChange) → HasSigned me (Body.ViewChange v) rows → is_valid c v ≡ true }
+    ensures openings { (c : Setup) (me : ℕ) (signer : SigningState) (rows : List Row) (last : Core) → IsLawfulFrom c me (start_of c signer) rows last
+        → (n : NewView) → HasSigned me (Body.NewView n) rows → is_valid_new_view c n ≡ true }
+{}
+
+/// A correct replica's ViewChange hides no Commit (Castro and Liskov 1999, section 4.4): for each Commit that it signed, of a
+/// lower view and above the ViewChange's low mark, the ViewChange carries a certificate for its number, of its view or a later
+/// one. It is so whichever of the two was signed first.
+pub fn an_own_view_change_hides_no_commit()
+    ensures { (c : Setup) (me : ℕ) (signer : SigningState) (rows : List Row) (last : Core) → IsLawfulFrom c me (start_of c signer) rows last
+        → (v : ViewChange) (b : Commit) → HasSigned me (Body.ViewChange v) rows → HasSigned me (Body.Commit b) rows
+        → b.view.0 < v.view.0 → v.low.0 < b.number.0 → Reports v b }
+{}
+
+/// Who changes views wrongly is faulty: where two ViewChanges or two NewViews of one view were heard of a replica that differ, or
+/// a Commit and a ViewChange that hides it, or a ViewChange or a NewView that isn't valid, that replica is faulty, as long as
+/// nobody forged. It holds however many are faulty.
+pub fn who_changes_views_wrongly_is_faulty()
+    ensures two { (c : Setup) (journals : Journals) → IsRealFamily c journals → (id : ℕ) → HasTwo c journals id → IsCorrect c journals.faulty id → ⊥ }
+    ensures hidden { (c : Setup) (journals : Journals) → IsRealFamily c journals → (id : ℕ) → HasHidden c journals id → IsCorrect c journals.faulty id → ⊥ }
+    ensures invalid { (c : Setup) (journals : Journals) → IsRealFamily c journals → (id : ℕ) → HasInvalid c journals id → IsCorrect c journals.faulty id → ⊥ }
 {}
