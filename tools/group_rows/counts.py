@@ -10,10 +10,11 @@ class Counts:
 
     requests: int
     kills: int
+    rounds: int  # how often all are killed at once
     away: float  # seconds
     noise: int
     heights: str  # of keys: 5,5 has 1,024 leaves, 5,10 has 32,768
 
 
-SMALL = Counts(requests=30, kills=6, away=2.0, noise=100, heights="5,5")
-FULL = Counts(requests=300, kills=100, away=5.0, noise=5000, heights="5,10")
+SMALL = Counts(requests=20, kills=4, rounds=1, away=0.0, noise=50, heights="5,5")
+FULL = Counts(requests=3000, kills=100, rounds=20, away=5.0, noise=5000, heights="5,10")

@@ -5,11 +5,10 @@ import shutil
 import sqlite3
 import subprocess
 import sys
-import time
 from pathlib import Path
 
 from counts import Counts
-from machines import CLIENTS, COUNTER, REPLICAS, Machines, expect, started
+from machines import CLIENTS, COUNTER, PATIENCE, REPLICAS, Machines, expect, interval, started, wait_until
 
 HERE = Path(__file__).resolve().parent
 
@@ -19,7 +18,7 @@ def liar(counts: Counts) -> str:
     with Machines(counts.heights) as machines:
         machines.start(1, 2, 3)
         machines.start(0, script="liar.py")
-        time.sleep(1)
+        wait_until((machines.folder / "0.ipc").exists, "the liar never listens")
         machines.install_both()
         machines.end_both(machines.call_both(5), 5)
         machines.kill(0)
@@ -38,13 +37,14 @@ def noise(counts: Counts) -> str:
         started(machines)
         machines.call(100, 10)
         noise = [sys.executable, str(HERE / "noise.py"), str(machines.folder), "101", str(counts.noise)]
-        time.sleep(2)
+        machines.wait_until_quiet()
         before = machines.rows()
-        subprocess.run(noise, check=True, timeout=300)
+        subprocess.run(noise, check=True, timeout=2 * PATIENCE)
+        machines.wait_until_quiet()
         grown = max(after - first for after, first in zip(machines.rows(), before))
         expect(grown <= 10, f"what came again took {grown} rows")
         running = machines.begin_calls(100, 10)
-        subprocess.run(noise, check=True, timeout=300)
+        subprocess.run(noise, check=True, timeout=2 * PATIENCE)
         machines.end_calls(100, running, 10)
         machines.stop()
         machines.audit()
@@ -140,7 +140,7 @@ def parties(counts: Counts) -> str:
             folders[name] = machines.folder / "parties" / name
             own = ["--address", f"ipc://{machines.folder}/party-{id}.ipc"] if role == "replica" else ["--tenant", "1"]
             entries[name] = machines.said("member", folders[name], role, id, "--heights", "5,5", *own)
-        text = "f = 1\nk = 8\ninterval = 1.5\n" + "\n".join(entries.values())
+        text = f"f = 1\nk = 8\ninterval = {interval():.2f}\n" + "\n".join(entries.values())
         for folder in folders.values():
             (folder / "group.toml").write_text(text)
         for id in REPLICAS:

@@ -1,6 +1,7 @@
 """A group in a folder of its own, whose replicas are processes that a row starts, kills and starts again."""
 from __future__ import annotations
 
+import functools
 import json
 import re
 import signal
@@ -8,14 +9,28 @@ import subprocess
 import sys
 import tempfile
 import time
+from collections.abc import Callable
 from pathlib import Path
+
+import parts_path  # noqa: F401
 
 TOP = Path(__file__).resolve().parents[2]
 GROUP = TOP / "examples/group/group"
 COUNTER = TOP / "examples/procedures/counter.hex"
 REPLICAS, CLIENTS = range(4), (100, 101)
-INTERVAL = 1.5
-PATIENCE = 120  # seconds for a client's command
+PATIENCE = 300  # seconds for whatever is waited for: a state, never a time. It is used up only where a row fails
+
+
+@functools.cache
+def interval() -> float:
+    """The seconds of a group's first timeout: 1.5, and more on a machine that is slow or busy now. A request costs a replica some thirty
+    signatures, made and verified; a key of 32 leaves some thousand."""
+    from bpf_host_replica import Seed
+
+    began = time.monotonic()
+    for number in range(3):
+        Seed(bytes([number]) * 16, bytes([number]) * 32, top=5).public_key()
+    return max(1.5, 6 * (time.monotonic() - began))
 
 
 class RowFailed(Exception):
@@ -27,16 +42,24 @@ def expect(test: bool, what: str) -> None:
         raise RowFailed(what)
 
 
+def wait_until(test: Callable[[], bool], what: str, pause: float = 0.05) -> None:
+    """Waits until something is so."""
+    until = time.monotonic() + PATIENCE
+    while not test():
+        expect(time.monotonic() < until, what)
+        time.sleep(pause)
+
+
 class Machines:
     """Four replicas and two clients. What it starts, it ends, by its number."""
 
-    def __init__(self, heights: str) -> None:
+    def __init__(self, heights: str, clients: int = len(CLIENTS)) -> None:
         self._room = tempfile.TemporaryDirectory(prefix="group-")
         self.folder = Path(self._room.name)
         self.replicas: dict[int, subprocess.Popen] = {}
         self.others: list[subprocess.Popen] = []
         self.counts = dict.fromkeys(CLIENTS, 0)
-        words = ["--heights", heights, "--interval", str(INTERVAL), "--address", "ipc"]
+        words = ["--heights", heights, "--interval", f"{interval():.2f}", "--address", "ipc", "--clients", clients]
         self.said("init", self.folder, *words)
 
     def __enter__(self) -> Machines:
@@ -90,11 +113,11 @@ class Machines:
         for id in ids or self.replicas:
             self.replicas[id].terminate()
         for id in ids or list(self.replicas):
-            self.replicas[id].wait(timeout=30)
+            self.replicas[id].wait(timeout=PATIENCE)
 
-    def ended(self, id: int, seconds: float = 60) -> int:
+    def ended(self, id: int) -> int:
         """The status with which a replica's process ended."""
-        return self.replicas[id].wait(timeout=seconds)
+        return self.replicas[id].wait(timeout=PATIENCE)
 
     def lines(self, id: int) -> list[dict]:
         """What a replica's process has logged."""
@@ -104,12 +127,9 @@ class Machines:
         """How many lines of this kind a replica's log has."""
         return sum(line["what"] == what for line in self.lines(id))
 
-    def wait_for(self, id: int, what: str, count: int = 1, seconds: float = 60) -> None:
+    def wait_for(self, id: int, what: str, count: int = 1) -> None:
         """Waits until a replica's log has so many lines of this kind."""
-        until = time.monotonic() + seconds
-        while self.count(id, what) < count:
-            expect(time.monotonic() < until, f"replica {id} never said {what!r}")
-            time.sleep(0.05)
+        wait_until(lambda: self.count(id, what) >= count, f"replica {id} never said {what!r}")
 
     # ---- clients
 
@@ -165,10 +185,18 @@ class Machines:
         """Up to which number each replica has executed, as its journal told last."""
         return [int(number) for number in re.findall(r"executed (\d+)", self.said("status", self.folder))]
 
+    def wait_until_near(self, id: int) -> None:
+        """Waits until a replica stands no further behind the others than they keep what it lacks: what was lost is sent again at ticks."""
+        wait_until(lambda: self.executed()[id] >= max(self.executed()) - 16, f"replica {id} stays behind", 1.0)
+
+    def wait_until_quiet(self) -> None:
+        """Waits until no replica writes down what it takes any more."""
+        seen: list[list[int]] = []
+        wait_until(lambda: seen.append(self.rows()) or (len(seen) > 2 and seen[-1] == seen[-3]), "the replicas never come to rest", 1.0)
+
     def rows(self) -> list[int]:
         """How many rows each replica's journal has."""
         return [int(number) for number in re.findall(r"(\d+) rows", self.said("status", self.folder))]
-
 
 
 def started(machines: Machines) -> None:

@@ -3,12 +3,13 @@ from __future__ import annotations
 
 import asyncio
 import os
+import sqlite3
 import sys
 from pathlib import Path
 
 import parts_path  # noqa: F401
 from faults import GroupFault
-from journal import Journal, Row, Step
+from journal import NAME, Journal, Row, Step
 from messages import Kind, part_of
 from replica import Process, run_replica
 
@@ -34,6 +35,15 @@ class Late:
         self._owed.clear()
 
 
+def _is_known(path: Path, message: bytes) -> bool:
+    """Whether a replica with this journal has taken a message."""
+    base = sqlite3.connect(f"file:{path}?mode=ro", uri=True)
+    try:
+        return base.execute("SELECT count(*) FROM row WHERE message = ?", (message,)).fetchone()[0] > 0
+    finally:
+        base.close()
+
+
 class WrongOrder(Process):
     """Takes, sends, and only then commits."""
 
@@ -43,9 +53,11 @@ class WrongOrder(Process):
         send, self.send = self.send, lambda messages: sent.extend(messages) or send(messages)
         await super()._take(now)
         self.send = send
-        if any(part_of(message.bytes).kind == Kind.PRE_PREPARE for message in sent):
-            await asyncio.sleep(0.5)
-            os._exit(ENDED)
+        for message in sent:
+            if part_of(message.bytes).kind == Kind.PRE_PREPARE:
+                while not _is_known(self.keeper.group.folder / "replica-1" / NAME, message.bytes):
+                    await asyncio.sleep(0.05)
+                os._exit(ENDED)
         late.write()
         self.keeper.journal = late._journal
 
