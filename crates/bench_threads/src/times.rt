@@ -158,6 +158,18 @@ pub(crate) fn print_times<R: Measures + Threads + Wait + Copy + Send + Sync + Dr
     require_within_limits(are_within)
 }
 
+/// Prints how many calls a second hosts answer of 1, 4 and 16 clients that call at the same time.
+pub(crate) fn print_rates<R: Measures + Threads + Wait + Copy + Send + Sync + Drop + 'static>(
+    rt: &R,
+) -> Result<()> {
+    for clients in [1, 4, 16] {
+        let taken = measure(rt, host_of(clients, 1))?.nanoseconds;
+        let each_second = u128::from(REQUESTS).saturating_mul(1_000_000_000) / taken.max(1);
+        println!(rt; "clients: {clients}, {each_second} calls a second")?;
+    }
+    Ok(())
+}
+
 /// Prints how many replicas gave a journal after two calls.
 pub(crate) fn print_small<R: Measures + Threads + Wait + Copy + Send + Sync + Drop + 'static>(
     rt: &R,
