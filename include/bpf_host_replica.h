@@ -9,7 +9,7 @@
  * - A seed never begins twice at one leaf. Two messages that one leaf signed give the key away (RFC 8554, section 9.2). A
  *   process that begins again with its seed begins at a leaf that none of its signatures has used: what is kept for that, on disk,
  *   is raised before a message is given to anybody. A replica begins with no memory of what it said before, and counts among the
- *   f faulty ones from then on; but one that begins at the leaf at which it began before, and takes all again that it took, in that
+ *   f faulty ones from then on; but one that began by bpfh_replica_replay, begins so again, and takes all again that it took, in that
  *   order, before anything of it is sent, gives the same bytes again and goes on from there. A client goes on with a time at least that
  *   of its last request.
  * - A seed has 32 secret bytes from a good source of random numbers, and stays where it is used.
@@ -162,10 +162,16 @@ uint32_t bpfh_config(bpfh_handle *draft, bpfh_handle *config);
  * what they say, and valid signatures. 21, 52, 102 to 116: signed_by stays as it was. */
 uint32_t bpfh_open(bpfh_handle *config, const uint8_t *bytes, size_t length, bpfh_signed_by *signed_by);
 
-/* Makes a replica before its first message, whose signer has used the leaves below leaf. What replica held is freed first. 21,
- * 52, 56 to 60: it holds nothing. */
+/* Makes a replica before its first message, whose signer has used the leaves below leaf: none from there on has signed, which its caller
+ * keeps on disk; a new seed begins at 0. What replica held is freed first. 21, 52, 56 to 60: it holds nothing. */
 uint32_t bpfh_replica_new(bpfh_handle *config, uint8_t id, const uint8_t *seed, size_t seed_length, uint8_t top,
                          uint8_t bottom, uint32_t leaf, bpfh_handle *replica);
+
+/* Makes a replica before its first message, whose signer is at its first leaf, for a caller that writes each message and each timeout
+ * down before its replica takes it: it takes again all that this seed's replica took, in that order, before anything is sent. What replica
+ * held is freed first. 21, 52, 56, 57, 59, 60: it holds nothing. */
+uint32_t bpfh_replica_replay(bpfh_handle *config, uint8_t id, const uint8_t *seed, size_t seed_length, uint8_t top,
+                            uint8_t bottom, bpfh_handle *replica);
 
 /* Opens bytes and has the replica take the message that they are. 0: what it did stays inside until its next step. 21, 53, 102
  * to 116: the replica stays as it was. 201 to 205: it has halted. */

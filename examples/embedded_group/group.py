@@ -45,6 +45,7 @@ class Honest:
     """A replica that is one, with the votes that came early for it."""
 
     is_faulty = False
+    begins: Callable[..., Replica] = Replica
 
     def __init__(self, make: Callable[[], Replica], votes: Votes):
         self.replicas, self.votes = [make()], votes
@@ -73,6 +74,7 @@ class Restarted(Honest):
     included, so nothing that it said is contradicted and no leaf signs a second message."""
 
     INTERVAL = 100
+    begins = Replica.replay
 
     def __init__(self, make: Callable[[], Replica], votes: Votes):
         super().__init__(make, votes)
@@ -138,7 +140,10 @@ class Group:
         clients = {who: (who - 99, seeds[who].public_key()) for who in CLIENTS}
         config = Configuration(1, 8, [seeds[who].public_key() for who in REPLICAS], clients)
         self.faulty = {who for who, kind in kinds.items() if kind.is_faulty}
-        self.members = {who: kinds.get(who, Honest)(partial(Replica, config, who, seeds[who]), Votes(config)) for who in REPLICAS}
+        self.members = {}
+        for who in REPLICAS:
+            kind = kinds.get(who, Honest)
+            self.members[who] = kind(partial(kind.begins, config, who, seeds[who]), Votes(config))
         self.clients = {who: Client(config, who, seeds[who]) for who in CLIENTS}
         self.on_the_way: list[tuple[int, int, bytes]] = []  # from, to, bytes
         self.timeouts = self.lost = 0

@@ -208,7 +208,7 @@ def open_keeper(group: Group, me: Member) -> tuple[Keeper, Secrets]:
     secrets, config = read_secrets(group, me), group.configuration()
     journal = Journal(folder, Header(group.digest(), me.id, me.key))
     try:
-        keeper = Keeper(group, me, config, Replica(config, me.id, secrets.seed), journal)
+        keeper = Keeper(group, me, config, Replica.replay(config, me.id, secrets.seed), journal)
     except GroupError as fault:
         if fault.status == Status.MEMORY:
             raise MemoryRanOut("Memory ran out as the replica was made. The process may be started again.") from None

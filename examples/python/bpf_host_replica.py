@@ -224,6 +224,7 @@ def _load() -> ctypes.CDLL:
         "draft_client": [handle, number, number, data, size],
         "config": [handle, handle],
         "replica_new": [handle, byte, *seed, number, handle],
+        "replica_replay": [handle, byte, *seed, handle],
         "replica_take": [handle, data, size],
         "replica_timeout": [handle],
         "replica_waits": [handle, data, size, ctypes.POINTER(number)],
@@ -290,11 +291,25 @@ class Configuration(_Held):
 
 
 class Replica(_Held):
-    """A replica before its first message, whose signer has used the leaves below `leaf`."""
+    """A replica before its first message, whose signer has used the leaves below `leaf`: none of those from there on has signed, which its
+    caller keeps on disk. One that takes a journal again begins by `replay`."""
 
     def __init__(self, config: Configuration, replica: int, seed: Seed, leaf: int = 0) -> None:
         super().__init__()
         _check(_library.bpfh_replica_new(config._at, replica, *seed._words(), leaf, self._at))
+        self._make_room()
+
+    @classmethod
+    def replay(cls, config: Configuration, replica: int, seed: Seed) -> Replica:
+        """A replica before its first message, with its signer at its first leaf. It is to take again all that this seed's replica took, in
+        that order, before anything is sent."""
+        made = cls.__new__(cls)
+        _Held.__init__(made)
+        _check(_library.bpfh_replica_replay(config._at, replica, *seed._words(), made._at))
+        made._make_room()
+        return made
+
+    def _make_room(self) -> None:
         self._room = ROOM
         self._buffer = ctypes.create_string_buffer(self._room)
         self._sent = _Sent()

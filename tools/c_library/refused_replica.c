@@ -106,7 +106,7 @@ static void day(void) {
   bpfh_handle draft = {0}, config = {0}, replica = {0}, client = {0};
   memset(message, 2, 5);
   if (drawn_up(&draft, &config)) {
-    bool joined = went("a replica", bpfh_replica_new(&config, 0, seeds[0], BPFH_SEED, 5, 0, 0, &replica));
+    bool joined = went("a replica", bpfh_replica_replay(&config, 0, seeds[0], BPFH_SEED, 5, 0, &replica));
     joined = went("a client", bpfh_client_new(&config, 100, seeds[4], BPFH_SEED, 5, 0, 0, 0, &client)) && joined;
     if (joined) step(&config, &replica, &client);
   }

@@ -82,6 +82,10 @@ static void joins(bpfh_handle *config, bpfh_handle *replica, bpfh_handle *client
   is("a late time", bpfh_client_new(config, 100, seeds[4], BPFH_SEED, 5, 0, 0, UINT64_MAX, client), BPFH_GROUP_NO_TIME);
   is("a replica's seed", bpfh_client_new(config, 100, seeds[0], BPFH_SEED, 5, 0, 0, 0, client), BPFH_GROUP_OTHER_KEY);
   holds("nobody joined", !replica->is_full && !client->is_full);
+  is("nothing to take again under", bpfh_replica_replay(nothing, 0, seeds[0], BPFH_SEED, 5, 0, replica), BPFH_GROUP_NO_CONFIG);
+  is("another's journal", bpfh_replica_replay(config, 1, seeds[0], BPFH_SEED, 5, 0, replica), BPFH_GROUP_OTHER_KEY);
+  is("replica 4's", bpfh_replica_replay(config, 4, seeds[0], BPFH_SEED, 5, 0, replica), BPFH_GROUP_NOT_LISTED);
+  holds("nobody began again", !replica->is_full);
   is("replica 0", bpfh_replica_new(config, 0, seeds[0], BPFH_SEED, 5, 0, 0, replica), BPFH_GROUP_DONE);
   is("client 100", bpfh_client_new(config, 100, seeds[4], BPFH_SEED, 5, 0, 30, 0, client), BPFH_GROUP_DONE);
 }

@@ -23,8 +23,6 @@ pub struct Standing {
     pub leaves: u32,
 }
 
-/// Writes the canonical encoding of a replica's state, version 2. Where the buffer is too short only the length is written;
-
 /// Tells where a replica stands.
 pub fn stand(held: &Held, standing: &mut Standing) -> u32
     ensures { StandsIn (member_of held.now) result standing.old standing.new }
@@ -45,7 +43,7 @@ pub fn stand(held: &Held, standing: &mut Standing) -> u32
     Status::Done.number()
 }
 
-/// Tells the canonical encoding of a replica's state.
+/// Tells the canonical encoding of a replica's state, version 2.
 pub fn tell_state(held: &Held, buffer: &mut [u8], told: &mut u64) -> u32
     ensures { StateIn (member_of held.now) result told.new buffer.old buffer.new }
 {

@@ -16,8 +16,9 @@ use std::alloc::Global;
 const MAX_TIME: u64 = 1 << 63;
 
 /// Makes a replica before its first message, with the signer of a seed that has used the leaves below `leaf`. **No leaf from
-/// there on may have signed.** The handle's former content is freed; the replica is inside where the status is 0, else
-/// nothing.
+/// there on may have signed**: it is for a caller that keeps such a number on disk, and raises it before anything is sent; a new
+/// seed begins at 0. One that takes a journal again begins by `bpfh_replica_replay`. The handle's former content is freed; the
+/// replica is inside where the status is 0, else nothing.
 #[unsafe(no_mangle)]
 pub extern "C" fn bpfh_replica_new(
     alloc: Global,
@@ -48,6 +49,30 @@ pub extern "C" fn bpfh_replica_new(
         replica,
     )
     .number()
+}
+
+/// Makes a replica before its first message, with the signer of a seed at its first leaf. **It takes again all that this seed's
+/// replica took, in that order, before anything is sent**: it is for a caller that writes each message and each timeout down before
+/// its replica takes it. The handle's former content is freed; the replica is inside where the status is 0, else nothing.
+#[unsafe(no_mangle)]
+pub extern "C" fn bpfh_replica_replay(
+    alloc: Global,
+    config: &mut Handle,
+    id: u8,
+    seed: &[u8],
+    top: u8,
+    bottom: u8,
+    replica: &mut Handle,
+) -> u32
+    ensures status { (result ≡ 21) ⊎ ((status : StatusSaid) × (result ≡ number_of status)
+        × JoinsIn (replica_key_of id) (config_in config.old.slot.inside) (signer_in seed.now top bottom 0) status) }
+    ensures inside { (c : Configuration) → (signer : SigningState) → config_in config.old.slot.inside ≡ Some c
+        → signer_in seed.now top bottom 0 ≡ Ok signer → result ≡ 0
+        → member_in replica.new.slot.inside ≡ Some (first_member c id signer) }
+    ensures none { 0 < result → replica.new.slot.inside ≡ None }
+    ensures kept { config.new.slot.inside ≡ config.old.slot.inside }
+{
+    join_replica(alloc, config, ReplicaId(id), seed, top, bottom, 0, replica).number()
 }
 
 fn join_replica(

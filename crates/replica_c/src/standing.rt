@@ -25,7 +25,8 @@ pub extern "C" fn bpfh_replica_standing(
     status
 }
 
-/// once the replica has halted the status is 63.
+/// Writes the canonical encoding of a replica's state, version 2. Where the buffer is too short only the length is written; once the
+/// replica has halted the status is 63.
 #[unsafe(no_mangle)]
 pub extern "C" fn bpfh_replica_state(
     alloc: Global,
