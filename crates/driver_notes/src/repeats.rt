@@ -1,0 +1,205 @@
+//! What a replica sends again.
+
+ghost use Rattle.std.specs.Prelude.{◌≡◌, OnErr, OnOk, not, position, slice_get};
+ghost use Rattle.std.specs.List.{filter};
+ghost use Rattle.std.specs.Option.{option_copied};
+ghost use Rattle.pbft_codec.specs.Encoding.{signed_text};
+ghost use Rattle.sha2.specs.Sha256.{sha256};
+ghost use Rattle.driver_notes.specs.Repeating.{about, answered, asks_for, is_about, is_entered, is_wanted_in, moved, none_kept, noted, taken};
+
+use host_types::{Digest, SeqNo, View};
+use pbft_codec::{Body, Fetch};
+use seal::{Checked, request_digest};
+use std::alloc::{AllocError, Global};
+use std::marker::Model;
+
+/// What a message is about. Of two own messages that are about the same the later one is sent again.
+#[derive(Clone, Copy, Debug, PartialEq, Eq)]
+pub struct Subject {
+    /// The body's kind, by its byte in the encoding.
+    pub kind: u8,
+    /// Of a vote its view, of a Reply its client, of a Fetch 1 for a request and 2 for a state; else 0.
+    pub whose: u32,
+    /// Of a vote and of a Checkpoint its number; else 0.
+    pub number: u64,
+}
+
+/// A replica's own messages that are sent again, and the NewView of its view: votes and Checkpoints above its low mark, votes,
+/// ViewChanges and NewViews of its view and later ones, the last Fetch of a request and of a state that isn't answered, and each
+/// client's last Reply.
+#[derive(Drop)]
+pub struct Repeats {
+    low: SeqNo,
+    executed: SeqNo,
+    view: View,
+    kept: Vec<Checked>,
+}
+
+impl Model for Repeats {
+    ghost use Rattle.driver_notes.specs.Repeating.{RepeatsFacts};
+
+    ghost Value = { RepeatsFacts };
+
+    ghost view = { λ r. record { low = r.low.0; executed = r.executed.0; view = r.view.0; kept = r.kept.items } };
+}
+
+impl Repeats {
+    /// Nothing is kept, for a replica before its first message.
+    pub fn new(alloc: Global) -> Repeats
+        ensures { result ≡ none_kept }
+    {
+        Repeats {
+            low: SeqNo(0),
+            executed: SeqNo(0),
+            view: View(0),
+            kept: Vec::new(alloc),
+        }
+    }
+
+    /// Keeps a message of the replica, or a NewView by which it has entered its view, in the place of one that is about the same.
+    /// What isn't sent again by a replica that stands so is passed over. The error is that memory ran out, and changes nothing.
+    pub fn note(&mut self, message: &Checked) -> Result<(), AllocError>
+        ensures noted { OnOk result (self.new ≡ noted self.old message.now) }
+        ensures unchanged { OnErr result (self.new ≡ self.old) }
+    {
+        if !is_wanted(message, self.low, self.executed, self.view) {
+            return Ok(());
+        }
+        let copy = message.copy()?;
+        match self.place_of(about(message.body())) {
+            Some(place) => self.kept[place] = copy,
+            None => self.kept.push(copy)?,
+        }
+        Ok(())
+    }
+
+    /// The replica has taken this message, and stands in this view: a Fetch that asks for it as a request is answered, and a NewView by
+    /// which it has entered its view is sent again. The error is that memory ran out, and changes nothing.
+    pub fn take(&mut self, message: &Checked, view: View, is_active: bool) -> Result<(), AllocError>
+        ensures taken { OnOk result (self.new ≡ taken self.old message.now view.0 is_active) }
+        ensures unchanged { OnErr result (self.new ≡ self.old) }
+    {
+        if is_entered(message.body(), view, is_active) {
+            self.note(message)?;
+        }
+        self.answer(message);
+        Ok(())
+    }
+
+    /// A Fetch that asks for this message as a request is answered.
+    fn answer(&mut self, message: &Checked)
+        ensures { self.new ≡ answered self.old (sha256 (signed_text message.now.message)) }
+    {
+        drop_answered(&mut self.kept, &request_digest(message));
+    }
+
+    /// The replica stands so: what it doesn't send again any more goes. It takes no memory.
+    pub fn move_to(&mut self, low: SeqNo, executed: SeqNo, view: View)
+        ensures { self.new ≡ moved self.old low.0 executed.0 view.0 }
+    {
+        self.low = low;
+        self.executed = executed;
+        self.view = view;
+        drop_past(&mut self.kept, low, executed, view);
+    }
+
+    /// A message that is sent again, by its place from 0 on. It takes no memory.
+    pub fn get(&self, place: usize) -> Option<&Checked>
+        ensures { option_copied result ≡ slice_get self.now.kept place }
+    {
+        self.kept.get(place)
+    }
+
+    fn place_of(&self, subject: Subject) -> Option<usize>
+        ensures { result ≡ position (is_about subject) self.now.kept }
+    {
+        self.kept.iter().position(|kept| is_about(&subject, kept))
+    }
+}
+
+// Drops a Fetch of the request with this digest.
+fn drop_answered(kept: &mut Vec<Checked>, digest: &Digest)
+    ensures { kept.new.items ≡ filter (λ m. not (asks_for digest.now.0 m)) kept.old.items }
+{
+    kept.retain(|message| !asks_for(message, digest));
+}
+
+// Drops what a replica that stands so doesn't send again.
+fn drop_past(kept: &mut Vec<Checked>, low: SeqNo, executed: SeqNo, view: View)
+    ensures { kept.new.items ≡ filter (is_wanted_in low.0 executed.0 view.0) kept.old.items }
+{
+    kept.retain(|message| is_wanted(message, low, executed, view));
+}
+
+// Whether it is the NewView by which a replica has entered the view in which it stands.
+fn is_entered(body: &Body, view: View, is_active: bool) -> bool
+    ensures { result ≡ is_entered view.0 is_active body.now }
+{
+    match body {
+        Body::NewView(said) => is_active && said.view.0 == view.0,
+        _ => false,
+    }
+}
+
+/// What a message with this body is about.
+fn about(body: &Body) -> Subject
+    ensures { result ≡ about body.now }
+{
+    match body {
+        Body::Request(_) => matter(1, 0, 0),
+        Body::PrePrepare(said) => matter(2, said.view.0, said.number.0),
+        Body::Prepare(said) => matter(3, said.view.0, said.number.0),
+        Body::Commit(said) => matter(4, said.view.0, said.number.0),
+        Body::Reply(said) => matter(5, said.client.0, 0),
+        Body::Checkpoint(said) => matter(6, 0, said.number.0),
+        Body::ViewChange(_) => matter(7, 0, 0),
+        Body::NewView(_) => matter(8, 0, 0),
+        Body::Fetch(Fetch::Request(_)) => matter(9, 1, 0),
+        Body::Fetch(Fetch::State(_)) => matter(9, 2, 0),
+        Body::Snapshot(_) => matter(10, 0, 0),
+    }
+}
+
+fn matter(kind: u8, whose: u32, number: u64) -> Subject
+    ensures { result ≡ record { kind = kind; whose = whose; number = number } }
+{
+    Subject {
+        kind,
+        whose,
+        number,
+    }
+}
+
+fn is_about(subject: &Subject, message: &Checked) -> bool
+    ensures { result ≡ is_about subject.now message.now }
+{
+    let other = about(message.body());
+    other.kind == subject.kind && other.whose == subject.whose && other.number == subject.number
+}
+
+// Whether it is a Fetch of the request with this digest.
+fn asks_for(message: &Checked, digest: &Digest) -> bool
+    ensures { result ≡ asks_for digest.now.0 message.now }
+{
+    match message.body() {
+        Body::Fetch(Fetch::Request(wanted)) => wanted.0 == digest.0,
+        _ => false,
+    }
+}
+
+// Whether a replica that stands so sends it again.
+fn is_wanted(message: &Checked, low: SeqNo, executed: SeqNo, view: View) -> bool
+    ensures { result ≡ is_wanted_in low.0 executed.0 view.0 message.now }
+{
+    match message.body() {
+        Body::PrePrepare(said) => low.0 < said.number.0 && view.0 <= said.view.0,
+        Body::Prepare(said) => low.0 < said.number.0 && view.0 <= said.view.0,
+        Body::Commit(said) => low.0 < said.number.0 && view.0 <= said.view.0,
+        Body::Checkpoint(said) => low.0 < said.number.0,
+        Body::ViewChange(said) => view.0 <= said.view.0,
+        Body::NewView(said) => view.0 <= said.view.0,
+        Body::Fetch(Fetch::State(number)) => executed.0 < number.0,
+        Body::Fetch(Fetch::Request(_)) | Body::Reply(_) => true,
+        Body::Request(_) | Body::Snapshot(_) => false,
+    }
+}
