@@ -34,7 +34,7 @@ module _ (c : Setup) (j : Journals) (h : IsHonestFamily c j) (first : EachEnds c
   module _ (drained : IsDrained c j) (nobody_jumps : (i : ℕ) → IsCorrect c j.faulty i → (n : ℕ) → 1 ≤ n → Jumped n ((family c j h).acts i) → ⊥)
       (knows : (x : Fields) → Asked c j h first leader x → (i : ℕ) → IsCorrect c j.faulty i → (last c j h first leader i).executed < x.number → is_known c (last c j h first leader i) x.digest ≡ true) where
     -- Nobody rests below a number that was proposed.
-    all_reach : (n : ℕ) → (x : Fields) → x.number ≡ n → Asked c j h first leader x → (i : ℕ) → IsCorrect c j.faulty i → n ≤ (last c j h first leader i).executed
+    pub all_reach : (n : ℕ) → (x : Fields) → x.number ≡ n → Asked c j h first leader x → (i : ℕ) → IsCorrect c j.faulty i → n ≤ (last c j h first leader i).executed
     all_reach zero x number asked i correct = omega arith
     all_reach (suc n) x number asked i correct =
         let one = above_zero c j h first leader drained x asked in
@@ -62,7 +62,7 @@ module _ (c : Setup) (j : Journals) (h : IsHonestFamily c j) (first : EachEnds c
 
   -- ---- what was reached without a jump was executed
 
-  executes_it : (x : Fields) → Asked c j h first leader x → (i : ℕ) → IsCorrect c j.faulty i → Done x.number ((family c j h).acts i) → (result : List ℕ) × HasDone (Executed x.number x.digest result) (j.rows i)
+  pub executes_it : (x : Fields) → Asked c j h first leader x → (i : ℕ) → IsCorrect c j.faulty i → Done x.number ((family c j h).acts i) → (result : List ℕ) × HasDone (Executed x.number x.digest result) (j.rows i)
   executes_it x asked i correct (d, t, o, early, at) =
       let done = (told c j h i correct).reports x.number d t o early at in
       let y : Fields = record { view = 0; number = x.number; digest = d } in

@@ -7,8 +7,8 @@ use Rattle.pbft_codec.specs.declared.body.Body.TheVariants as bodies
 use Rattle.pbft_model.specs.Sequential.{Service, Outcome}
 use Rattle.pbft_model.specs.Setup.{Setup, replicas}
 use Rattle.pbft_model.specs.Core.{Core, start_of}
-use Rattle.pbft_model.specs.Acts.{Act, Take, Execute}
-use Rattle.pbft_model.specs.Rows.{Done, Executed, done_of, result_of}
+use Rattle.pbft_model.specs.Acts.{Act, Take, Execute, Install}
+use Rattle.pbft_model.specs.Rows.{Done, Executed, Installed, done_of, result_of}
 use Rattle.pbft_model.specs.Histories.{core_after, IsHistory, IsEarlier, IsIn, HasSigned, HasTaken}
 use Rattle.pbft_model.specs.Families.{Family, IsCorrect, IsUnforged}
 use Rattle.pbft_agreement.specs.Journals.{Journals, HasReceived, HasGiven, HasDone, ComesTo, RunsTo, IsHashedIn, IsHonestFamily}
@@ -39,6 +39,7 @@ module _ (c : Setup) (j : Journals) (h : IsHonestFamily c j) where
     pub reports : (n : ℕ) (d : List ℕ) (t : Service) (o : Outcome) (early : List Act) → IsEarlier (Execute n d t o ∷ early) acts → HasDone (Executed n d (result_of o.reply)) (j.rows i)
     pub runs : (n : ℕ) (d : List ℕ) (t : Service) (o : Outcome) (early : List Act) → IsEarlier (Execute n d t o ∷ early) acts → RunsTo c i (start_of c (j.signer i)) (j.rows i) t
     pub splits : (m : Signed Body) (r : Option Service) (x : List Act) → IsEarlier (Take m r ∷ x) acts → Split c i (j.signer i) m x [] (j.rows i)
+    pub installs : (k : ℕ) (b : List ℕ) (t : Service) (x : List Act) → IsEarlier (Install k b t ∷ x) acts → HasDone (Installed k (c.hash b)) (j.rows i)
     pub did : (done : Done) → HasDone done (j.rows i) → (a : Act) × (early : List Act) × IsEarlier (a ∷ early) acts × IsIn done (done_of c a)
 
   told_by : (i : ℕ) (a b : Bool) (e : nat_lt i (replicas c.config) ≡ a) (f : j.faulty i ≡ b) → IsCorrect c j.faulty i → Told i (pick i a b e f)
@@ -58,6 +59,7 @@ module _ (c : Setup) (j : Journals) (h : IsHonestFamily c j) where
         reports = l.reports;
         runs = l.runs;
         splits = l.splits;
+        installs = l.installs;
         did = l.did;
       }
   told_by i true true e f correct = absurd (true≢false (sym f ∙ correct.1))

@@ -9,3 +9,9 @@ pub mod Proposing
 pub mod Holding
 pub mod OneResult
 pub mod Executing
+pub mod Replying
+pub mod Listing
+pub mod Ordering
+pub mod Answering
+pub mod Answered
+pub mod Asking

@@ -107,7 +107,7 @@ taken_later m x (a ∷ acts) (inl e) taken = subst (HasTaken m) e taken
 taken_later m x (a ∷ acts) (inr e) taken = inr (taken_later m x acts e taken)
 
 -- a PrePrepare's signer is the view's primary
-proposed_by : (c : Configuration) (r : Role) (id : ℕ) (b : PrePrepare) → IsTrue (may_sign c r id (bodies.PrePrepare b)) → (r ≡ Replica) × (primary c b.view.0 ≡ id)
+pub proposed_by : (c : Configuration) (r : Role) (id : ℕ) (b : PrePrepare) → IsTrue (may_sign c r id (bodies.PrePrepare b)) → (r ≡ Replica) × (primary c b.view.0 ≡ id)
 proposed_by c Replica id b h = (refl, eqb-true (primary c b.view.0) id h)
 proposed_by c Client id b h = absurd (false≢true h)
 
@@ -126,7 +126,7 @@ greatest_in_list (k ∷ ns) n one e = elim (cases_eq n k) [
   ]))
 ]
 
-from_filtered : {X : Type 0} (test : X → Bool) (xs : List X) (x : X) → IsIn x (filter test xs) → IsIn x xs × (test x ≡ true)
+pub from_filtered : {X : Type 0} (test : X → Bool) (xs : List X) (x : X) → IsIn x (filter test xs) → IsIn x xs × (test x ≡ true)
 from_filtered test [] x h = absurd h
 from_filtered {X} test (y ∷ xs) x h = cases (test y) refl h (from_filtered test xs x) where
   cases : (b : Bool) → test y ≡ b → IsIn x (cond b (y ∷ filter test xs) (filter test xs)) → (IsIn x (filter test xs) → IsIn x xs × (test x ≡ true)) → IsIn x (y ∷ xs) × (test x ≡ true)
@@ -305,7 +305,7 @@ module _ (c : Setup) (j : Journals) (h : IsHonestFamily c j) (first : EachEnds c
       ap (λ (y : Fields). y.view) (sym fields) ∙ says.inside.view_is ∙ (first_then c j h first me leader w.early (before (Send w.to w.message) w.early the_acts w.point)).0
 
   -- what is noted as proposed at a point of the primary it signed
-  noted_signs : (early : List Act) → IsEarlier early the_acts → (x : Fields) → IsIn x (core_after c (j.signer (primary c.config 0)) early).proposed → Signs x
+  pub noted_signs : (early : List Act) → IsEarlier early the_acts → (x : Fields) → IsIn x (core_after c (j.signer (primary c.config 0)) early).proposed → Signs x
   noted_signs early at x within =
       let me = primary c.config 0 in
       let w = (notes c me (j.signer me) early (history_at c me (j.signer me) early the_acts at (told c j h me leader).is)).2 x within in

@@ -42,7 +42,7 @@ module _ (c : Setup) (j : Journals) (h : IsHonestFamily c j) (first : EachEnds c
       true≢false (sym here.1 ∙ w.says.changing)
 
   -- a part that was signed in an own message is the message's own
-  alone : (i : ℕ) → IsCorrect c j.faulty i → (m : Signed Body) (p : Part) → HasSigned (part_of m) ((family c j h).acts i) → IsIn p (signed_in m) → p ≡ part_of m
+  pub alone : (i : ℕ) → IsCorrect c j.faulty i → (m : Signed Body) (p : Part) → HasSigned (part_of m) ((family c j h).acts i) → IsIn p (signed_in m) → p ≡ part_of m
   alone i correct m p signed (inl same) = same
   alone i correct m p signed (inr listed) =
       let w = from_map (λ (q : Signed PrePrepare). part_of (as_message bodies.PrePrepare q)) (listed_in m.body) p listed in

@@ -1,1 +1,2 @@
 pub mod Window
+pub mod Answered

@@ -40,11 +40,11 @@ one_of P [] x all none = absurd none
 one_of P (y ∷ xs) x (here, rest) (inl same) = subst P (sym same) here
 one_of P (y ∷ xs) x (here, rest) (inr later) = one_of P xs x rest later
 
-abbrev EachGiven : (Output → Type 0) → List Turn → Type 0
+abbrev pub EachGiven : (Output → Type 0) → List Turn → Type 0
 EachGiven P [] = Unit {0}
 EachGiven P (t ∷ ts) = AllByRecursion P (all_outputs t.acts) × EachGiven P ts
 
-given_one : (c : Setup) (P : Output → Type 0) (ts : List Turn) (row : Row) (output : Output) → EachGiven P ts → IsIn row (rows_of_turns c ts) → IsIn output row.outputs → P output
+pub given_one : (c : Setup) (P : Output → Type 0) (ts : List Turn) (row : Row) (output : Output) → EachGiven P ts → IsIn row (rows_of_turns c ts) → IsIn output row.outputs → P output
 given_one c P [] row output each none within = absurd none
 given_one c P (t ∷ ts) row output (here, rest) (inl same) within = one_of P (all_outputs t.acts) output here (subst (λ (r : Row). IsIn output r.outputs) same within)
 given_one c P (t ∷ ts) row output (here, rest) (inr later) within = given_one c P ts row output rest later within

@@ -9,9 +9,9 @@ use Rattle.pbft_codec.specs.declared.body.fetch.Fetch.TheVariants as fetches
 use Rattle.pbft_model.specs.Sequential.{Service, Outcome}
 use Rattle.pbft_model.specs.Setup.{Setup}
 use Rattle.pbft_model.specs.Core.{Core, start_of}
-use Rattle.pbft_model.specs.Acts.{Act, Take, Timeout, Send, Enter, Execute, after, said, left_for, left_if_above}
+use Rattle.pbft_model.specs.Acts.{Act, Take, Timeout, Send, Enter, Execute, Install, after, said, left_for, left_if_above}
 use Rattle.pbft_model.specs.Duties.{due}
-use Rattle.pbft_model.specs.Rows.{Row, Input, Received, TimedOut, Output, Done, Executed, Begins, Follows, Fulfils, IsLawfulFrom, outputs_of, all_outputs, done_of, result_of}
+use Rattle.pbft_model.specs.Rows.{Row, Input, Received, TimedOut, Output, Done, Executed, Installed, Begins, Follows, Fulfils, IsLawfulFrom, outputs_of, all_outputs, done_of, all_done, result_of}
 use Rattle.pbft_model.specs.Histories.{core_after, IsHistory, IsEarlier, IsIn, HasSigned, HasTaken, signed_in, signed_by_act}
 use Rattle.pbft_agreement.specs.Journals.{HasReceived, HasGiven, HasDone, RunsTo}
 use Rattle.pbft_model.proofs.Events.{earlier_trans}
@@ -238,6 +238,43 @@ module _ (c : Setup) (me : ℕ) (signer : SigningState) where
         rest_is : (m : Signed Body) (r : Option Service) (x : List Act) (a : Act) (early : List Act) → Take m r ∷ x ≡ a ∷ early → x ≡ early
         rest_is m r x a early e = cc
 
+  -- ---- an installation is reported
+
+  from_pushed : (b : Act) (x acts early : List Act) → IsEarlier (b ∷ x) (pushed acts early) → IsEarlier (b ∷ x) early ⊎ IsIn b acts
+  from_pushed b x [] early h = inl h
+  from_pushed b x (a ∷ acts) early h = elim (from_pushed b x acts (a ∷ early) h) [
+    | inl (inl same) ↦ inr (inl (head b a x early same))
+    | inl (inr older) ↦ inl older
+    | inr later ↦ inr (inr later)
+  ] where
+    head : (b a : Act) (xs ys : List Act) → b ∷ xs ≡ a ∷ ys → b ≡ a
+    head b a xs ys e = cc
+
+  in_done : (a : Act) (done : Done) (acts : List Act) → IsIn a acts → IsIn done (done_of c a) → IsIn done (all_done c acts)
+  in_done a done [] none h = absurd none
+  in_done a done (b ∷ acts) (inl same) h = in_append_left done (done_of c b) (all_done c acts) (subst (λ (x : Act). IsIn done (done_of c x)) same h)
+  in_done a done (b ∷ acts) (inr later) h = in_append_right done (done_of c b) (all_done c acts) (in_done a done acts later h)
+
+  no_installation : (input : Input) (a : Act) (k : ℕ) (b : List ℕ) (t : Service) → Begins c input a → Install k b t ≡ a → ⊥
+  no_installation (Received m) a k b t (reading, may, is) e = let both : Install k b t ≡ Take m reading = e ∙ is in absurd cc
+  no_installation TimedOut a k b t is e = let both : Install k b t ≡ Timeout = e ∙ is in absurd cc
+
+  installed_in : (k : ℕ) (b : List ℕ) (y : Service) (x early : List Act) (rows : List Row) (s t : Core) (w : IsLawfulFrom c me s rows t) → IsEarlier (Install k b y ∷ x) (acts_from c me signer early rows s t w)
+      → IsEarlier (Install k b y ∷ x) early ⊎ HasDone (Installed k (c.hash b)) rows
+  installed_in k b y x early [] s t w h = inl h
+  installed_in k b y x early (row ∷ rows) s t (u, next, rest) h = elim (installed_in k b y x (pushed (next.first ∷ next.acts) early) rows u t rest h) [
+    | inl here ↦ elim (from_pushed (Install k b y) x (next.first ∷ next.acts) early here) [
+      | inl older ↦ inl older
+      | inr (inl first) ↦ absurd (no_installation row.input next.first k b y next.begins first)
+      | inr (inr within) ↦
+          inr (row, inl refl, subst (λ (ds : List Done). IsIn (Installed k (c.hash b)) ds) (sym next.done) (in_done (Install k b y) (Installed k (c.hash b)) next.acts within (inl refl)))
+    ]
+    | inr (row', later, done) ↦ inr (row', inr later, done)
+  ]
+
+  none_installed : (k : ℕ) (b : List ℕ) (y : Service) (x : List Act) → Install k b y ∷ x ≡ [] → ⊥
+  none_installed k b y x e = cc
+
   -- A journal's history, which ends in this core.
   pub record Life (rows : List Row) (s : Core) : Type 0 where
     pub acts : List Act
@@ -252,6 +289,7 @@ module _ (c : Setup) (me : ℕ) (signer : SigningState) where
     pub reports : (n : ℕ) (d : List ℕ) (t : Service) (o : Outcome) (early : List Act) → IsEarlier (Execute n d t o ∷ early) acts → HasDone (Executed n d (result_of o.reply)) rows
     pub runs : (n : ℕ) (d : List ℕ) (t : Service) (o : Outcome) (early : List Act) → IsEarlier (Execute n d t o ∷ early) acts → RunsTo c me (start_of c signer) rows t
     pub splits : (m : Signed Body) (r : Option Service) (x : List Act) → IsEarlier (Take m r ∷ x) acts → Split m x [] rows
+    pub installs : (k : ℕ) (b : List ℕ) (t : Service) (x : List Act) → IsEarlier (Install k b t ∷ x) acts → HasDone (Installed k (c.hash b)) rows
     pub did : (done : Done) → HasDone done rows → (a : Act) × (early : List Act) × IsEarlier (a ∷ early) acts × IsIn done (done_of c a)
 
   nothing : (n : ℕ) (d : List ℕ) (t : Service) (o : Outcome) (early : List Act) → Execute n d t o ∷ early ≡ [] → ⊥
@@ -274,5 +312,6 @@ module _ (c : Setup) (me : ℕ) (signer : SigningState) where
     reports = λ n d t o early h. elim (execution_reported c me signer n d t o early [] rows (start_of c signer) s w h) [ inl none ↦ absurd (nothing n d t o early none) | inr done ↦ done ];
     runs = λ n d t o early h. elim (executed_from c me signer n d t o early [] rows (start_of c signer) s w h) [ inl none ↦ absurd (nothing n d t o early none) | inr run ↦ run ];
     splits = λ m r x h. elim (split_in m r x [] rows (start_of c signer) s w h) [ inl none ↦ absurd (never m r x none) | inr at ↦ at ];
+    installs = λ k b y x h. elim (installed_in k b y x [] rows (start_of c signer) s w h) [ inl none ↦ absurd (none_installed k b y x none) | inr done ↦ done ];
     did = λ done h. done_from c me signer done [] rows (start_of c signer) s w h;
   }

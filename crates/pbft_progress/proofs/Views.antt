@@ -24,7 +24,7 @@ use Rattle.pbft_progress.proofs.Duties.{Calls, count_below, count_all, by_from, 
 use Rattle.pbft_progress.proofs.Spreading.{Changed, Opened, Ended, ended, change_comes, opening_comes, opened_by_primary, changed_by_enough}
 
 -- each of those below n is of the first kind, or there is one of the second
-each_or_one : (those : ℕ → Bool) (A : ℕ → Type 0) (B : Type 0) (n : ℕ) → ((i : ℕ) → i < n → those i ≡ true → A i ⊎ B) → ((i : ℕ) → i < n → those i ≡ true → A i) ⊎ B
+pub each_or_one : (those : ℕ → Bool) (A : ℕ → Type 0) (B : Type 0) (n : ℕ) → ((i : ℕ) → i < n → those i ≡ true → A i ⊎ B) → ((i : ℕ) → i < n → those i ≡ true → A i) ⊎ B
 each_or_one those A B zero h = inl (λ i below t. absurd (omega (arith, below)))
 each_or_one those A B (suc n) h = elim (each_or_one those A B n (λ i below t. h i (omega (arith, below)) t)) [
   | inr one ↦ inr one
