@@ -68,6 +68,8 @@ enum bpfh_group_status {
   BPFH_GROUP_NO_REQUEST = 66, /* the session has made no request */
   BPFH_GROUP_NO_REPLY = 67,   /* no reply to the last request is accepted yet */
   BPFH_GROUP_NO_VOTES = 68,   /* the handle holds no early votes */
+  BPFH_GROUP_NO_REPEATS = 69, /* the handle holds nothing that a replica sends again */
+  BPFH_GROUP_NO_AUDIT = 70,   /* the handle holds no audit */
   /* The first fault of a configuration. */
   BPFH_GROUP_BAD_F = 71,               /* f is 1 to 3 */
   BPFH_GROUP_WRONG_REPLICA_COUNT = 72, /* there are 3f + 1 replicas */
@@ -94,7 +96,7 @@ enum bpfh_group_status {
   BPFH_GROUP_REQUEST_MEMORY = 304 /* memory ran out; a leaf may be used */
 };
 
-/* A draft, a configuration, a replica, a client's session, or nothing. The sandbox's header has the same. */
+/* A draft, a configuration, a replica, a client's session, what stands beside a replica, an audit, or nothing. The sandbox's header has the same. */
 #ifndef BPF_HOST_SANDBOX_H
 typedef struct bpfh_handle {
   void *at;
@@ -132,6 +134,13 @@ typedef struct bpfh_standing {
   uint32_t halted; /* 0, or the halt's status less 200 */
   uint32_t leaves; /* how many leaves of its signer have not signed */
 } bpfh_standing;
+
+/* The place of a message among those that an audit has heard, and whether it blames its signer. */
+typedef struct bpfh_heard {
+  uint64_t place;  /* from 0 on */
+  uint64_t first;  /* the place of the first message that its signer contradicts in it; 0 where there is none */
+  uint32_t blames; /* 1 where there is one, else 0 */
+} bpfh_heard;
 
 /* The reply that a client accepts. */
 typedef struct bpfh_accepted {
@@ -216,6 +225,31 @@ uint32_t bpfh_votes_move(bpfh_handle *votes, uint64_t low, uint32_t view);
  * vote stays the next one. 62: none is on time. 68. */
 uint32_t bpfh_votes_next(bpfh_handle *votes, uint8_t *message, size_t message_length, uint64_t *told);
 
+/* Makes what keeps the messages that a replica sends again, the same bytes: the protocol sends nothing twice, and where messages may be
+ * lost its caller does. They are its own votes and Checkpoints above its low mark, what it said of its view or a later one, its last
+ * Fetches that aren't answered, each client's last Reply, and the NewView of its view. After each step each message that it gave is noted,
+ * and then bpfh_repeats_follow is called. What repeats held is freed first. 21: it holds nothing. */
+uint32_t bpfh_repeats_new(bpfh_handle *repeats);
+
+/* Notes a message of what the replica's last step gave, by its place from 0 on, in the place of an earlier one of the same matter. Another's,
+ * and one that isn't sent again, is passed over. 21, 53, 61, 62, 69. */
+uint32_t bpfh_repeats_note(bpfh_handle *repeats, bpfh_handle *replica, uint32_t index);
+
+/* The replica has stepped: what it doesn't send again any more goes. 21, 53, 69. */
+uint32_t bpfh_repeats_follow(bpfh_handle *repeats, bpfh_handle *replica);
+
+/* A message that is sent again, by its place from 0 on. 0: sent->length bytes of message, and sent, are written. 35: sent alone. 62, 69:
+ * message stays as it was. */
+uint32_t bpfh_repeats_get(bpfh_handle *repeats, uint32_t index, uint8_t *message, size_t message_length, bpfh_sent *sent);
+
+/* Makes an audit that has heard nothing. What audit held is freed first. 21: it holds nothing. */
+uint32_t bpfh_audit_new(bpfh_handle *audit);
+
+/* Opens bytes under a configuration and has an audit hear the message that they are. A replica says one thing of each number of a view by
+ * each kind of vote, and one of each number's state: heard->first is the place of the first message in whose matter its signer said
+ * something else, and the two prove that it lies. It goes over all that was heard. 21, 52, 70, 102 to 116: nothing is changed. */
+uint32_t bpfh_audit_hear(bpfh_handle *config, bpfh_handle *audit, const uint8_t *bytes, size_t length, bpfh_heard *heard);
+
 /* Makes a client's session, whose signer has used the leaves below leaf, and whose first request has the time behind time: 0 for
  * a new client. What client held is freed first. 21, 52, 56 to 60, 64: it holds nothing. */
 uint32_t bpfh_client_new(bpfh_handle *config, uint32_t id, const uint8_t *seed, size_t seed_length, uint8_t top,
@@ -245,6 +279,7 @@ static_assert(sizeof(bpfh_sent) == 16, "two numbers of 32 bits and one of 64");
 static_assert(sizeof(bpfh_done_item) == 56, "a number of 32 bits, two of 64, and a digest");
 static_assert(sizeof(bpfh_signed_by) == 8, "two numbers of 32 bits");
 static_assert(sizeof(bpfh_standing) == 32, "two numbers of 64 bits and four of 32");
+static_assert(sizeof(bpfh_heard) == 24, "two numbers of 64 bits and one of 32");
 static_assert(sizeof(bpfh_accepted) == 24, "three numbers of 64 bits");
 
 #ifdef __cplusplus

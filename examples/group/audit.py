@@ -9,6 +9,7 @@ from collections.abc import Iterator
 from dataclasses import dataclass, field
 from pathlib import Path
 
+from bpf_host_replica import Audit as Contradictions
 from bpf_host_replica import Configuration, GroupError
 from configuration import FILE, Group, read_group
 from faults import ConfigurationFault, DiskFault
@@ -17,6 +18,7 @@ from messages import CLIENT, REPLICA, VOTES, Kind, Part, leaf_of, parts_of
 
 
 NOTHING: tuple[int, list] = (0, [])
+NUMBERS = 128  # of the messages that the library hears side by side: it goes over all that came before
 NULL_REQUEST = hashlib.sha256().digest()  # `null_digest` in pbft_model/specs/Setup.antt
 
 
@@ -97,36 +99,49 @@ def _record(path: Path, group: Group) -> Record:
 
 
 class Audit:
-    """Goes over messages, each once, and keeps what each signer said of a topic and signed with a leaf."""
+    """Goes over messages, each once, and keeps what each signer signed with a leaf; what he said the library keeps."""
 
     def __init__(self, group: Group) -> None:
         self._group, self._config = group, group.configuration()
         self._known: set[bytes] = set()
-        self._claims: dict[tuple, Part] = {}
+        self._heard: dict[int, tuple[Contradictions, list[Part]]] = {}
         self._leaves: dict[tuple[int, int, int], Part] = {}
         self._blamed: set[tuple] = set()
         self.findings = Findings()
 
     def hear(self, message: bytes) -> None:
-        digest = hashlib.sha256(message).digest()
-        if digest in self._known:
+        if not self._is_new(message):
             return
-        self._known.add(digest)
         self.findings.messages += 1
         if not _opens(self._config, message):
             self.findings.unopened += 1
             return
         for part in parts_of(message):
-            self._compare(part)
+            if part.whole == message or self._is_new(part.whole):
+                self._compare(part)
+
+    def _is_new(self, message: bytes) -> bool:
+        digest = hashlib.sha256(message).digest()
+        is_new = digest not in self._known
+        self._known.add(digest)
+        return is_new
 
     def _compare(self, part: Part) -> None:
         leaf = leaf_of(self._group.key_of(part.role, part.id), part.signature)
         other = self._leaves.setdefault((part.role, part.id, leaf), part)
         if other.text != part.text:
             self._blame((part.role, part.id, "leaf", leaf), f"signed two messages with leaf {leaf}: {said(other)}; and {said(part)}")
-        topic = topic_of(part)
-        if topic and self._claims.setdefault(topic, part).digest != part.digest:
-            self._blame(topic, f"contradicts itself: {said(self._claims[topic])}; and {said(part)}")
+        if part.kind in (*VOTES, Kind.CHECKPOINT):
+            self._hear(part)
+
+    def _hear(self, part: Part) -> None:
+        """Has the library look whether its signer contradicts himself."""
+        contradictions, parts = self._heard.setdefault(part.number // NUMBERS, (Contradictions(self._config), []))
+        heard = contradictions.hear(part.whole)
+        parts.append(part)
+        if heard.first is not None:
+            topic = (part.role, part.id, part.kind, part.view, part.number)
+            self._blame(topic, f"contradicts itself: {said(parts[heard.first])}; and {said(part)}")
 
     def _blame(self, topic: tuple, what: str) -> None:
         if topic not in self._blamed:
@@ -148,15 +163,6 @@ class Audit:
                     self.findings.differ.append(f"replica {record.replica} executed number {number} behind number {last}.")
                 last = number
             self.findings.reached = max(self.findings.reached, last)
-
-
-def topic_of(part: Part) -> tuple | None:
-    """Of what a part claims a digest, which its signer does once: `claim_in` in conflicts/specs/Claims.antt."""
-    if part.kind in VOTES:
-        return part.role, part.id, part.kind, part.view, part.number
-    if part.kind == Kind.CHECKPOINT:
-        return part.role, part.id, part.kind, part.number
-    return None
 
 
 def said(part: Part) -> str:

@@ -5,12 +5,16 @@ from __future__ import annotations
 import enum
 import hashlib
 
-from bpf_host_replica import Configuration, GroupError, Installed, Message, Replica, Standing, Status
+from collections.abc import Callable
+from typing import TypeVar
+
+from bpf_host_replica import Configuration, Executed, GroupError, Message, Repeats, Replica, Standing, Status, Votes
 from configuration import Group, Member
 from faults import EndedForGood, GroupFault, LostMemory, MemoryRanOut, ReplayFault
-from journal import Journal, Row, Step, receiver_of
-from messages import REPLICA, VOTES, Held, Kind, Part, Repeats, Sent, Stand, Waiting, leaf_of, leaves_of, part_of, parts_of
+from journal import Journal, Row, Step
+from messages import REPLICA, VOTES, Kind, Part, leaf_of, leaves_of, part_of, parts_of
 
+Told = TypeVar("Told")
 OF_A_NUMBER = (*VOTES, Kind.CHECKPOINT)
 OF_A_VIEW = (Kind.VIEW_CHANGE, Kind.NEW_VIEW)
 
@@ -30,10 +34,13 @@ class Keeper:
     def __init__(self, group: Group, me: Member, config: Configuration, replica: Replica, journal: Journal) -> None:
         self.group, self.me, self.config, self.replica, self.journal = group, me, config, replica, journal
         self.standing: Standing = replica.standing()
-        self.waiting, self.repeats = Waiting(), Repeats(me.id)
+        self.repeats = Repeats()
         self.highest: dict[int, tuple[int, bytes]] = {}  # the highest leaf of each other replica that was seen, and its message
         self.ended: GroupFault | None = None
-        self._held = Held(group.k, len(group.replicas))
+        self._votes = Votes(config)
+        self._asked: dict[int, Part] = {}  # of each client the last request that was taken and not executed since
+        self._answered: dict[int, int] = {}  # of each client the time of its last request that was answered
+        self._fetched = b""  # the digest of the last request that was asked for
         self._taken: dict[bytes, int | None] = {}  # votes and Checkpoints above the low mark, with their numbers; ViewChanges, NewViews
         self._lately: dict[bytes, float] = {}  # Requests, Fetches and Snapshots of the last interval, which may come again
         self._batch: list[bytes | None] = []
@@ -46,8 +53,8 @@ class Keeper:
             step = self._step(row)
             if row.message is not None:
                 part = part_of(row.message)
-                self._mark(row.message, part, None)
-                self._note_leaf(part, row.message)
+                self._mark(part, None)
+                self._note_leaf(part)
             if not self.journal.check(step):
                 self._steps.append(step)
             if low != self.standing.low:
@@ -61,27 +68,36 @@ class Keeper:
         digest = hashlib.sha256(message).digest()
         if digest in self._taken or now - self._lately.get(digest, -self.group.interval) < self.group.interval:
             return Offer.PASSED_OVER
-        if not self.look(message):
+        is_early = self._opened(self._votes.hold, message)
+        if is_early is None:
             return Offer.REFUSED
         part = part_of(message)
+        self.look(message)
+        if is_early:
+            return Offer.HELD
         if self._is_useless(part):
             return Offer.PASSED_OVER
-        if self._held.is_early(part):
-            self._held.keep(part, message)
-            return Offer.HELD
-        self._mark(message, part, now)
+        self._mark(part, now)
         self._batch.append(message)
         return Offer.TAKEN
 
-    def look(self, message: bytes) -> bool:
-        """Opens a message, and looks which leaves it names. Raises `LostMemory` where one of this replica is among them that its journal
-        doesn't know. False for other bytes."""
+    def hear(self, message: bytes) -> None:
+        """A peer has shown a message: it is opened, and its leaves are looked at. Other bytes are passed over."""
+        if self._opened(self.config.open, message) is not None:
+            self.look(message)
+
+    def _opened(self, call: Callable[[bytes], Told], message: bytes) -> Told | None:
+        """What the library tells of a message; nothing of bytes that aren't one of the configuration."""
         try:
-            self.config.open(message)
+            return call(message)
         except GroupError as fault:
             if fault.status == Status.MEMORY:
                 raise MemoryRanOut("Memory ran out as a message was opened. The process may be started again.") from None
-            return False
+            return None
+
+    def look(self, message: bytes) -> None:
+        """Looks which leaves a message names that was opened. Raises `LostMemory` where one of this replica is among them that its journal
+        doesn't know."""
         parts = parts_of(message)
         for part in parts:
             if part.role == REPLICA and part.id == self.me.id and leaf_of(self.me.key, part.signature) >= self.next_leaf:
@@ -90,15 +106,14 @@ class Keeper:
                     f"before leaf {self.next_leaf}: the journal is not the last one. It would sign twice with a leaf, so it doesn't start. "
                     "It counts among the faulty ones: the others go on without it."
                 )
-        self._note_leaf(parts[0], message)
-        return True
+        self._note_leaf(parts[0])
 
-    def _note_leaf(self, part: Part, message: bytes) -> None:
+    def _note_leaf(self, part: Part) -> None:
         """Keeps the message of another replica's highest leaf."""
         if part.role == REPLICA and part.id != self.me.id:
             leaf = leaf_of(self.group.key_of(REPLICA, part.id), part.signature)
             if leaf > self.highest.get(part.id, (-1, b""))[0]:
-                self.highest[part.id] = (leaf, message)
+                self.highest[part.id] = (leaf, part.whole)
 
     def timeout(self) -> None:
         self._batch.append(None)
@@ -107,8 +122,14 @@ class Keeper:
     def next_leaf(self) -> int:
         return leaves_of(self.me.heights) - self.standing.leaves
 
+    def may_wait(self) -> bool:
+        """Whether a request was taken that wasn't executed."""
+        return bool(self._asked)
+
     def is_waiting(self) -> bool:
-        return self.waiting.is_waiting()
+        """Whether the replica waits for one of them: a state that it took over may have answered it."""
+        self._asked = {client: part for client, part in self._asked.items() if self._opened(self.replica.waits_for, part.whole)}
+        return self.may_wait()
 
     def _is_useless(self, part: Part) -> bool:
         """Whether it changes nothing: an own message, a Reply, or what a replica that stands so doesn't record (`is_admitted`,
@@ -119,11 +140,12 @@ class Keeper:
             return True
         if part.kind in VOTES and part.view < self.standing.view:
             return True
-        return self.waiting.is_old(part) and not self.repeats.asks_for(part)
+        is_old = part.kind == Kind.REQUEST and part.time < self._answered.get(part.id, 0)
+        return is_old and part.request_digest != self._fetched
 
-    def _mark(self, message: bytes, part: Part, now: float | None) -> None:
+    def _mark(self, part: Part, now: float | None) -> None:
         """It isn't to be taken again: for good, or until an interval from now is over."""
-        digest = hashlib.sha256(message).digest()
+        digest = hashlib.sha256(part.whole).digest()
         if part.kind in OF_A_NUMBER:
             self._taken[digest] = part.number
         elif part.kind in OF_A_VIEW:
@@ -169,27 +191,35 @@ class Keeper:
             self.commit()
 
     def _hand_in(self) -> None:
-        while (message := self._held.next()) is not None:
-            self._mark(message, part_of(message), None)
+        while (message := self._votes.next()) is not None:
+            self._mark(part_of(message), None)
             self._batch.append(message)
 
     def _step(self, row: Row) -> Step:
         try:
             outputs = self.replica.timeout() if row.message is None else self.replica.take(row.message)
             step = Step(row, outputs, self.replica.done(), self.replica.standing())
+            self.repeats.follow(self.replica, len(outputs))
         except GroupError as fault:
             raise self._ending(row, fault.status) from None
         self.standing = step.standing
+        self._votes.move(step.standing)
         self._note(row, step)
         return step
 
     def _note(self, row: Row, step: Step) -> None:
-        taken = None if row.message is None else (part_of(row.message), row.message)
-        given = [(part_of(it.bytes), Sent(receiver_of(it), it.bytes)) for it in step.outputs]
-        stands = step.standing
-        self.waiting.note(taken[0] if taken else None, [part for part, _ in given], any(isinstance(it, Installed) for it in step.done))
-        self.repeats.note(taken, given, Stand(stands.low, stands.executed, stands.view, stands.active))
-        self._held.move_to(stands.low, stands.view)
+        """Notes which requests wait, which were answered, and which was asked for."""
+        taken = part_of(row.message) if row.message is not None else None
+        if taken and taken.kind == Kind.REQUEST and (taken.id not in self._asked or self._asked[taken.id].time <= taken.time):
+            self._asked[taken.id] = taken
+        done = {item.digest for item in step.done if isinstance(item, Executed)}
+        if done:
+            self._asked = {client: part for client, part in self._asked.items() if part.request_digest not in done}
+        for part in map(part_of, (output.bytes for output in step.outputs)):
+            if part.kind == Kind.REPLY:
+                self._answered[part.client] = max(part.time, self._answered.get(part.client, 0))
+            elif part.kind == Kind.FETCH and part.digest:
+                self._fetched = part.digest
 
     def _ending(self, row: Row, status: Status) -> GroupFault:
         """Why the process ends at a row."""

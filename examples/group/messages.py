@@ -1,5 +1,4 @@
-"""What the library doesn't tell of messages that it has opened, read from their bytes: what each part says, which leaf signed it,
-which votes are early, whether a request waits, and what a replica sends again.
+"""What the library doesn't tell of messages that it has opened, read from their bytes: what each part says, and which leaf signed it.
 
 Bytes that the library hasn't opened may be anything: what is read of them says nothing. Each part names its source among the
 definitions and the code in `crates/`."""
@@ -8,8 +7,7 @@ from __future__ import annotations
 import enum
 import hashlib
 from collections.abc import Iterator
-from dataclasses import dataclass, field
-from typing import NamedTuple
+from dataclasses import dataclass
 
 REPLICA, CLIENT = 1, 2
 
@@ -45,6 +43,7 @@ class Part:
     kind: Kind
     text: bytes  # what is signed: `signed_text` in pbft_codec/specs/Encoding.antt
     signature: bytes
+    whole: bytes  # a message of its own
     view: int = 0
     number: int = 0
     digest: bytes = b""
@@ -93,8 +92,10 @@ def part_of(message: bytes) -> Part:
 
 
 def _signed(reader: _Reader) -> Iterator[Part]:
+    begins = reader.at
     head = reader.bytes(5)
     body, signature = reader.prefixed(), reader.prefixed()
+    whole = reader.data[begins : reader.at]
     inside = _Reader(body)
     try:
         kind = Kind(inside.number(1))
@@ -102,7 +103,7 @@ def _signed(reader: _Reader) -> Iterator[Part]:
         raise Malformed from None
     fields = {name: inside.bytes(width) for name, width in _layout(kind, inside)}
     numbers = {name: int.from_bytes(value, "big") for name, value in fields.items() if name != "digest"}
-    yield Part(head[0], int.from_bytes(head[1:], "big"), kind, head + body, signature, **{**fields, **numbers})
+    yield Part(head[0], int.from_bytes(head[1:], "big"), kind, head + body, signature, whole, **{**fields, **numbers})
     if kind == Kind.VIEW_CHANGE:
         yield from _in_view_change(inside)
     elif kind == Kind.NEW_VIEW:
@@ -162,134 +163,3 @@ def leaves_of(heights: tuple[int, int]) -> int:
 
 def _word(text: bytes, at: int) -> int:
     return int.from_bytes(text[at : at + 4], "big")
-
-
-@dataclass(slots=True)
-class Held:
-    """The early votes that are kept for a replica: early_votes/specs/Holding.antt."""
-
-    k: int
-    replicas: int
-    low: int = 0
-    view: int = 0
-    votes: list[tuple[Part, bytes]] = field(default_factory=list)
-
-    def is_early(self, part: Part) -> bool:
-        return part.kind in VOTES and part.number - self.low > 2 * self.k
-
-    def keep(self, part: Part, message: bytes) -> None:
-        """Keeps a vote that is early, if it is near and the first of its kind, view, number and signer (`kept`)."""
-        is_near = part.number - self.low <= 4 * self.k and self.view <= part.view <= self.view + 1
-        is_new = all(_place(other) != _place(part) for other, _ in self.votes)
-        if self.is_early(part) and is_near and is_new and len(self.votes) < 12 * self.k * self.replicas:
-            self.votes.append((part, message))
-
-    def move_to(self, low: int, view: int) -> None:
-        """The replica stands so: votes that it can't record any more go (`moved`)."""
-        self.low, self.view = low, view
-        self.votes = [it for it in self.votes if low < it[0].number and view <= it[0].view]
-
-    def next(self) -> bytes | None:
-        """Takes out the first vote that is on time (`HandsIn`)."""
-        for place, (part, message) in enumerate(self.votes):
-            if not self.is_early(part):
-                del self.votes[place]
-                return message
-        return None
-
-
-def _place(part: Part) -> tuple[Kind, int, int, int]:
-    return part.kind, part.view, part.number, part.id
-
-
-@dataclass(slots=True)
-class Waiting:
-    """Whether a request has come that wasn't answered: `Waiting` in replica_threads/src/waiting.rt."""
-
-    asked: dict[int, int] = field(default_factory=dict)
-    answered: dict[int, int] = field(default_factory=dict)
-
-    def is_waiting(self) -> bool:
-        return any(time > self.answered.get(client, 0) for client, time in self.asked.items())
-
-    def is_old(self, part: Part) -> bool:
-        """Whether a later request of this client was answered: to execute this one does nothing (`is_new` in pbft_model/specs/Core.antt)."""
-        return part.kind == Kind.REQUEST and part.time < self.answered.get(part.id, 0)
-
-    def note(self, taken: Part | None, given: list[Part], installed: bool) -> None:
-        """A row: a request came, or some were answered. A state that was installed is taken to answer all that came."""
-        if taken and taken.kind == Kind.REQUEST:
-            self.asked[taken.id] = max(taken.time, self.asked.get(taken.id, 0))
-        for part in given:
-            if part.kind == Kind.REPLY:
-                self.answered[part.client] = max(part.time, self.answered.get(part.client, 0))
-        if installed:
-            self.answered.update(self.asked)
-
-
-class Sent(NamedTuple):
-    """A message that was given, and to whom: -1 for all others."""
-
-    to: int
-    message: bytes
-
-
-class Stand(NamedTuple):
-    """Where a replica stands behind a row."""
-
-    low: int
-    executed: int
-    view: int
-    active: bool
-
-
-@dataclass(slots=True)
-class Repeats:
-    """What a replica sends again, the same bytes: of its own what no later message stands for, and the NewView of its view.
-    `Repeats` in replica_threads/src/repeats.rt has the Checkpoints and the Fetches; here processes end, so votes, the last
-    ViewChange and each client's last Reply stand beside them."""
-
-    me: int
-    kept: dict[tuple, tuple[Part, Sent]] = field(default_factory=dict)
-    entered: tuple[int, bytes] = (0, b"")
-
-    def note(self, taken: tuple[Part, bytes] | None, given: list[tuple[Part, Sent]], stands: Stand) -> None:
-        """A row, and where the replica stands behind it."""
-        for part, sent in given:
-            if part.role == REPLICA and part.id == self.me and part.kind not in (Kind.SNAPSHOT, Kind.NEW_VIEW):
-                self.kept[_topic(part)] = (part, sent)
-        for part, message in [taken] * bool(taken) + [(part, sent.message) for part, sent in given]:
-            if part.kind == Kind.NEW_VIEW and stands.active and part.view == stands.view != self.entered[0]:
-                self.entered = (part.view, message)
-        answer = taken[0].request_digest if taken and taken[0].kind == Kind.REQUEST else None
-        self.kept = {topic: it for topic, it in self.kept.items() if _is_wanted(it[0], answer, stands)}
-
-    def asks_for(self, request: Part) -> bool:
-        """Whether the last Fetch of a request names this one."""
-        part, _ = self.kept.get((Kind.FETCH, True), (None, None))
-        return part is not None and part.digest == request.request_digest
-
-    def all(self) -> list[Sent]:
-        return [Sent(-1, self.entered[1])] * bool(self.entered[0]) + [sent for _, sent in self.kept.values()]
-
-
-def _topic(part: Part) -> tuple:
-    """Of two messages of one topic the later one is sent again."""
-    if part.kind == Kind.FETCH:
-        return (part.kind, bool(part.digest))
-    if part.kind in (Kind.REPLY, Kind.VIEW_CHANGE):
-        return (part.kind, part.client)
-    return (part.kind, part.view, part.number)
-
-
-def _is_wanted(part: Part, answer: bytes | None, stands: Stand) -> bool:
-    """Whether a message is still sent again by a replica that stands so, and has just taken the request of this digest."""
-    if part.kind in VOTES:
-        return part.number > stands.low and part.view >= stands.view
-    if part.kind == Kind.CHECKPOINT:
-        return part.number > stands.low
-    if part.kind == Kind.VIEW_CHANGE:
-        return part.view >= stands.view
-    if part.kind == Kind.FETCH:
-        return part.digest != answer if part.digest else part.number > stands.executed
-    return True

@@ -115,7 +115,7 @@ class Process:
             self._help(came.sender, now)
         elif came.tag == Tag.YOURS:
             if came.body:
-                self.keeper.look(came.body)
+                self.keeper.hear(came.body)
             self._answered |= {came.sender.id} & self.outboxes.keys()
         elif self._backlog is not None:
             self._room -= len(came.body)
@@ -131,9 +131,9 @@ class Process:
         self._helped[peer.id] = now
         outbox = self.outboxes[peer.id]
         outbox.post(Tag.YOURS, self.keeper.highest.get(peer.id, (0, b""))[1])
-        for sent in self.keeper.repeats.all() if self._backlog is None else []:
-            if sent.to in (-1, peer.id):
-                outbox.post(Tag.MESSAGE, sent.message)
+        for message in self.keeper.repeats.all() if self._backlog is None else []:
+            if message.to == To.ALL:
+                outbox.post(Tag.MESSAGE, message.bytes)
 
     async def _begin(self, now: float) -> None:
         """The peers were asked, and none has shown a signature that the journal doesn't know."""
@@ -163,7 +163,9 @@ class Process:
 
     async def _tick(self, now: float) -> None:
         """A replica that waits and executes nothing gets a timeout; what may have been lost is sent again."""
-        if not self.keeper.is_waiting():
+        if not self.keeper.may_wait():
+            self._impatience.set_back(now)
+        if now >= self._impatience.at and not self.keeper.is_waiting():
             self._impatience.set_back(now)
         if self._impatience.is_due(now):
             self.keeper.timeout()
@@ -192,11 +194,7 @@ class Process:
                     outbox.post(Tag.MESSAGE, message.bytes)
 
     async def _send_again(self) -> None:
-        for sent in self.keeper.repeats.all():
-            if sent.to == -1:
-                await self.send([Message(To.ALL, 0, sent.message)])
-            else:
-                await self.send([Message(To.REPLICA if sent.to in self.outboxes else To.CLIENT, sent.to, sent.message)])
+        await self.send(self.keeper.repeats.all())
 
 
 def open_keeper(group: Group, me: Member) -> tuple[Keeper, Secrets]:

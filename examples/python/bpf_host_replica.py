@@ -27,12 +27,15 @@ from typing import NamedTuple
 
 __all__ = [
     "Accepted",
+    "Audit",
     "Client",
     "Configuration",
     "Executed",
     "GroupError",
+    "Heard",
     "Installed",
     "Message",
+    "Repeats",
     "Replica",
     "Role",
     "Seed",
@@ -40,6 +43,7 @@ __all__ = [
     "Standing",
     "Status",
     "To",
+    "Votes",
 ]
 
 PUBLIC_KEY = 60
@@ -70,6 +74,8 @@ class Status(enum.IntEnum):
     NO_REQUEST = 66
     NO_REPLY = 67
     NO_VOTES = 68
+    NO_REPEATS = 69
+    NO_AUDIT = 70
     BAD_F = 71
     WRONG_REPLICA_COUNT = 72
     BAD_INTERVAL = 73
@@ -156,6 +162,13 @@ class Standing(NamedTuple):
     leaves: int  # that have not signed
 
 
+class Heard(NamedTuple):
+    """The place of a message among those that an audit has heard, from 0 on, and that of the first one that its signer contradicts in it."""
+
+    place: int
+    first: int | None
+
+
 class Accepted(NamedTuple):
     """The reply that a client accepts."""
 
@@ -207,6 +220,10 @@ class _Standing(ctypes.Structure):
     ]
 
 
+class _Heard(ctypes.Structure):
+    _fields_ = [("place", ctypes.c_uint64), ("first", ctypes.c_uint64), ("blames", ctypes.c_uint32)]
+
+
 class _Accepted(ctypes.Structure):
     _fields_ = [(name, ctypes.c_uint64) for name in ("time", "number", "length")]
 
@@ -237,6 +254,12 @@ def _load() -> ctypes.CDLL:
         "votes_hold": [handle, data, size, ctypes.POINTER(number)],
         "votes_move": [handle, long, number],
         "votes_next": [handle, data, size, ctypes.POINTER(long)],
+        "repeats_new": [handle],
+        "repeats_note": [handle, handle, number],
+        "repeats_follow": [handle, handle],
+        "repeats_get": [handle, number, data, size, ctypes.POINTER(_Sent)],
+        "audit_new": [handle],
+        "audit_hear": [handle, handle, data, size, ctypes.POINTER(_Heard)],
         "client_new": [handle, number, *seed, number, long, handle],
         "client_request": [handle, data, size],
         "client_message": [handle, data, size, ctypes.POINTER(long)],
@@ -412,6 +435,59 @@ class Votes(_Held):
                 _check(status)
                 return buffer.raw[: told.value]
             room = told.value
+
+
+class Repeats(_Held):
+    """What a replica sends again where messages may be lost, the same bytes: its own messages that no later one stands for, and the NewView
+    of its view. After each of its steps it is told so:
+
+        outputs = replica.take(message)
+        repeats.follow(replica, len(outputs))
+    """
+
+    def __init__(self) -> None:
+        super().__init__()
+        _check(_library.bpfh_repeats_new(self._at))
+        self._room = ROOM
+        self._buffer = ctypes.create_string_buffer(self._room)
+
+    def follow(self, replica: Replica, outputs: int) -> None:
+        """The replica has stepped, and gave so many messages."""
+        for place in range(outputs):
+            _check(_library.bpfh_repeats_note(self._at, replica._at, place))
+        _check(_library.bpfh_repeats_follow(self._at, replica._at))
+
+    def all(self) -> list[Message]:
+        """What is sent again."""
+        messages: list[Message] = []
+        sent = _Sent()
+        while True:
+            status = _library.bpfh_repeats_get(self._at, len(messages), self._buffer, self._room, ctypes.byref(sent))
+            if status == Status.NO_ENTRY:
+                return messages
+            if status == Status.BUFFER_TOO_SHORT:
+                self._room = sent.length
+                self._buffer = ctypes.create_string_buffer(self._room)
+                continue
+            _check(status)
+            messages.append(Message(To(sent.kind), sent.id, ctypes.string_at(self._buffer, sent.length)))
+
+
+class Audit(_Held):
+    """Looks for a replica that contradicts itself: for two votes of a kind at one number of a view, or two Checkpoints of a number, with
+    different digests. The two messages prove it, since both have its signature."""
+
+    def __init__(self, config: Configuration) -> None:
+        super().__init__()
+        self._config = config
+        _check(_library.bpfh_audit_new(self._at))
+
+    def hear(self, message: bytes) -> Heard:
+        """Hears a message, and tells whether it contradicts one that was heard. Raises `GroupError` for bytes that the configuration doesn't
+        take, which change nothing."""
+        heard = _Heard()
+        _check(_library.bpfh_audit_hear(self._config._at, self._at, message, len(message), ctypes.byref(heard)))
+        return Heard(heard.place, heard.first if heard.blames else None)
 
 
 class Client(_Held):

@@ -83,6 +83,20 @@ static void keep(bpfh_handle *config, bpfh_handle *replica, uint64_t length) {
   bpfh_release(&votes);
 }
 
+static void note(bpfh_handle *config, bpfh_handle *replica, uint64_t length) {
+  bpfh_handle repeats = {0}, audit = {0};
+  bpfh_sent sent = {0};
+  bpfh_heard heard = {7, 7, 7};
+  bool kept = went("repeats", bpfh_repeats_new(&repeats)) && went("a message is noted", bpfh_repeats_note(&repeats, replica, 0));
+  if (kept) kept = went("a step", bpfh_repeats_follow(&repeats, replica));
+  if (kept) holds("it is sent again", bpfh_repeats_get(&repeats, 0, message, 0, &sent) == BPFH_GROUP_BUFFER_TOO_SHORT);
+  if (went("an audit", bpfh_audit_new(&audit)) && !went("a message is heard", bpfh_audit_hear(config, &audit, message, length, &heard))) {
+    holds("nothing is told of it", heard.place == 7);
+  }
+  bpfh_release(&repeats);
+  bpfh_release(&audit);
+}
+
 static void step(bpfh_handle *config, bpfh_handle *replica, bpfh_handle *client) {
   uint64_t told = 0;
   bpfh_sent sent = {0};
@@ -98,6 +112,7 @@ static void step(bpfh_handle *config, bpfh_handle *replica, bpfh_handle *client)
   if (status == BPFH_GROUP_MEMORY) holds("it stands as before", memcmp(&before, &after, sizeof before) == 0);
   if (status == BPFH_GROUP_OUT_OF_MEMORY) holds("it has halted", after.halted == 2 && after.leaves == 0);
   if (status == BPFH_GROUP_DONE) went("what it gave", bpfh_replica_output(replica, 0, message, sizeof message, &sent));
+  if (sent.length > 0) note(config, replica, sent.length);
   if (after.halted == 0) went("a timeout", bpfh_replica_timeout(replica));
   if (sent.length > 0) went("offered", bpfh_client_hear(client, message, sent.length));
 }

@@ -125,6 +125,62 @@ static void keeps_votes(bpfh_handle *config, bpfh_handle *replica, bpfh_handle *
   bpfh_release(&votes);
 }
 
+static void repeats(bpfh_handle *replica, bpfh_handle *nothing) {
+  bpfh_handle kept = {0};
+  bpfh_sent sent = {0};
+  is("nothing to note in", bpfh_repeats_note(&kept, replica, 0), BPFH_GROUP_NO_REPEATS);
+  is("nothing to follow", bpfh_repeats_follow(&kept, replica), BPFH_GROUP_NO_REPEATS);
+  is("nothing to tell", bpfh_repeats_get(&kept, 0, message, 0, &sent), BPFH_GROUP_NO_REPEATS);
+  is("a replica keeps nothing", bpfh_repeats_note(replica, nothing, 0), BPFH_GROUP_NO_REPEATS);
+  is("nor follows", bpfh_repeats_follow(replica, nothing), BPFH_GROUP_NO_REPEATS);
+  is("repeats", bpfh_repeats_new(&kept), BPFH_GROUP_DONE);
+  is("repeats twice", bpfh_repeats_new(&kept), BPFH_GROUP_DONE);
+  is("of no replica", bpfh_repeats_note(&kept, nothing, 0), BPFH_GROUP_NO_REPLICA);
+  is("none to follow", bpfh_repeats_follow(&kept, nothing), BPFH_GROUP_NO_REPLICA);
+  is("its first message", bpfh_repeats_note(&kept, replica, 0), BPFH_GROUP_DONE);
+  is("the same again", bpfh_repeats_note(&kept, replica, 0), BPFH_GROUP_DONE);
+  is("no second one", bpfh_repeats_note(&kept, replica, 1), BPFH_GROUP_NO_ENTRY);
+  is("nor a last one", bpfh_repeats_note(&kept, replica, UINT32_MAX), BPFH_GROUP_NO_ENTRY);
+  is("the step", bpfh_repeats_follow(&kept, replica), BPFH_GROUP_DONE);
+  is("no room", bpfh_repeats_get(&kept, 0, large, 0, &sent), BPFH_GROUP_BUFFER_TOO_SHORT);
+  is("it is sent again", bpfh_repeats_get(&kept, 0, large, sent.length, &sent), BPFH_GROUP_DONE);
+  holds("the same bytes, to all", sent.kind == 0 && memcmp(large, message, sent.length) == 0);
+  is("once", bpfh_repeats_get(&kept, 1, large, sizeof large, &sent), BPFH_GROUP_NO_ENTRY);
+  memset(large, 0, sent.length);
+  bpfh_release(&kept);
+}
+
+static void audits(bpfh_handle *config, bpfh_handle *replica, uint64_t length) {
+  bpfh_handle audit = {0}, nothing = {0}, twin = {0}, client = {0};
+  bpfh_heard heard = {7, 7, 7};
+  bpfh_sent sent = {0};
+  uint64_t told = 0;
+  is("no audit", bpfh_audit_hear(config, &audit, message, length, &heard), BPFH_GROUP_NO_AUDIT);
+  is("no configuration", bpfh_audit_hear(&nothing, &audit, message, length, &heard), BPFH_GROUP_NO_CONFIG);
+  is("a replica as configuration", bpfh_audit_hear(replica, &audit, message, length, &heard), BPFH_GROUP_NO_CONFIG);
+  is("a replica as audit", bpfh_audit_hear(config, replica, message, length, &heard), BPFH_GROUP_NO_AUDIT);
+  is("an audit", bpfh_audit_new(&audit), BPFH_GROUP_DONE);
+  is("an audit twice", bpfh_audit_new(&audit), BPFH_GROUP_DONE);
+  is("9 MB to hear", bpfh_audit_hear(config, &audit, large, sizeof large, &heard), BPFH_GROUP_MESSAGE_TOO_LONG);
+  holds("nothing is told", heard.place == 7 && heard.first == 7 && heard.blames == 7);
+  is("a proposal", bpfh_audit_hear(config, &audit, message, length, &heard), BPFH_GROUP_DONE);
+  holds("is the first", heard.place == 0 && heard.blames == 0);
+  is("the same", bpfh_audit_hear(config, &audit, message, length, &heard), BPFH_GROUP_DONE);
+  holds("blames nobody", heard.place == 1 && heard.blames == 0);
+  is("its twin", bpfh_replica_replay(config, 0, seeds[0], BPFH_SEED, 5, 0, &twin), BPFH_GROUP_DONE);
+  is("another's request", bpfh_client_new(config, 100, seeds[4], BPFH_SEED, 5, 0, 29, 7, &client), BPFH_GROUP_DONE);
+  is("asks", bpfh_client_request(&client, large, 2), BPFH_GROUP_DONE);
+  is("so", bpfh_client_message(&client, large, sizeof large, &told), BPFH_GROUP_DONE);
+  is("and is proposed", bpfh_replica_take(&twin, large, told), BPFH_GROUP_DONE);
+  is("by these bytes", bpfh_replica_output(&twin, 0, large, sizeof large, &sent), BPFH_GROUP_DONE);
+  is("which are heard", bpfh_audit_hear(config, &audit, large, sent.length, &heard), BPFH_GROUP_DONE);
+  holds("and blame", heard.place == 2 && heard.first == 0 && heard.blames == 1);
+  memset(large, 0, 65536);
+  bpfh_release(&audit);
+  bpfh_release(&twin);
+  bpfh_release(&client);
+}
+
 static void waits(bpfh_handle *replica, bpfh_handle *client, uint64_t length) {
   uint32_t so = 7;
   is("a client waits for nothing", bpfh_replica_waits(client, message, length, &so), BPFH_GROUP_NO_REPLICA);
@@ -166,6 +222,8 @@ static void steps(bpfh_handle *config, bpfh_handle *replica, bpfh_handle *client
   is("nothing done", bpfh_replica_done(replica, 0, message, sizeof message, &(bpfh_done_item){0}), BPFH_GROUP_NO_ENTRY);
   is("its first message", bpfh_replica_output(replica, 0, message, sizeof message, &sent), BPFH_GROUP_DONE);
   holds("to all", sent.kind == 0 && sent.length > length);
+  repeats(replica, &nothing);
+  audits(config, replica, sent.length);
   is("no second one", bpfh_replica_output(replica, 1, message, sizeof message, &sent), BPFH_GROUP_NO_ENTRY);
   is("nor a last one", bpfh_replica_output(replica, UINT32_MAX, message, sizeof message, &sent), BPFH_GROUP_NO_ENTRY);
   is("standing", bpfh_replica_standing(replica, &standing), BPFH_GROUP_DONE);

@@ -83,7 +83,8 @@ def refusals(counts: Counts) -> str:
 
 
 def _refused_changed(machines: Machines, own: Path, journal: Path, other: Path) -> None:
-    """Another group's journal or seed, a seed that all can read, an output that was changed, a row that is missing."""
+    """Another group's journal or seed, a seed that all can read, a journal of another version, an output that was changed, a row that is
+    missing."""
     kept = {path: path.read_bytes() for path in (journal, own / "seed")}
     (own / "seed").write_bytes((other / "replica-2/seed").read_bytes())
     machines.said("replica", machines.folder, 2, status=78)
@@ -93,6 +94,7 @@ def _refused_changed(machines: Machines, own: Path, journal: Path, other: Path) 
     (own / "seed").chmod(0o600)
     for change in (
         "UPDATE header SET configuration = zeroblob(32)",
+        "UPDATE header SET version = version + 1",
         "UPDATE standing SET sum = zeroblob(32)",
         "DELETE FROM row WHERE number = 3",
         "UPDATE row SET message = (SELECT message FROM row WHERE number = 1) WHERE number = 9",

@@ -156,7 +156,7 @@ class Machines:
 
     def end_calls(self, client: int, process: subprocess.Popen, count: int) -> None:
         """Waits until all calls were answered, each with a count that is one more."""
-        out, err = process.communicate(timeout=2 * PATIENCE)
+        out, err = process.communicate(timeout=2 * PATIENCE + 10 * count)
         expect(process.returncode == 0, f"client {client}: {err.strip()}")
         results = [line.split()[-1] for line in out.splitlines()]
         expect(len(results) == count, f"client {client} has {len(results)} replies for {count} calls")

@@ -1,13 +1,14 @@
-"""The parts of examples/group that need no group: messages made by hand, votes that are held, what is sent again."""
+"""The parts of examples/group that need no group: messages made by hand, what is sent again, whom two messages blame."""
 from __future__ import annotations
 
 from collections.abc import Callable
 
 import parts_path  # noqa: F401
 import zmq.asyncio
+from bpf_host_replica import Audit, Client, Configuration, Repeats, Replica, Seed, To
 from configuration import Member
 from machines import RowFailed, expect
-from messages import CLIENT, REPLICA, Held, Kind, Malformed, Repeats, Sent, Stand, Waiting, leaf_of, part_of, parts_of
+from messages import CLIENT, REPLICA, Kind, Malformed, leaf_of, part_of, parts_of
 from replica import Doubling
 from transport import Outbox, Tag
 
@@ -87,47 +88,71 @@ def names_leaves() -> None:
         expect(leaf_of(key, signature) == 2 * 2**bottom + 3, f"a leaf of a key of heights {top} and {bottom}")
 
 
-def holds_early_votes() -> None:
-    held = Held(2, 4)
-    early, far, other = (vote(Kind.COMMIT, 1, 0, number) for number in (5, 9, 6))
-    for message in (early, far, other, vote(Kind.COMMIT, 1, 0, 5, bytes(32)), vote(Kind.COMMIT, 1, 2, 6), vote(Kind.COMMIT, 1, 0, 4)):
-        held.keep(part_of(message), message)
-    expect([message for _, message in held.votes] == [early, other], "which votes are kept")
-    expect(held.next() is None, "an early vote was handed in")
-    held.move_to(1, 0)
-    expect((held.next(), held.next()) == (early, None), "the vote that is on time wasn't handed in alone")
-    held.move_to(6, 0)
-    expect(not held.votes, "a vote at the low mark was kept")
+class Small:
+    """Four replicas and two clients in this process, with a checkpoint at every number."""
+
+    def __init__(self) -> None:
+        seeds = [Seed(bytes([n]) * 16, bytes([n]) * 32, top=5) for n in range(6)]
+        keys = [seed.public_key() for seed in seeds]
+        self.config = Configuration(1, 1, keys[:4], {100: (1, keys[4]), 101: (2, keys[5])})
+        self.replicas = [Replica.replay(self.config, n, seeds[n]) for n in range(4)]
+        self.twin = Replica.replay(self.config, 0, seeds[0])
+        self.repeats = [Repeats() for _ in self.replicas]
+        self.clients = [Client(self.config, 100 + n, seeds[4 + n]) for n in range(2)]
+
+    def step(self, id: int, message: bytes | None) -> list[bytes]:
+        outputs = self.replicas[id].timeout() if message is None else self.replicas[id].take(message)
+        self.repeats[id].follow(self.replicas[id], len(outputs))
+        return [output.bytes for output in outputs]
+
+    def deliver(self, messages: list[bytes]) -> None:
+        """Delivers messages, and all that is given for them, to all replicas."""
+        while messages:
+            message = messages.pop(0)
+            messages += [output for id in range(4) for output in self.step(id, message)]
+
+    def again(self, id: int) -> list[tuple[str, int]]:
+        """What a replica sends again."""
+        return [(part_of(message.bytes).kind.name, message.to) for message in self.repeats[id].all()]
+
+
+def sends_again() -> None:
+    """Own messages until later ones stand for them."""
+    small = Small()
+    proposal = small.step(0, small.clients[0].request(b"\2" + bytes(4)))
+    expect(small.again(0) == [("PRE_PREPARE", To.ALL)], f"behind a proposal: {small.again(0)}")
+    small.step(1, small.clients[0].message())
+    prepare = small.step(1, proposal[0])
+    expect(small.again(1) == [("PREPARE", To.ALL)], f"behind a Prepare: {small.again(1)}")
+    expect([message.bytes for message in small.repeats[1].all()] == prepare, "other bytes are sent again")
+    small.deliver([small.clients[0].message(), *proposal, *prepare])
+    expect(small.replicas[1].standing().low == 1, "the low mark didn't rise")
+    expect(small.again(1) == [("REPLY", To.CLIENT)], f"behind a checkpoint: {small.again(1)}")
+    changes = [small.step(id, None)[0] for id in (1, 2, 3)]
+    expect(sorted(small.again(1)) == [("REPLY", To.CLIENT), ("VIEW_CHANGE", To.ALL)], f"behind a timeout: {small.again(1)}")
+    small.deliver(changes)
+    expect({small.replicas[id].standing().view for id in (0, 1, 2)} == {1}, "the view didn't change")
+    expect(all(("NEW_VIEW", To.ALL) in small.again(id) for id in (0, 1, 2)), f"behind a NewView: {small.again(2)}")
 
 
 def waits() -> None:
-    waiting = Waiting()
-    waiting.note(part_of(request(100, 3)), [], False)
-    expect(waiting.is_waiting(), "a request doesn't wait")
-    waiting.note(None, [part_of(reply(1, 100, 3))], False)
-    expect(not waiting.is_waiting(), "a request waits that was answered")
-    waiting.note(part_of(request(100, 3)), [], False)
-    expect(not waiting.is_waiting(), "an old request waits")
-    expect(waiting.is_old(part_of(request(100, 2))) and not waiting.is_old(part_of(request(100, 3))), "which requests are old")
-    waiting.note(part_of(request(101, 1)), [], True)
-    expect(not waiting.is_waiting(), "a request waits behind a state that was installed")
+    """For a request until it was answered."""
+    small = Small()
+    request = small.clients[0].request(b"\2" + bytes(4))
+    expect(small.replicas[1].waits_for(request), "a request doesn't wait")
+    small.deliver([request])
+    expect(not small.replicas[1].waits_for(request), "a request waits that was answered")
 
 
-def repeats() -> None:
-    kept = Repeats(2)
-    own = [vote(Kind.PREPARE, 2, 0, 9), vote(Kind.COMMIT, 2, 0, 9), checkpoint(2, 16), reply(2, 100, 3), reply(2, 100, 4)]
-    asks = signed(REPLICA, 2, Kind.FETCH, b"\1" + part_of(request(101, 1)).request_digest)
-    given = [(part_of(it), Sent(-1, it)) for it in [*own, asks, vote(Kind.COMMIT, 1, 0, 9), request(100, 1)]]
-    kept.note(None, given, Stand(8, 8, 0, True))
-    expect([it.message for it in kept.all()] == [*own[:3], own[4], asks], "what is sent again")
-    expect(kept.asks_for(part_of(request(101, 1))) and not kept.asks_for(part_of(request(101, 2))), "which request is asked for")
-    kept.note((part_of(request(101, 1)), request(101, 1)), [], Stand(9, 9, 0, True))
-    expect([it.message for it in kept.all()] == [own[2], own[4]], "what is sent again behind a mark")
-    new_view = signed(REPLICA, 1, Kind.NEW_VIEW, word(1) + many([]) + many([]))
-    kept.note((part_of(new_view), new_view), [], Stand(9, 9, 0, True))
-    expect(new_view not in [it.message for it in kept.all()], "a NewView is sent again that wasn't entered by")
-    kept.note((part_of(new_view), new_view), [], Stand(16, 16, 1, True))
-    expect([it.message for it in kept.all()] == [new_view, own[4]], "the NewView of the view isn't sent again")
+def blames_by_two_messages() -> None:
+    """Who proposes two requests at one number."""
+    small = Small()
+    one, other = (client.request(b"\2" + bytes(4)) for client in small.clients)
+    first, second = small.step(0, one)[0], small.twin.take(other)[0].bytes
+    audit = Audit(small.config)
+    heard = [audit.hear(message) for message in (one, first, first, other, second)]
+    expect([it.first for it in heard] == [None, None, None, None, 1], f"blamed by {heard}")
+    expect([it.place for it in heard] == [0, 1, 2, 3, 4], f"heard at {heard}")
 
 
 def drops_beyond_64_megabytes() -> None:
@@ -148,7 +173,7 @@ def waits_twice_as_long() -> None:
     expect(timer.is_due(21.0) and not timer.is_due(22.0), "a timer that was set back")
 
 
-PARTS: tuple[Callable[[], None], ...] = (reads_all, refuses_other_bytes, names_leaves, holds_early_votes, waits, repeats,
+PARTS: tuple[Callable[[], None], ...] = (reads_all, refuses_other_bytes, names_leaves, sends_again, waits, blames_by_two_messages,
                                         drops_beyond_64_megabytes, waits_twice_as_long)
 
 

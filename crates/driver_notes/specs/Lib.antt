@@ -1,2 +1,3 @@
 pub mod Repeating
 pub mod Blaming
+pub use Rattle.conflicts.specs.declared.claim.Claim

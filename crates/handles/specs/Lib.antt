@@ -1,11 +1,15 @@
 pub mod Slots
 pub mod Told
+pub use Rattle.driver_notes.specs.Blaming
+pub use Rattle.driver_notes.specs.Claim
+pub use Rattle.driver_notes.specs.Repeating
 pub use Rattle.members.specs.Clients
 pub use Rattle.members.specs.Dest
 pub use Rattle.members.specs.Done
 pub use Rattle.members.specs.Facts
 pub use Rattle.members.specs.Halt
 pub use Rattle.members.specs.Halts
+pub use Rattle.members.specs.Input
 pub use Rattle.members.specs.Members
 pub use Rattle.members.specs.Output
 pub use Rattle.members.specs.Steps

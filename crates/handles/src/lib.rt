@@ -7,10 +7,11 @@ mod handle;
 mod held;
 mod slot;
 
+pub use driver_notes::{Audit, Repeats};
 pub use front::{BUFFER_TOO_SHORT, DONE, put_front, tell};
 pub use handle::Handle;
 pub use held::Held;
 pub use members::{
-    Client, Dest, Done, Draft, Halt, JoinFault, Member, Output, Row, StepFault, Votes,
+    Client, Dest, Done, Draft, Halt, Input, JoinFault, Member, Output, Row, StepFault, Votes,
 };
 pub use slot::Slot;

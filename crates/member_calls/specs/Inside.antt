@@ -1,9 +1,11 @@
 -- Statement: what a handle holds.
-use Rattle.std.specs.Prelude.{Option, Some, None, option_and_then}
+use Rattle.std.specs.Prelude.{List, Option, Some, None, option_and_then}
+use Rattle.handles.specs.Claim.{Claim}
 use Rattle.host_types.specs.Configuration.{Configuration}
 use Rattle.client_session.specs.Sessions.{SessionState}
 use Rattle.handles.specs.Members.{MemberFacts}
 use Rattle.handles.specs.Votes.{VotesFacts}
+use Rattle.handles.specs.Repeating.{RepeatsFacts}
 use Rattle.handles.specs.declared.held.Held.{Held}
 use Rattle.handles.specs.declared.held.Held.TheVariants as held
 
@@ -32,6 +34,16 @@ abbrev pub votes_of : Held → Option VotesFacts
 votes_of (held.Votes v) = Some v
 votes_of _ = None
 
+-- What a replica sends again.
+abbrev pub repeats_of : Held → Option RepeatsFacts
+repeats_of (held.Repeats r) = Some r
+repeats_of _ = None
+
+-- What each message claims that an audit has heard.
+abbrev pub audit_of : Held → Option (List (Option Claim))
+audit_of (held.Audit a) = Some a
+audit_of _ = None
+
 -- The same of what is inside a handle.
 abbrev pub draft_in : Option Held → Option Configuration
 draft_in inside = option_and_then draft_of inside
@@ -47,3 +59,9 @@ client_in inside = option_and_then client_of inside
 
 abbrev pub votes_in : Option Held → Option VotesFacts
 votes_in inside = option_and_then votes_of inside
+
+abbrev pub repeats_in : Option Held → Option RepeatsFacts
+repeats_in inside = option_and_then repeats_of inside
+
+abbrev pub audit_in : Option Held → Option (List (Option Claim))
+audit_in inside = option_and_then audit_of inside

@@ -9,3 +9,5 @@ pub mod Opened
 pub mod Calling
 pub mod Standing
 pub mod Voting
+pub mod Repeating
+pub mod Auditing

@@ -6,6 +6,7 @@ use Rattle.handles.specs.Told.{AreTold}
 use Rattle.handles.specs.Members.{MemberFacts, Takes, TimesOut, Waits}
 use Rattle.handles.specs.StepFault.{StepFault}
 use Rattle.pbft_codec.specs.Encoding.{encoding}
+use Rattle.seal.specs.Opening.{CheckedMessage}
 use Rattle.seal.specs.declared.fault.SealFault.{SealFault}
 use Rattle.handles.specs.Facts.{RowFacts}
 use Rattle.handles.specs.Halt.{Halt}
@@ -51,11 +52,15 @@ id_of dests.All = 0
 id_of (dests.Replica id) = id.0
 id_of (dests.Client id) = id.0
 
--- A message of the row is told: its bytes, and whom it is for.
+-- A message is told: its bytes, and whom it is for.
+abbrev pub MessageTold : Dest → CheckedMessage → ℕ → ℕ → ℕ → ℕ → List ℕ → List ℕ → Type 0
+MessageTold to m status kind id told before after =
+    AreTold (encoding m.message) status told before after × (kind ≡ kind_of to) × (id ≡ id_of to)
+
+-- A message of the row is told.
 abbrev pub OutputTold : Option Output → ℕ → ℕ → ℕ → ℕ → List ℕ → List ℕ → Type 0
 OutputTold None status kind id told before after = (status ≡ number_of NoEntry) × (after ≡ before)
-OutputTold (Some output) status kind id told before after =
-    AreTold (encoding output.message.message) status told before after × (kind ≡ kind_of output.to) × (id ≡ id_of output.to)
+OutputTold (Some output) status kind id told before after = MessageTold output.to output.message status kind id told before after
 
 abbrev pub OutputOf : Option RowFacts → ℕ → ℕ → ℕ → ℕ → ℕ → List ℕ → List ℕ → Type 0
 OutputOf None index status kind id told before after = (status ≡ number_of NoRow) × (after ≡ before)

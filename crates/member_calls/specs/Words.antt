@@ -5,3 +5,4 @@ pub use Rattle.lms_tree.specs.SigningState.{SigningState}
 pub use Rattle.client_session.specs.Sessions.{session_behind}
 pub use Rattle.handles.specs.Members.{first_member}
 pub use Rattle.handles.specs.Votes.{no_votes}
+pub use Rattle.handles.specs.Repeating.{none_kept}

@@ -28,6 +28,10 @@ pub enum Status {
     NoClient,
     /// A handle holds no early votes.
     NoVotes,
+    /// A handle holds nothing that a replica sends again.
+    NoRepeats,
+    /// A handle holds no audit.
+    NoAudit,
     /// A key isn't 60 bytes that begin with 1 or 2 levels.
     NoKey,
     /// A seed hasn't 48 bytes.
@@ -80,6 +84,8 @@ impl Status {
             Status::NoReplica => 53,
             Status::NoClient => 54,
             Status::NoVotes => 68,
+            Status::NoRepeats => 69,
+            Status::NoAudit => 70,
             Status::NoKey => 55,
             Status::NoSeed => 56,
             Status::NoHeight => 57,

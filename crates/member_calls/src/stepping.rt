@@ -3,10 +3,11 @@
 ghost use Rattle.std.specs.Prelude.{◌≡◌, ◌⊎◌, ◌<◌, Some, None};
 ghost use Rattle.member_calls.specs.Inside.{member_of};
 ghost use Rattle.member_calls.specs.Statuses.{number_of};
-ghost use Rattle.member_calls.specs.Stepping.{OutputIn, OutputOf, OutputTold, TimedOutIn, TookIn, WaitsIn, id_of, kind_of};
+ghost use Rattle.member_calls.specs.Stepping.{MessageTold, OutputIn, OutputOf, OutputTold, TimedOutIn, TookIn, WaitsIn, id_of, kind_of};
 
 use crate::status::Status;
 use handles::{Dest, Held, Output, Row, tell};
+use seal::Checked;
 use std::alloc::Global;
 
 /// Whom a message is for, and how long it is.
@@ -88,9 +89,16 @@ fn output_of(row: &Row, index: u32, message: &mut [u8], sent: &mut Sent) -> u32
 fn tell_output(output: &Output, message: &mut [u8], sent: &mut Sent) -> u32
     ensures { OutputTold (Some output.now) result sent.new.kind sent.new.id sent.new.length message.old message.new }
 {
-    sent.kind = kind_of(output.to);
-    sent.id = id_of(output.to);
-    tell(output.message.bytes(), message, &mut sent.length)
+    tell_message(output.to, &output.message, message, sent)
+}
+
+/// Tells a message, and whom it is for.
+pub(crate) fn tell_message(to: Dest, told: &Checked, message: &mut [u8], sent: &mut Sent) -> u32
+    ensures { MessageTold to told.now result sent.new.kind sent.new.id sent.new.length message.old message.new }
+{
+    sent.kind = kind_of(to);
+    sent.id = id_of(to);
+    tell(told.bytes(), message, &mut sent.length)
 }
 
 fn kind_of(to: Dest) -> u32

@@ -7,4 +7,5 @@ pub use Rattle.replica_core.specs.Steps
 pub use Rattle.replica_core.specs.declared.halt.Halt
 pub use Rattle.replica_core.specs.declared.row.Dest
 pub use Rattle.replica_core.specs.declared.row.Done
+pub use Rattle.replica_core.specs.declared.row.Input
 pub use Rattle.replica_core.specs.declared.row.Output

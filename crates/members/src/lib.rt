@@ -16,5 +16,5 @@ pub use client::Client;
 pub use draft::Draft;
 pub use fault::{JoinFault, StepFault};
 pub use member::Member;
-pub use replica_core::{Dest, Done, Halt, Output, Row};
+pub use replica_core::{Dest, Done, Halt, Input, Output, Row};
 pub use votes::Votes;

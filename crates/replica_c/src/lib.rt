@@ -4,12 +4,14 @@
 //! test has a status. No export signs bytes that its client gives.
 #![tactic(auto)]
 
+mod auditing;
 mod calling;
 mod doing;
 mod drafting;
 mod joining;
 mod keys;
 mod opening;
+mod repeating;
 mod standing;
 mod stepping;
 mod voting;
