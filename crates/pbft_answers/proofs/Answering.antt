@@ -30,7 +30,7 @@ use Rattle.pbft_progress.proofs.Views.{each_or_one}
 use Rattle.pbft_answers.proofs.Kin.{family, told, unforged}
 use Rattle.pbft_answers.proofs.Reaching.{Done, Jumped, reaches, number_rises}
 use Rattle.pbft_answers.proofs.Speaking.{alone}
-use Rattle.pbft_answers.proofs.Deciding.{Asked, last, AllPrepare, AllCommit, GavePrepare, GaveCommit, prepares, commits, none_rests_before, above_zero}
+use Rattle.pbft_answers.proofs.Deciding.{Asked, last, AllPrepare, AllCommit, GavePrepare, GaveCommit, prepares, commits, none_rests_before, none_rests_behind, above_zero}
 use Rattle.pbft_answers.proofs.Proposing.{Signs, signs_asked, asked_signs, signs_below, signs_view}
 use Rattle.pbft_answers.proofs.Holding.{behind, known_last, StaysNew}
 use Rattle.pbft_answers.proofs.OneResult.{one_result}
@@ -243,6 +243,13 @@ module _ (c : Setup) (j : Journals) (h : IsHonestFamily c j) (first : EachEnds c
               (enough.0, enough.1, λ k under t. let w = enough.2 k under t in (w.0, subst (λ (m : ℕ). m ≤ (last c j h first leader k).executed) number_is (done_reached below.0.number k w.0 w.1)))
         ])
 
+    zero_count : (n : ℕ) → count (λ i. false) n ≡ 0
+    zero_count zero = refl
+    zero_count (suc n) = let rest = zero_count n in omega (arith, rest)
+
+    none_less : (n m : ℕ) → c.config.f < m → count (λ i. false) n < m
+    none_less n m more = let none = zero_count n in omega (arith, more, none)
+
     -- Each own PrePrepare of the primary is executed by more correct replicas than may be faulty, with one result.
     pub enough_execute : (x : Fields) → x.number ≤ span c.config → HasProposed x (j.rows (primary c.config 0)) → (result : List ℕ) × Enough c j (λ i. HasDone (Executed x.number x.digest result) (j.rows i))
     enough_execute x within proposed =
@@ -251,18 +258,18 @@ module _ (c : Setup) (j : Journals) (h : IsHonestFamily c j) (first : EachEnds c
         let some = found_outside enough.0 (λ i. false) (replicas c.config) (none_less (replicas c.config) (count enough.0 (replicas c.config)) enough.1) in
         let those = enough.2 in
         let someone = those some.0 some.1 some.2 in
-        let done = executes_it c j h first leader x asked some.0 someone.0 someone.1 in
-        (done.0, (enough.0, enough.1, λ k below t.
-            let w = those k below t in
-            let own = executes_it c j h first leader x asked k w.0 w.1 in
-            let same = one_result c j h k some.0 x.number x.digest own.0 x.digest done.0 w.0 someone.0 own.1 done.1 in
-            (w.0, subst (λ (r : List ℕ). HasDone (Executed x.number x.digest r) (j.rows k)) same.1 own.1))) where
-          zero_count : (n : ℕ) → count (λ i. false) n ≡ 0
-          zero_count zero = refl
-          zero_count (suc n) = let rest = zero_count n in omega (arith, rest)
-
-          none_less : (n m : ℕ) → c.config.f < m → count (λ i. false) n < m
-          none_less n m more = let none = zero_count n in omega (arith, more, none)
+        let done = executes_it c j h first leader x asked some.0 someone.0 someone.1 in (
+          done.0,
+          (
+            enough.0,
+            enough.1,
+            λ k below t.
+                let w = those k below t in
+                let own = executes_it c j h first leader x asked k w.0 w.1 in
+                let same = one_result c j h k some.0 x.number x.digest own.0 x.digest done.0 w.0 someone.0 own.1 done.1 in
+                (w.0, subst (λ (r : List ℕ). HasDone (Executed x.number x.digest r) (j.rows k)) same.1 own.1),
+          ),
+        )
 
     -- Where nobody installed a snapshot, all execute it.
     pub all_end : InstallsNothing c j → (x : Fields) → x.number ≤ span c.config → HasProposed x (j.rows (primary c.config 0)) → EachEnds c j (λ i s. x.number ≤ s.executed)
@@ -271,5 +278,33 @@ module _ (c : Setup) (j : Journals) (h : IsHonestFamily c j) (first : EachEnds c
         let nobody : (k : ℕ) → IsCorrect c j.faulty k → (n : ℕ) → 1 ≤ n → Jumped n (acts_of k) → ⊥ = λ k right n one jumped.
         nothing k jumped.0 (c.hash jumped.1) right ((told c j h k right).installs jumped.0 jumped.1 jumped.2 jumped.3 jumped.4) in
         let up = all_reach c j h first leader drained nobody (knows asks spread) x.number x refl (asked_of c j h first leader x within proposed) i correct in
+        let same : core_after c (j.signer i) (acts_of i) ≡ s = t.core_is ∙ one_core c i (j.signer i) (j.rows i) (start_of c (j.signer i)) t.core s t.comes comes in
+        subst (λ (u : Core). x.number ≤ u.executed) same up
+
+    -- Where nobody is faulty, all execute it, whatever was installed.
+    honest_reach : ((v : ℕ) → v < replicas c.config → j.faulty v ≡ false) → (n : ℕ) → (x : Fields) → x.number ≡ n → Asked c j h first leader x → (i : ℕ) → IsCorrect c j.faulty i → n ≤ (last c j h first leader i).executed
+    honest_reach nobody zero x number asked i correct = omega arith
+    honest_reach nobody (suc n) x number asked i correct =
+        let within = asked.within in
+        let lower : n ≤ (last c j h first leader i).executed = elim (cases_lt 0 n) [
+          | inr none ↦ omega (arith, none)
+          | inl some ↦
+              let below = signs_below c j h first leader (suc n) (x, number, asked_signs c j h first leader x asked) n (omega (arith, some)) (omega arith) in
+              let number_is : below.0.number ≡ n = below.1 in
+              let down = signs_asked c j h first leader below.0 (signs_view c j h first leader below.0 below.2) (omega (arith, within, number, number_is)) below.2 in
+              honest_reach nobody n below.0 below.1 down i correct
+        ] in
+        let enough = enough_done x.number x refl asked in
+        let some = found_outside enough.0 (λ k. false) (replicas c.config) (none_less (replicas c.config) (count enough.0 (replicas c.config)) enough.1) in
+        let someone = enough.2 some.0 some.1 some.2 in
+        elim (cases_lt (last c j h first leader i).executed (suc n)) [
+          | inr up ↦ up
+          | inl less ↦ absurd (none_rests_behind c j h first leader drained x asked nobody (knows asks spread x asked) some.0 someone.0 someone.1 i correct (omega (arith, less, lower, number)))
+        ]
+
+    pub honest_end : ((v : ℕ) → v < replicas c.config → j.faulty v ≡ false) → (x : Fields) → x.number ≤ span c.config → HasProposed x (j.rows (primary c.config 0)) → EachEnds c j (λ i s. x.number ≤ s.executed)
+    honest_end nobody x within proposed i correct s comes =
+        let t = told c j h i correct in
+        let up = honest_reach nobody x.number x refl (asked_of c j h first leader x within proposed) i correct in
         let same : core_after c (j.signer i) (acts_of i) ≡ s = t.core_is ∙ one_core c i (j.signer i) (j.rows i) (start_of c (j.signer i)) t.core s t.comes comes in
         subst (λ (u : Core). x.number ≤ u.executed) same up

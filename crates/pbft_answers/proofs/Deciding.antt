@@ -1,13 +1,13 @@
 -- One proposal of a correct primary in view 0: each correct replica prepares it and commits to it, or has jumped over its number;
 -- and where all have, nobody rests before it.
-use Rattle.std.proofs.Common.{◌≡◌, ◌⊎◌, ℕ, ◌+◌, ◌<◌, ◌≤◌, Bool, true, false, ◌&&◌, List, [], ◌∷◌, Option, Some, None, refl, sym, ap, subst, ◌∙◌, arith, inl, inr}
-use Rattle.std.specs.Prelude.{not, ◌==◌}
-use Rattle.std.proofs.lemmas.Bool.{true≢false, cases_lt, cases_eq, and_parts, and_from, ne_eqb}
-use Rattle.pbft_model.specs.Words.{Signed, Body, PrePrepare, Prepare, Commit, Part, part_of}
+use Rattle.std.proofs.Common.{◌≡◌, ◌⊎◌, ℕ, ◌+◌, ◌*◌, ◌<◌, ◌≤◌, Bool, true, false, ◌&&◌, List, [], ◌∷◌, Option, Some, None, refl, sym, ap, subst, ◌∙◌, arith, inl, inr}
+use Rattle.std.specs.Prelude.{nat_le, not, ◌==◌}
+use Rattle.std.proofs.lemmas.Bool.{true≢false, cases_lt, cases_eq, and_parts, and_from, ne_eqb, le-leb, leb-true}
+use Rattle.pbft_model.specs.Words.{Signed, Body, PrePrepare, Prepare, Commit, Replica, Part, part_of}
 use Rattle.pbft_codec.specs.declared.body.Body.TheVariants as bodies
-use Rattle.pbft_model.specs.Setup.{Setup, primary, replicas, span, count}
+use Rattle.pbft_model.specs.Setup.{Setup, primary, replicas, quorum, span, count}
 use Rattle.pbft_model.specs.Tables.{Table, at, vote_key}
-use Rattle.pbft_model.specs.Certificates.{Fields, of_pre_prepare, of_prepare, of_commit, voted, has_quorum}
+use Rattle.pbft_model.specs.Certificates.{Fields, of_pre_prepare, of_prepare, of_commit, same_fields, is_by, voted, has_quorum}
 use Rattle.pbft_model.specs.Validity.{floor_of}
 use Rattle.pbft_model.specs.Core.{Core, inside, floor_in, is_certified, is_known, is_prepared, is_committed, pre_prepare_at}
 use Rattle.pbft_model.specs.Acts.{Act, Send, Execute}
@@ -19,7 +19,10 @@ use Rattle.pbft_agreement.specs.Journals.{Journals, HasGiven, IsHonestFamily}
 use Rattle.pbft_progress.specs.Progress.{IsDrained, EachEnds, IsAtRest}
 use Rattle.pbft_progress.specs.Votes.{HasProposed}
 use Rattle.pbft_model.proofs.Events.{now, before, earlier_trans, history_at, low_reached, signed_at}
-use Rattle.pbft_model.proofs.Stages.{Stage, in_numbers}
+use Rattle.pbft_model.proofs.Stages.{Stage, in_numbers, by_is, fields_are, voted_is}
+use Rattle.pbft_model.proofs.Real.{real_core}
+use Rattle.pbft_model.proofs.ByView.{signed_real}
+use Rattle.pbft_progress.proofs.Duties.{count_below}
 use Rattle.pbft_model.proofs.Voices.{led_part}
 use Rattle.pbft_progress.proofs.Resting.{journal_rests}
 use Rattle.pbft_progress.proofs.Lives.{TakenAt}
@@ -358,3 +361,74 @@ module _ (c : Setup) (j : Journals) (h : IsHonestFamily c j) (first : EachEnds c
           (and_from (is_certified c s x) (is_known c s x.digest) (r.certified prepared) r.known) (end_committed k right r.above committed) in
           let view = first_then c j h first k right (acts_of k) (now (acts_of k)) in
           true≢false (sym (subst (λ (z : Fields). is_committed c s z ≡ true) (sym m.2) here) ∙ not_committed c k s m.0 view.1 place (rests k right).execute)
+
+    -- ---- where nobody is faulty, what one committed comes to all
+
+    module _ (nobody : (v : ℕ) → v < replicas c.config → j.faulty v ≡ false) where
+      -- who voted has said so
+      voted_prepare : (k : ℕ) → IsCorrect c j.faulty k → (acts : List Act) → IsEarlier acts (acts_of k) → (v : ℕ) → v < replicas c.config → voted of_prepare (core_after c (j.signer k) acts).prepares x v ≡ true → GavePrepare v
+      voted_prepare k right acts point v below t =
+          let s = core_after c (j.signer k) acts in
+          let w = voted_is of_prepare s.prepares x v t in
+          let by = by_is v (λ b. same_fields (of_prepare b) x) w.0 w.2 in
+          let real = (real_core c (family c j h) k right (unforged c j h) acts point).1 (vote_key x.number x.view v) w.0 w.1 in
+          let signed = signed_real c (family c j h) (unforged c j h) bodies.Prepare v (λ b. same_fields (of_prepare b) x) w.0 w.2 real (below, nobody v below) in
+          (w.0.body, record { role = Replica; id = v; body = bodies.Prepare w.0.body }, signed, refl, fields_are (of_prepare w.0.body) x by.2)
+
+      voted_commit : (k : ℕ) → IsCorrect c j.faulty k → (acts : List Act) → IsEarlier acts (acts_of k) → (v : ℕ) → v < replicas c.config → voted of_commit (core_after c (j.signer k) acts).commits x v ≡ true → GaveCommit v
+      voted_commit k right acts point v below t =
+          let s = core_after c (j.signer k) acts in
+          let w = voted_is of_commit s.commits x v t in
+          let by = by_is v (λ b. same_fields (of_commit b) x) w.0 w.2 in
+          let real = (real_core c (family c j h) k right (unforged c j h) acts point).2 (vote_key x.number x.view v) w.0 w.1 in
+          let signed = signed_real c (family c j h) (unforged c j h) bodies.Commit v (λ b. same_fields (of_commit b) x) w.0 w.2 real (below, nobody v below) in
+          (w.0.body, record { role = Replica; id = v; body = bodies.Commit w.0.body }, signed, refl, fields_are (of_commit w.0.body) x by.2)
+
+      -- the certificate and the Commits that one replica has at a point each has at an end below the number
+      certified_too : (k : ℕ) → IsCorrect c j.faulty k → (acts : List Act) → IsEarlier acts (acts_of k) → is_certified c (core_after c (j.signer k) acts) x ≡ true → (i : ℕ) (correct : IsCorrect c j.faulty i) → (last i).low < x.number → is_certified c (last i) x ≡ true
+      certified_too k right acts point e i correct above =
+          let s = core_after c (j.signer k) acts in
+          let lead = primary c.config x.view in
+          let here = end_proposed i correct above in
+          let parts = and_parts (voted of_pre_prepare s.pre_prepares x lead) (nat_le (2 * c.config.f) (count (λ v. not (v == lead) && voted of_prepare s.prepares x v) (replicas c.config))) e in
+          let enough = leb-true (2 * c.config.f) (count (λ v. not (v == lead) && voted of_prepare s.prepares x v) (replicas c.config)) parts.1 in
+          let more = count_below (λ v. not (v == lead) && voted of_prepare s.prepares x v) (λ v. not (v == lead) && voted of_prepare (last i).prepares x v) (replicas c.config) (λ v below t.
+          let both = and_parts (not (v == lead)) (voted of_prepare s.prepares x v) t in
+          let y = there i correct above (λ u. u.prepares) v (prepare_here v i (below, nobody v below) correct (voted_prepare k right acts point v below both.1)) in
+          and_from (not (v == lead)) (voted of_prepare (last i).prepares x v) both.0 (prepare_counts c j h first leader x asked.view proposed i correct (acts_of i) (now (acts_of i)) v (below, nobody v below) y.0 y.1)) in
+          and_from (voted of_pre_prepare (last i).pre_prepares x lead) (nat_le (2 * c.config.f) (count (λ v. not (v == lead) && voted of_prepare (last i).prepares x v) (replicas c.config)))
+          (subst (λ (v : ℕ). voted of_pre_prepare (last i).pre_prepares x (primary c.config v) ≡ true) (sym asked.view) here)
+          (le-leb (2 * c.config.f) (count (λ v. not (v == lead) && voted of_prepare (last i).prepares x v) (replicas c.config)) (omega (arith, enough, more)))
+
+      committed_too : (k : ℕ) → IsCorrect c j.faulty k → (acts : List Act) → IsEarlier acts (acts_of k) → has_quorum c.config (voted of_commit (core_after c (j.signer k) acts).commits x) ≡ true → (i : ℕ) (correct : IsCorrect c j.faulty i) → (last i).low < x.number
+          → has_quorum c.config (voted of_commit (last i).commits x) ≡ true
+      committed_too k right acts point e i correct above =
+          let s = core_after c (j.signer k) acts in
+          let enough = leb-true (quorum c.config) (count (voted of_commit s.commits x) (replicas c.config)) e in
+          let more = count_below (voted of_commit s.commits x) (voted of_commit (last i).commits x) (replicas c.config) (λ v below t.
+          let y = there i correct above (λ u. u.commits) v (commit_here v i (below, nobody v below) correct (voted_commit k right acts point v below t)) in
+          commit_counts c j h first leader x asked.view proposed i correct (acts_of i) (now (acts_of i)) v (below, nobody v below) y.0 y.1) in
+          le-leb (quorum c.config) (count (voted of_commit (last i).commits x) (replicas c.config)) (omega (arith, enough, more))
+
+      -- Nobody rests before what another executed.
+      pub none_rests_behind : ((i : ℕ) → IsCorrect c j.faulty i → (last i).executed < x.number → is_known c (last i) x.digest ≡ true) → (k : ℕ) → IsCorrect c j.faulty k → Done x.number (acts_of k)
+          → (i : ℕ) → IsCorrect c j.faulty i → (last i).executed + 1 ≡ x.number → ⊥
+      none_rests_behind knows k right (d, t, o, early, point) i correct before_it =
+          let s = core_after c (j.signer k) early in
+          let here = before (Execute x.number d t o) early (acts_of k) point in
+          let ok : MayExecute c s x.number d t o = (history k right (Execute x.number d t o ∷ early) point).1 in
+          let y : Fields = record { view = s.view; number = x.number; digest = d } in
+          let view : s.view ≡ 0 = (first_then c j h first k right early here).0 in
+          let both = and_parts (is_prepared c s y) (has_quorum c.config (voted of_commit s.commits y)) ok.committed in
+          let parts = and_parts (is_certified c s y) (is_known c s y.digest) both.0 in
+          let same = one_proposal c j h first leader y x (certified_proposed c j h first leader k right early here y view parts.0) proposed (view ∙ sym asked.view) refl in
+          let u = last i in
+          let low = low_reached c i (j.signer i) (acts_of i) (told c j h i correct).is in
+          let above : (last i).low < x.number = omega (arith, before_it, low) in
+          let certified = certified_too k right early here (subst (λ (z : Fields). is_certified c s z ≡ true) same parts.0) i correct above in
+          let committed = committed_too k right early here (subst (λ (z : Fields). has_quorum c.config (voted of_commit s.commits z) ≡ true) same both.1) i correct above in
+          let all_of = and_from (is_prepared c u x) (has_quorum c.config (voted of_commit u.commits x)) (and_from (is_certified c u x) (is_known c u x.digest) certified (knows i correct (omega (arith, before_it)))) committed in
+          let at_end = first_then c j h first i correct (acts_of i) (now (acts_of i)) in
+          let m = proposal_at c u x (asked.view ∙ sym at_end.0) (subst (λ (v : ℕ). voted of_pre_prepare u.pre_prepares x (primary c.config v) ≡ true) (sym asked.view) (end_proposed i correct above)) in
+          let place : pre_prepare_at c u u.view (u.executed + 1) ≡ Some m.0 = subst (λ (n : ℕ). pre_prepare_at c u u.view n ≡ Some m.0) (sym before_it) m.1 in
+          true≢false (sym (subst (λ (z : Fields). is_committed c u z ≡ true) (sym m.2) all_of) ∙ not_committed c i u m.0 at_end.1 place (rests i correct).execute)

@@ -98,9 +98,6 @@ module _ (c : Setup) (j : Journals) (h : IsHonestFamily c j) (first : EachEnds c
   entry_taken : (k : ℕ) (m : Signed RequestBody) → slice_get entries k ≡ Some (Some m) → IsTakenBy m
   entry_taken k m found = on.taken m (got_in entries k (Some m) found)
 
-  time_of : (m p : Signed RequestBody) → request_in m ≡ request_in p → (m.id ≡ p.id) × (m.body.time ≡ p.body.time)
-  time_of m p e = (ap (λ (r : Request). r.client.0) e, ap (λ (r : Request). r.time) e)
-
   -- ---- what was proposed at a number that was reached is new no more
 
   module _ (i : ℕ) (correct : IsCorrect c j.faulty i) (acts : List Act) (at : IsEarlier acts ((family c j h).acts i)) where

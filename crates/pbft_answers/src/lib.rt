@@ -3,11 +3,11 @@
 //! an empty body.
 #![tactic(auto)]
 
-ghost use Rattle.std.specs.Prelude.{◌≡◌, ◌≤◌, ◌⊎◌, ◌+◌, ℕ, List, [], ◌∷◌, false};
+ghost use Rattle.std.specs.Prelude.{◌≡◌, ◌<◌, ◌≤◌, ◌⊎◌, ◌+◌, ℕ, List, [], ◌∷◌, false};
 ghost use Rattle.sha2.specs.Sha256.{sha256};
 ghost use Rattle.pbft_codec.specs.declared.body.Body.TheVariants as bodies;
 ghost use Rattle.pbft_model.specs.Words.{Signed, RequestBody, as_message};
-ghost use Rattle.pbft_model.specs.Setup.{Setup, span, digest_of};
+ghost use Rattle.pbft_model.specs.Setup.{Setup, replicas, span, digest_of};
 ghost use Rattle.pbft_model.specs.Core.{is_new, next_number};
 ghost use Rattle.pbft_model.specs.Certificates.{Fields};
 ghost use Rattle.pbft_model.specs.Rows.{Executed};
@@ -32,7 +32,7 @@ pub fn until_a_mark_rises_all_execute_all()
 /// The first window is answered: in an honest drained family whose correct replicas all stand in view 0, whose primary is correct and
 /// gave out no number above 2k, and where each client's requests came to the primary with rising times and to all (`IsFirstWindow`),
 /// whatever the primary gave out is executed by more correct replicas than may be faulty, with one result (`enough`), so that its
-/// client has enough replies; by all, where none of them installed a snapshot (`all`); and where the primary has room, what it
+/// client has enough replies; by all, where none of them installed a snapshot (`all`) or nobody is faulty (`honest`); and where the primary has room, what it
 /// received of requests it gave out, or it is new to its service no more (`asked`). **It speaks of the first 2k numbers alone.**
 /// Whatever the faulty ones said, and whatever else was lost.
 pub fn the_first_window_is_answered()
@@ -40,6 +40,9 @@ pub fn the_first_window_is_answered()
         → (x : Fields) → HasProposed x (journals.rows (leader_of c))
         → (result : List ℕ) × Enough c journals (λ i. HasDone (Executed x.number x.digest result) (journals.rows i)) }
     ensures all { (c : Setup) (journals : Journals) → IsHonestFamily c journals → IsDrained c journals → IsFirstWindow c journals → InstallsNothing c journals
+        → (x : Fields) → HasProposed x (journals.rows (leader_of c)) → EachEnds c journals (λ i s. x.number ≤ s.executed) }
+    ensures honest { (c : Setup) (journals : Journals) → IsHonestFamily c journals → IsDrained c journals → IsFirstWindow c journals
+        → ((i : ℕ) → i < replicas c.config → journals.faulty i ≡ false)
         → (x : Fields) → HasProposed x (journals.rows (leader_of c)) → EachEnds c journals (λ i s. x.number ≤ s.executed) }
     ensures asked { (c : Setup) (journals : Journals) → IsHonestFamily c journals → IsDrained c journals → IsFirstWindow c journals
         → (m : Signed RequestBody) → HasReceived (as_message bodies.Request m) (journals.rows (leader_of c))
