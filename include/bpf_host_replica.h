@@ -76,6 +76,9 @@ enum bpfh_group_status {
   BPFH_GROUP_BAD_INTERVAL = 73,        /* k is 1 to 8 */
   BPFH_GROUP_DUPLICATE_CLIENT = 74,
   BPFH_GROUP_TOO_MANY = 76, /* at most 64 clients, of 8 tenants; a client's id is at least 16 */
+  /* Why nothing is noted. */
+  BPFH_GROUP_NO_LEDGER = 80, /* the handle holds no ledger */
+  BPFH_GROUP_NO_ITEM = 81,   /* the kind of what a replica did is neither 0 nor 1 */
   /* Why bytes are no message that the configuration takes. */
   BPFH_GROUP_UNKNOWN_SIGNER = 102,
   BPFH_GROUP_BAD_SIGNATURE = 103,
@@ -96,7 +99,8 @@ enum bpfh_group_status {
   BPFH_GROUP_REQUEST_MEMORY = 304 /* memory ran out; a leaf may be used */
 };
 
-/* A draft, a configuration, a replica, a client's session, what stands beside a replica, an audit, or nothing. The sandbox's header has the same. */
+/* A draft, a configuration, a replica, a client's session, what stands beside a replica, an audit, a ledger, or nothing. The sandbox's
+ * header has the same. */
 #ifndef BPF_HOST_SANDBOX_H
 typedef struct bpfh_handle {
   void *at;
@@ -141,6 +145,14 @@ typedef struct bpfh_heard {
   uint64_t first;  /* the place of the first message that its signer contradicts in it; 0 where there is none */
   uint32_t blames; /* 1 where there is one, else 0 */
 } bpfh_heard;
+
+/* How what a replica did compares with what a ledger has noted before. */
+typedef struct bpfh_compared {
+  uint64_t place;   /* its place among all that was noted, from 0 on */
+  uint64_t first;   /* the place of the first of its kind and its number that differs from it; 0 where there is none */
+  uint32_t differs; /* 1 where there is one, else 0 */
+  uint32_t follows; /* 0 for a request that was executed at another number than the replica's last one plus 1, else 1 */
+} bpfh_compared;
 
 /* The reply that a client accepts. */
 typedef struct bpfh_accepted {
@@ -250,6 +262,21 @@ uint32_t bpfh_audit_new(bpfh_handle *audit);
  * something else, and the two prove that it lies. It goes over all that was heard. 21, 52, 70, 102 to 116: nothing is changed. */
 uint32_t bpfh_audit_hear(bpfh_handle *config, bpfh_handle *audit, const uint8_t *bytes, size_t length, bpfh_heard *heard);
 
+/* Makes a ledger in which nothing was noted, and in which what a replica did before its first number comes next. What ledger held is freed
+ * first. 21: it holds nothing. */
+uint32_t bpfh_ledger_new(bpfh_handle *ledger);
+
+/* Says that what another replica did comes now, whose last number was this one: 0 where all of it comes. What was noted stays. 80. */
+uint32_t bpfh_ledger_begin(bpfh_handle *ledger, uint64_t last);
+
+/* Notes what the replica did next, as bpfh_replica_done tells it: an item, and its result in the first item->length bytes of answer. All
+ * replicas execute one request with one result at each number, and have one state after it; each executes the number behind its last one,
+ * or takes over a state. compared->first is the first that was noted of the same kind and number with another digest or another result. It
+ * compares the words of replicas, which prove nothing, and goes over all that was noted. 21, 80, 81, and 35 where answer has fewer bytes
+ * than item->length: nothing is changed. */
+uint32_t bpfh_ledger_note(bpfh_handle *ledger, const uint8_t *answer, size_t answer_length, const bpfh_done_item *item,
+                          bpfh_compared *compared);
+
 /* Makes a client's session, whose signer has used the leaves below leaf, and whose first request has the time behind time: 0 for
  * a new client. What client held is freed first. 21, 52, 56 to 60, 64: it holds nothing. */
 uint32_t bpfh_client_new(bpfh_handle *config, uint32_t id, const uint8_t *seed, size_t seed_length, uint8_t top,
@@ -280,6 +307,7 @@ static_assert(sizeof(bpfh_done_item) == 56, "a number of 32 bits, two of 64, and
 static_assert(sizeof(bpfh_signed_by) == 8, "two numbers of 32 bits");
 static_assert(sizeof(bpfh_standing) == 32, "two numbers of 64 bits and four of 32");
 static_assert(sizeof(bpfh_heard) == 24, "two numbers of 64 bits and one of 32");
+static_assert(sizeof(bpfh_compared) == 24, "two numbers of 64 bits and two of 32");
 static_assert(sizeof(bpfh_accepted) == 24, "three numbers of 64 bits");
 
 #ifdef __cplusplus

@@ -10,7 +10,7 @@ from dataclasses import dataclass, field
 from pathlib import Path
 
 from bpf_host_replica import Audit as Contradictions
-from bpf_host_replica import Configuration, GroupError
+from bpf_host_replica import Configuration, Executed, GroupError, Installed, Ledger
 from configuration import FILE, Group, read_group
 from faults import ConfigurationFault, DiskFault
 from journal import NAME, VERSION, sum_behind
@@ -18,7 +18,7 @@ from messages import CLIENT, REPLICA, VOTES, Kind, Part, leaf_of, parts_of
 
 
 NOTHING: tuple[int, list] = (0, [])
-NUMBERS = 128  # of the messages that the library hears side by side: it goes over all that came before
+NUMBERS = 128  # whose messages, and what was done at them, the library takes side by side: it goes over all that came before
 NULL_REQUEST = hashlib.sha256().digest()  # `null_digest` in pbft_model/specs/Setup.antt
 
 
@@ -43,9 +43,10 @@ class Record:
         for (message,) in self.base.execute("SELECT message FROM output ORDER BY row, place"):
             yield message
 
-    def done(self) -> Iterator[tuple[int, bytes, bytes | None]]:
-        """What it did, in order: number, digest and result; no result where a state was installed."""
-        yield from self.base.execute("SELECT number, digest, result FROM done ORDER BY row, place")
+    def done(self) -> Iterator[Executed | Installed]:
+        """What it did, in order."""
+        for number, digest, result in self.base.execute("SELECT number, digest, result FROM done ORDER BY row, place"):
+            yield Installed(number, digest) if result is None else Executed(number, digest, result)
 
     def is_whole(self) -> bool:
         """Whether its running hash is that of what it gave and did."""
@@ -99,12 +100,14 @@ def _record(path: Path, group: Group) -> Record:
 
 
 class Audit:
-    """Goes over messages, each once, and keeps what each signer signed with a leaf; what he said the library keeps."""
+    """Goes over messages, each once, and keeps what each signer signed with a leaf; what he said, and what replicas did, the library
+    keeps."""
 
     def __init__(self, group: Group) -> None:
         self._group, self._config = group, group.configuration()
         self._known: set[bytes] = set()
         self._heard: dict[int, tuple[Contradictions, list[Part]]] = {}
+        self._done: dict[int, tuple[Ledger, list[int]]] = {}
         self._leaves: dict[tuple[int, int, int], Part] = {}
         self._blamed: set[tuple] = set()
         self.findings = Findings()
@@ -149,20 +152,31 @@ class Audit:
             self.findings.blamed.append(f"{'replica' if topic[0] == REPLICA else 'client'} {topic[1]} {what}.")
 
     def compare_done(self, records: list[Record]) -> None:
-        """The definitions' audit (byz_world/specs/Audits.antt): no two say different things of a number, and executions rise by one."""
-        first: dict[tuple[bool, int], tuple[int, bytes, bytes | None]] = {}
+        """What the definitions ask of whole records (byz_world/specs/Audits.antt), of one thing that was done after another: no two say
+        different things of a number, and executions rise by one."""
         for record in records:
             last = 0
-            for number, digest, result in record.done():
-                installed = result is None
-                other, *words = first.setdefault((installed, number), (record.replica, digest, result))
-                if words != [digest, result]:
-                    what = "installed" if installed else "executed"
-                    self.findings.differ.append(f"replicas {other} and {record.replica} {what} different things at number {number}.")
-                if not installed and number != last + 1:
-                    self.findings.differ.append(f"replica {record.replica} executed number {number} behind number {last}.")
-                last = number
+            for done in record.done():
+                self._note(record.replica, done, last)
+                last = done.number
             self.findings.reached = max(self.findings.reached, last)
+
+    def _note(self, replica: int, done: Executed | Installed, last: int) -> None:
+        """Has the library look whether a replica did what others did, behind its last number."""
+        ledger, replicas = self._done.setdefault(done.number // NUMBERS, (Ledger(), []))
+        what = "executed" if isinstance(done, Executed) else "installed"
+        ledger.begin(last)
+        try:
+            compared = ledger.note(done)
+        except ValueError as fault:
+            self.findings.differ.append(f"replica {replica} {what} something at number {done.number} that has no digest: {fault}.")
+            return
+        replicas.append(replica)
+        if compared.first is not None:
+            other = replicas[compared.first]
+            self.findings.differ.append(f"replicas {other} and {replica} {what} different things at number {done.number}.")
+        if not compared.follows:
+            self.findings.differ.append(f"replica {replica} executed number {done.number} behind number {last}.")
 
 
 def said(part: Part) -> str:

@@ -29,11 +29,13 @@ __all__ = [
     "Accepted",
     "Audit",
     "Client",
+    "Compared",
     "Configuration",
     "Executed",
     "GroupError",
     "Heard",
     "Installed",
+    "Ledger",
     "Message",
     "Repeats",
     "Replica",
@@ -47,6 +49,7 @@ __all__ = [
 ]
 
 PUBLIC_KEY = 60
+DIGEST = 32
 ROOM = 65536
 
 
@@ -81,6 +84,8 @@ class Status(enum.IntEnum):
     BAD_INTERVAL = 73
     DUPLICATE_CLIENT = 74
     TOO_MANY = 76
+    NO_LEDGER = 80
+    NO_ITEM = 81
     UNKNOWN_SIGNER = 102
     BAD_SIGNATURE = 103
     WRONG_ROLE = 104
@@ -169,6 +174,15 @@ class Heard(NamedTuple):
     first: int | None
 
 
+class Compared(NamedTuple):
+    """How what a replica did compares with what was noted before: its place among all that was noted, from 0 on; the first of its kind and
+    its number that differs from it; and whether it follows on the replica's last number."""
+
+    place: int
+    first: int | None
+    follows: bool
+
+
 class Accepted(NamedTuple):
     """The reply that a client accepts."""
 
@@ -207,7 +221,7 @@ class _Sent(ctypes.Structure):
 
 
 class _DoneItem(ctypes.Structure):
-    _fields_ = [("kind", ctypes.c_uint32), ("number", ctypes.c_uint64), ("digest", ctypes.c_uint8 * 32), ("length", ctypes.c_uint64)]
+    _fields_ = [("kind", ctypes.c_uint32), ("number", ctypes.c_uint64), ("digest", ctypes.c_uint8 * DIGEST), ("length", ctypes.c_uint64)]
 
 
 class _SignedBy(ctypes.Structure):
@@ -222,6 +236,10 @@ class _Standing(ctypes.Structure):
 
 class _Heard(ctypes.Structure):
     _fields_ = [("place", ctypes.c_uint64), ("first", ctypes.c_uint64), ("blames", ctypes.c_uint32)]
+
+
+class _Compared(ctypes.Structure):
+    _fields_ = [(name, ctypes.c_uint64) for name in ("place", "first")] + [(name, ctypes.c_uint32) for name in ("differs", "follows")]
 
 
 class _Accepted(ctypes.Structure):
@@ -260,6 +278,9 @@ def _load() -> ctypes.CDLL:
         "repeats_get": [handle, number, data, size, ctypes.POINTER(_Sent)],
         "audit_new": [handle],
         "audit_hear": [handle, handle, data, size, ctypes.POINTER(_Heard)],
+        "ledger_new": [handle],
+        "ledger_begin": [handle, long],
+        "ledger_note": [handle, data, size, ctypes.POINTER(_DoneItem), ctypes.POINTER(_Compared)],
         "client_new": [handle, number, *seed, number, long, handle],
         "client_request": [handle, data, size],
         "client_message": [handle, data, size, ctypes.POINTER(long)],
@@ -488,6 +509,37 @@ class Audit(_Held):
         heard = _Heard()
         _check(_library.bpfh_audit_hear(self._config._at, self._at, message, len(message), ctypes.byref(heard)))
         return Heard(heard.place, heard.first if heard.blames else None)
+
+
+class Ledger(_Held):
+    """Looks where the words of replicas differ: all execute one request with one result at each number, and have one state after it. Their
+    words prove nothing to others.
+
+        for journal in journals:
+            ledger.begin()
+            for done in journal:
+                compared = ledger.note(done)
+    """
+
+    def __init__(self) -> None:
+        super().__init__()
+        _check(_library.bpfh_ledger_new(self._at))
+
+    def begin(self, last: int = 0) -> None:
+        """What another replica did comes now, whose last number was this one: 0 where all of it comes."""
+        _check(_library.bpfh_ledger_begin(self._at, last))
+
+    def note(self, done: Executed | Installed) -> Compared:
+        """Notes what the replica did next, and tells whether that differs from what was noted before. Raises `ValueError` for a digest
+        that hasn't 32 bytes."""
+        is_executed = isinstance(done, Executed)
+        result = done.result if is_executed else b""
+        if len(done.digest) != DIGEST:
+            raise ValueError(f"a digest has {DIGEST} bytes, and not {len(done.digest)}")
+        item = _DoneItem(0 if is_executed else 1, done.number, (ctypes.c_uint8 * DIGEST)(*done.digest), len(result))
+        compared = _Compared()
+        _check(_library.bpfh_ledger_note(self._at, result, len(result), ctypes.byref(item), ctypes.byref(compared)))
+        return Compared(compared.place, compared.first if compared.differs else None, bool(compared.follows))
 
 
 class Client(_Held):

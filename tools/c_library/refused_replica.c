@@ -97,6 +97,21 @@ static void note(bpfh_handle *config, bpfh_handle *replica, uint64_t length) {
   bpfh_release(&audit);
 }
 
+static void compare(void) {
+  bpfh_handle ledger = {0};
+  bpfh_done_item item = {0, 1, {9}, 5};
+  bpfh_compared compared = {7, 7, 7, 7};
+  bool noted = false;
+  if (went("a ledger", bpfh_ledger_new(&ledger))) {
+    for (int n = 0; n < 2 && !noted; n++) {
+      noted = went("an execution is noted", bpfh_ledger_note(&ledger, message, 5, &item, &compared));
+      if (!noted) holds("nothing is told of that", compared.place == 7);
+    }
+  }
+  if (noted) holds("it is the first", compared.place == 0 && compared.differs == 0 && compared.follows == 1);
+  bpfh_release(&ledger);
+}
+
 static void step(bpfh_handle *config, bpfh_handle *replica, bpfh_handle *client) {
   uint64_t told = 0;
   bpfh_sent sent = {0};
@@ -120,6 +135,7 @@ static void step(bpfh_handle *config, bpfh_handle *replica, bpfh_handle *client)
 static void day(void) {
   bpfh_handle draft = {0}, config = {0}, replica = {0}, client = {0};
   memset(message, 2, 5);
+  compare();
   if (drawn_up(&draft, &config)) {
     bool joined = went("a replica", bpfh_replica_replay(&config, 0, seeds[0], BPFH_SEED, 5, 0, &replica));
     joined = went("a client", bpfh_client_new(&config, 100, seeds[4], BPFH_SEED, 5, 0, 0, 0, &client)) && joined;

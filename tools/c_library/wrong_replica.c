@@ -181,6 +181,53 @@ static void audits(bpfh_handle *config, bpfh_handle *replica, uint64_t length) {
   bpfh_release(&client);
 }
 
+static bool compared_as(bpfh_compared got, uint64_t place, uint64_t first, uint32_t differs, uint32_t follows) {
+  return got.place == place && got.first == first && got.differs == differs && got.follows == follows;
+}
+
+static void compares(bpfh_handle *replica) {
+  static const uint8_t answer[] = "one", other[] = "two";
+  bpfh_handle ledger = {0};
+  bpfh_done_item item = {0, 1, {9}, 3}, state = {1, 8, {9}, 0};
+  bpfh_compared told = {7, 7, 7, 7};
+  is("no ledger", bpfh_ledger_note(&ledger, answer, 3, &item, &told), BPFH_GROUP_NO_LEDGER);
+  is("none to begin in", bpfh_ledger_begin(&ledger, 0), BPFH_GROUP_NO_LEDGER);
+  is("a replica as ledger", bpfh_ledger_note(replica, answer, 3, &item, &told), BPFH_GROUP_NO_LEDGER);
+  is("nor to begin in", bpfh_ledger_begin(replica, 0), BPFH_GROUP_NO_LEDGER);
+  is("a ledger", bpfh_ledger_new(&ledger), BPFH_GROUP_DONE);
+  is("a ledger twice", bpfh_ledger_new(&ledger), BPFH_GROUP_DONE);
+  is("a result cut short", bpfh_ledger_note(&ledger, answer, 2, &item, &told), BPFH_GROUP_BUFFER_TOO_SHORT);
+  const bpfh_done_item endless = {0, 1, {9}, UINT64_MAX}, third = {2, 1, {9}, 3}, last = {UINT32_MAX, 1, {9}, 3};
+  is("a result without end", bpfh_ledger_note(&ledger, answer, 3, &endless, &told), BPFH_GROUP_BUFFER_TOO_SHORT);
+  is("of no kind", bpfh_ledger_note(&ledger, answer, 3, &third, &told), BPFH_GROUP_NO_ITEM);
+  is("nor of the last", bpfh_ledger_note(&ledger, answer, 3, &last, &told), BPFH_GROUP_NO_ITEM);
+  holds("nothing is told", compared_as(told, 7, 7, 7, 7));
+  is("an execution", bpfh_ledger_note(&ledger, answer, sizeof answer, &item, &told), BPFH_GROUP_DONE);
+  holds("is the first", compared_as(told, 0, 0, 0, 1));
+  is("the same", bpfh_ledger_note(&ledger, answer, 3, &item, &told), BPFH_GROUP_DONE);
+  holds("doesn't follow on itself", compared_as(told, 1, 0, 0, 0));
+  is("another replica", bpfh_ledger_begin(&ledger, 0), BPFH_GROUP_DONE);
+  is("another result", bpfh_ledger_note(&ledger, other, 3, &item, &told), BPFH_GROUP_DONE);
+  holds("differs from the first", compared_as(told, 2, 0, 1, 1));
+  item.digest[0] = 8;
+  is("another request", bpfh_ledger_note(&ledger, other, 3, &item, &told), BPFH_GROUP_DONE);
+  holds("differs too, behind itself", compared_as(told, 3, 0, 1, 0));
+  is("a state", bpfh_ledger_note(&ledger, answer, 0, &state, &told), BPFH_GROUP_DONE);
+  holds("follows on any number", compared_as(told, 4, 0, 0, 1));
+  state.digest[0] = 8;
+  is("another state", bpfh_ledger_note(&ledger, answer, 0, &state, &told), BPFH_GROUP_DONE);
+  holds("differs from that", compared_as(told, 5, 4, 1, 1));
+  is("a replica at number 41", bpfh_ledger_begin(&ledger, 41), BPFH_GROUP_DONE);
+  item.number = 42;
+  is("the next number", bpfh_ledger_note(&ledger, answer, 3, &item, &told), BPFH_GROUP_DONE);
+  holds("is its next", compared_as(told, 6, 0, 0, 1));
+  item.number = 0;
+  is("a replica at the last number", bpfh_ledger_begin(&ledger, UINT64_MAX), BPFH_GROUP_DONE);
+  is("number 0", bpfh_ledger_note(&ledger, answer, 3, &item, &told), BPFH_GROUP_DONE);
+  holds("is no next number", compared_as(told, 7, 0, 0, 0));
+  bpfh_release(&ledger);
+}
+
 static void waits(bpfh_handle *replica, bpfh_handle *client, uint64_t length) {
   uint32_t so = 7;
   is("a client waits for nothing", bpfh_replica_waits(client, message, length, &so), BPFH_GROUP_NO_REPLICA);
@@ -224,6 +271,7 @@ static void steps(bpfh_handle *config, bpfh_handle *replica, bpfh_handle *client
   holds("to all", sent.kind == 0 && sent.length > length);
   repeats(replica, &nothing);
   audits(config, replica, sent.length);
+  compares(replica);
   is("no second one", bpfh_replica_output(replica, 1, message, sizeof message, &sent), BPFH_GROUP_NO_ENTRY);
   is("nor a last one", bpfh_replica_output(replica, UINT32_MAX, message, sizeof message, &sent), BPFH_GROUP_NO_ENTRY);
   is("standing", bpfh_replica_standing(replica, &standing), BPFH_GROUP_DONE);

@@ -1,11 +1,12 @@
-"""The parts of examples/group that need no group: messages made by hand, what is sent again, whom two messages blame."""
+"""The parts of examples/group that need no group: messages made by hand, what is sent again, whom two messages blame, whose deeds differ."""
 from __future__ import annotations
 
 from collections.abc import Callable
 
 import parts_path  # noqa: F401
+import audit as journals
 import zmq.asyncio
-from bpf_host_replica import Audit, Client, Configuration, Repeats, Replica, Seed, To
+from bpf_host_replica import Audit, Client, Configuration, Executed, Installed, Repeats, Replica, Seed, To
 from configuration import Member
 from machines import RowFailed, expect
 from messages import CLIENT, REPLICA, Kind, Malformed, leaf_of, part_of, parts_of
@@ -155,6 +156,42 @@ def blames_by_two_messages() -> None:
     expect([it.place for it in heard] == [0, 1, 2, 3, 4], f"heard at {heard}")
 
 
+class Diary:
+    """What a replica says that it did."""
+
+    def __init__(self, replica: int, items: list[Executed | Installed]) -> None:
+        self.replica = replica
+        self.items = items
+
+    def done(self) -> list[Executed | Installed]:
+        return self.items
+
+
+class Nobody:
+    """A group of which an audit hears no message."""
+
+    def configuration(self) -> None:
+        return None
+
+
+def compares_what_was_done() -> None:
+    """Who did something else at a number, and who left one out, also where the next ledger begins."""
+    whole = [Executed(number, DIGEST, b"result") for number in range(1, 300)]
+    other = [*whole[:199], Executed(200, DIGEST, b"another"), *whole[200:]]
+    gap, late = whole[:127] + whole[128:], [Installed(128, DIGEST), *whole[128:]]
+    apart = [Installed(128, bytes(32)), *whole[128:]]
+    audit = journals.Audit(Nobody())
+    audit.compare_done([Diary(id, items) for id, items in enumerate((whole, other, gap, late, apart))])
+    differ = ["replicas 0 and 1 executed different things at number 200.", "replica 2 executed number 129 behind number 127.",
+              "replicas 1 and 2 executed different things at number 200.", "replicas 1 and 3 executed different things at number 200.",
+              "replicas 3 and 4 installed different things at number 128.", "replicas 1 and 4 executed different things at number 200."]
+    expect(audit.findings.differ == differ, f"the findings are {audit.findings.differ}")
+    expect(audit.findings.reached == 299, f"they reached {audit.findings.reached}")
+    short = journals.Audit(Nobody())
+    short.compare_done([Diary(5, [Executed(1, b"short", b"")])])
+    expect(len(short.findings.differ) == 1, f"a digest of 5 bytes: {short.findings.differ}")
+
+
 def drops_beyond_64_megabytes() -> None:
     """What waits for a peer that reads nothing."""
     public, secret = zmq.curve_keypair()
@@ -174,7 +211,7 @@ def waits_twice_as_long() -> None:
 
 
 PARTS: tuple[Callable[[], None], ...] = (reads_all, refuses_other_bytes, names_leaves, sends_again, waits, blames_by_two_messages,
-                                        drops_beyond_64_megabytes, waits_twice_as_long)
+                                        compares_what_was_done, drops_beyond_64_megabytes, waits_twice_as_long)
 
 
 def tried() -> bool:

@@ -21,7 +21,7 @@ Tells heard (Some claim) (Some place) = Blames heard claim place × ((i : ℕ) �
 
 -- What bytes make of what was heard: the claim of the message that they are, opened under a configuration, stands behind the others.
 -- Bytes that aren't opened change nothing.
-abbrev pub Hears : Configuration → List (Option Claim) → List ℕ → Result (Option ℕ) SealFault → List (Option Claim) → Type 0
-Hears c heard bytes (Ok told) after =
+abbrev pub HearsClaim : Configuration → List (Option Claim) → List ℕ → Result (Option ℕ) SealFault → List (Option Claim) → Type 0
+HearsClaim c heard bytes (Ok told) after =
     (m : CheckedMessage) × (opening c bytes ≡ Ok m) × Tells heard (claim_of m.message) told × (after ≡ heard ++ claim_of m.message ∷ [])
-Hears c heard bytes (Err fault) after = ((fault ≡ seals.Memory) ⊎ (opening c bytes ≡ Err fault)) × (after ≡ heard)
+HearsClaim c heard bytes (Err fault) after = ((fault ≡ seals.Memory) ⊎ (opening c bytes ≡ Err fault)) × (after ≡ heard)

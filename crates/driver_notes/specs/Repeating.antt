@@ -9,6 +9,7 @@ use Rattle.pbft_codec.specs.declared.body.Body.TheVariants.{Request, PrePrepare,
 use Rattle.pbft_codec.specs.declared.body.fetch.Fetch.TheVariants as fetches
 use Rattle.seal.specs.Opening.{CheckedMessage}
 use Rattle.driver_notes.specs.declared.repeats.Subject.{Subject}
+use Rattle.driver_notes.specs.declared.repeats.Subject.TheVariants as subjects
 
 -- What a contract sees of what is sent again.
 pub record RepeatsFacts : Type 0 where
@@ -41,25 +42,33 @@ is_wanted_in low executed view m = is_wanted low executed view m.message.body
 
 -- ---- which message stands for another
 
-abbrev matter : ℕ → ℕ → ℕ → Subject
-matter kind whose number = record { kind = kind; whose = whose; number = number }
-
 -- a vote is about its view and its number, a Reply about its client; of all else the last one counts
 abbrev pub about : Body → Subject
-about (Request r) = matter 1 0 0
-about (PrePrepare p) = matter 2 p.view.0 p.number.0
-about (Prepare p) = matter 3 p.view.0 p.number.0
-about (Commit p) = matter 4 p.view.0 p.number.0
-about (Reply r) = matter 5 r.client.0 0
-about (Checkpoint c) = matter 6 0 c.number.0
-about (ViewChange v) = matter 7 0 0
-about (NewView v) = matter 8 0 0
-about (Fetch (fetches.Request digest)) = matter 9 1 0
-about (Fetch (fetches.State number)) = matter 9 2 0
-about (Snapshot s) = matter 10 0 0
+about (Request r) = subjects.Request
+about (PrePrepare p) = subjects.PrePrepare p.view p.number
+about (Prepare p) = subjects.Prepare p.view p.number
+about (Commit p) = subjects.Commit p.view p.number
+about (Reply r) = subjects.Reply r.client
+about (Checkpoint c) = subjects.Checkpoint c.number
+about (ViewChange v) = subjects.ViewChange
+about (NewView v) = subjects.NewView
+about (Fetch (fetches.Request digest)) = subjects.FetchedRequest
+about (Fetch (fetches.State number)) = subjects.FetchedState
+about (Snapshot s) = subjects.Snapshot
 
-abbrev is_same : Subject → Subject → Bool
-is_same a b = (a.kind == b.kind) && ((a.whose == b.whose) && (a.number == b.number))
+abbrev pub is_same : Subject → Subject → Bool
+is_same subjects.Request subjects.Request = true
+is_same (subjects.PrePrepare v n) (subjects.PrePrepare w m) = (v.0 == w.0) && (n.0 == m.0)
+is_same (subjects.Prepare v n) (subjects.Prepare w m) = (v.0 == w.0) && (n.0 == m.0)
+is_same (subjects.Commit v n) (subjects.Commit w m) = (v.0 == w.0) && (n.0 == m.0)
+is_same (subjects.Reply c) (subjects.Reply d) = c.0 == d.0
+is_same (subjects.Checkpoint n) (subjects.Checkpoint m) = n.0 == m.0
+is_same subjects.ViewChange subjects.ViewChange = true
+is_same subjects.NewView subjects.NewView = true
+is_same subjects.FetchedRequest subjects.FetchedRequest = true
+is_same subjects.FetchedState subjects.FetchedState = true
+is_same subjects.Snapshot subjects.Snapshot = true
+is_same _ _ = false
 
 abbrev pub is_about : Subject → CheckedMessage → Bool
 is_about other m = is_same (about m.message.body) other

@@ -1,7 +1,7 @@
 //! Messages that are heard one after another, and whom they blame.
 
 ghost use Rattle.std.specs.Prelude.{◌≡◌, ◌<◌, ◌↔◌, [], Some, IsTrue, length};
-ghost use Rattle.driver_notes.specs.Blaming.{Blames, Hears, Tells};
+ghost use Rattle.driver_notes.specs.Blaming.{Blames, HearsClaim, Tells};
 
 use conflicts::{Claim, claim_of};
 use host_types::Config;
@@ -51,7 +51,7 @@ impl Audit {
         config: &Arc<Config>,
         bytes: &[u8],
     ) -> Result<Option<usize>, SealFault>
-        ensures { Hears config.now.value self.old bytes.now result self.new }
+        ensures { HearsClaim config.now.value self.old bytes.now result self.new }
     {
         let message = open(alloc, config, bytes)?;
         let claim = claim_of(&message);

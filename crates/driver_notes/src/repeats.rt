@@ -5,9 +5,9 @@ ghost use Rattle.std.specs.List.{filter};
 ghost use Rattle.std.specs.Option.{option_copied};
 ghost use Rattle.pbft_codec.specs.Encoding.{signed_text};
 ghost use Rattle.sha2.specs.Sha256.{sha256};
-ghost use Rattle.driver_notes.specs.Repeating.{about, answered, asks_for, is_about, is_entered, is_wanted_in, moved, none_kept, noted, taken};
+ghost use Rattle.driver_notes.specs.Repeating.{about, answered, asks_for, is_about, is_entered, is_same, is_wanted_in, moved, none_kept, noted, taken};
 
-use host_types::{Digest, SeqNo, View};
+use host_types::{ClientId, Digest, SeqNo, View};
 use pbft_codec::{Body, Fetch};
 use seal::{Checked, request_digest};
 use std::alloc::{AllocError, Global};
@@ -15,13 +15,21 @@ use std::marker::Model;
 
 /// What a message is about. Of two own messages that are about the same the later one is sent again.
 #[derive(Clone, Copy, Debug, PartialEq, Eq)]
-pub struct Subject {
-    /// The body's kind, by its byte in the encoding.
-    pub kind: u8,
-    /// Of a vote its view, of a Reply its client, of a Fetch 1 for a request and 2 for a state; else 0.
-    pub whose: u32,
-    /// Of a vote and of a Checkpoint its number; else 0.
-    pub number: u64,
+pub enum Subject {
+    Request,
+    PrePrepare { view: View, number: SeqNo },
+    Prepare { view: View, number: SeqNo },
+    Commit { view: View, number: SeqNo },
+    /// The client's last answer.
+    Reply { client: ClientId },
+    Checkpoint { number: SeqNo },
+    ViewChange,
+    NewView,
+    /// A Fetch of a request, whichever.
+    FetchedRequest,
+    /// A Fetch of a state, whichever.
+    FetchedState,
+    Snapshot,
 }
 
 /// A replica's own messages that are sent again, and the NewView of its view: votes and Checkpoints above its low mark, votes,
@@ -146,35 +154,43 @@ fn about(body: &Body) -> Subject
     ensures { result ≡ about body.now }
 {
     match body {
-        Body::Request(_) => matter(1, 0, 0),
-        Body::PrePrepare(said) => matter(2, said.view.0, said.number.0),
-        Body::Prepare(said) => matter(3, said.view.0, said.number.0),
-        Body::Commit(said) => matter(4, said.view.0, said.number.0),
-        Body::Reply(said) => matter(5, said.client.0, 0),
-        Body::Checkpoint(said) => matter(6, 0, said.number.0),
-        Body::ViewChange(_) => matter(7, 0, 0),
-        Body::NewView(_) => matter(8, 0, 0),
-        Body::Fetch(Fetch::Request(_)) => matter(9, 1, 0),
-        Body::Fetch(Fetch::State(_)) => matter(9, 2, 0),
-        Body::Snapshot(_) => matter(10, 0, 0),
-    }
-}
-
-fn matter(kind: u8, whose: u32, number: u64) -> Subject
-    ensures { result ≡ record { kind = kind; whose = whose; number = number } }
-{
-    Subject {
-        kind,
-        whose,
-        number,
+        Body::Request(_) => Subject::Request,
+        Body::PrePrepare(said) => Subject::PrePrepare {
+            view: said.view,
+            number: said.number,
+        },
+        Body::Prepare(said) => Subject::Prepare {
+            view: said.view,
+            number: said.number,
+        },
+        Body::Commit(said) => Subject::Commit {
+            view: said.view,
+            number: said.number,
+        },
+        Body::Reply(said) => Subject::Reply {
+            client: said.client,
+        },
+        Body::Checkpoint(said) => Subject::Checkpoint {
+            number: said.number,
+        },
+        Body::ViewChange(_) => Subject::ViewChange,
+        Body::NewView(_) => Subject::NewView,
+        Body::Fetch(Fetch::Request(_)) => Subject::FetchedRequest,
+        Body::Fetch(Fetch::State(_)) => Subject::FetchedState,
+        Body::Snapshot(_) => Subject::Snapshot,
     }
 }
 
 fn is_about(subject: &Subject, message: &Checked) -> bool
     ensures { result ≡ is_about subject.now message.now }
 {
-    let other = about(message.body());
-    other.kind == subject.kind && other.whose == subject.whose && other.number == subject.number
+    is_same(&about(message.body()), subject)
+}
+
+fn is_same(one: &Subject, other: &Subject) -> bool
+    ensures { result ≡ is_same one.now other.now }
+{
+    one == other
 }
 
 // Whether it is a Fetch of the request with this digest.

@@ -1,10 +1,14 @@
-//! A box as what C can hold of it: its pointer and its allocator. `Parts::of(boxed)` takes a box apart, and
-//! `parts.into_box()` puts it together again; nothing is copied, and no memory is taken or freed.
+//! What libraries for C share: a box as what C can hold of it, its pointer and its allocator (`Parts::of(boxed)` takes a box apart, and
+//! `parts.into_box()` puts it together again; nothing is copied, and no memory is taken or freed), and bytes that are handed to a
+//! caller's buffer (`tell`).
 #![tactic(auto)]
+
+mod front;
 
 ghost use Rattle.std.specs.Prelude.{◌≡◌};
 ghost use Rattle.std.specs.Box.Ownership.{box_owns};
 
+pub use front::{BUFFER_TOO_SHORT, DONE, put_front, tell};
 use std::alloc::Allocator;
 use std::marker::Model;
 

@@ -1,8 +1,11 @@
 pub mod Slots
-pub mod Told
+pub use Rattle.handle_parts.specs.Told
+pub use Rattle.driver_notes.specs.Accounts
 pub use Rattle.driver_notes.specs.Blaming
 pub use Rattle.driver_notes.specs.Claim
 pub use Rattle.driver_notes.specs.Repeating
+pub use Rattle.driver_notes.specs.declared.ledger.Deed
+pub use Rattle.driver_notes.specs.declared.ledger.Remark
 pub use Rattle.members.specs.Clients
 pub use Rattle.members.specs.Dest
 pub use Rattle.members.specs.Done

@@ -9,7 +9,7 @@ use handle_parts::Parts;
 use std::alloc::Global;
 use std::mem;
 
-/// A procedure, a map, or nothing. C declares one as a pointer and a flag, all zero at first, and never reads or
+/// One thing that the library hands out, or nothing. C declares one as a pointer and a flag, all zero at first, and never reads or
 /// changes either.
 #[repr(C)]
 pub struct Handle {

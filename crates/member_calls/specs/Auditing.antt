@@ -2,7 +2,7 @@
 use Rattle.std.specs.Prelude.{◌≡◌, ℕ, List, length, Option, Some, None, Result, Ok, Err}
 use Rattle.host_types.specs.Configuration.{Configuration}
 use Rattle.handles.specs.Claim.{Claim}
-use Rattle.handles.specs.Blaming.{Hears}
+use Rattle.handles.specs.Blaming.{HearsClaim}
 use Rattle.handles.specs.declared.held.Held.{Held}
 use Rattle.handles.specs.declared.held.Held.TheVariants as held
 use Rattle.seal.specs.declared.fault.SealFault.{SealFault}
@@ -27,7 +27,7 @@ heard_of (Err fault) place before = before
 -- An audit hears bytes under a configuration.
 abbrev pub AuditedUnder : Configuration → Option Held → List ℕ → ℕ → Heard → Heard → Option Held → Type 0
 AuditedUnder c (Some (held.Audit heard)) bytes status before after left =
-    (result : Result (Option ℕ) SealFault) × (t : List (Option Claim)) × Hears c heard bytes result t × (left ≡ Some (held.Audit t))
+    (result : Result (Option ℕ) SealFault) × (t : List (Option Claim)) × HearsClaim c heard bytes result t × (left ≡ Some (held.Audit t))
     × (status ≡ number_of (of_hearing result)) × (after ≡ heard_of result (length heard) before)
 AuditedUnder c inside bytes status before after left = (status ≡ number_of NoAudit) × (after ≡ before) × (left ≡ inside)
 

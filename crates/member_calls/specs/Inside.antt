@@ -1,5 +1,6 @@
 -- Statement: what a handle holds.
 use Rattle.std.specs.Prelude.{List, Option, Some, None, option_and_then}
+use Rattle.handles.specs.Accounts.{LedgerFacts}
 use Rattle.handles.specs.Claim.{Claim}
 use Rattle.host_types.specs.Configuration.{Configuration}
 use Rattle.client_session.specs.Sessions.{SessionState}
@@ -44,6 +45,11 @@ abbrev pub audit_of : Held → Option (List (Option Claim))
 audit_of (held.Audit a) = Some a
 audit_of _ = None
 
+-- What replicas say that they did.
+abbrev pub ledger_of : Held → Option LedgerFacts
+ledger_of (held.Ledger l) = Some l
+ledger_of _ = None
+
 -- The same of what is inside a handle.
 abbrev pub draft_in : Option Held → Option Configuration
 draft_in inside = option_and_then draft_of inside
@@ -65,3 +71,6 @@ repeats_in inside = option_and_then repeats_of inside
 
 abbrev pub audit_in : Option Held → Option (List (Option Claim))
 audit_in inside = option_and_then audit_of inside
+
+abbrev pub ledger_in : Option Held → Option LedgerFacts
+ledger_in inside = option_and_then ledger_of inside

@@ -11,3 +11,4 @@ pub mod Standing
 pub mod Voting
 pub mod Repeating
 pub mod Auditing
+pub mod Accounting

@@ -13,7 +13,7 @@ use Rattle.handles.specs.JoinFault.TheVariants as joins
 use Rattle.handles.specs.StepFault.{StepFault}
 use Rattle.handles.specs.StepFault.TheVariants as steps
 use Rattle.member_calls.specs.declared.status.Status.{Status}
-use Rattle.member_calls.specs.declared.status.Status.TheVariants.{Done, Memory, BufferTooShort, NoDraft, NoConfig, NoReplica, NoClient, NoVotes, NoRepeats, NoAudit, NoKey, NoSeed, NoHeight, NoLeaf, NotListed, OtherKey, NoRow, NoEntry, NoState, NoTime, OperationTooLong, NoRequest, NoReply, Config, Codec, Unopened, Halted, Session}
+use Rattle.member_calls.specs.declared.status.Status.TheVariants.{Done, Memory, BufferTooShort, NoDraft, NoConfig, NoReplica, NoClient, NoVotes, NoRepeats, NoAudit, NoLedger, NoItem, NoKey, NoSeed, NoHeight, NoLeaf, NotListed, OtherKey, NoRow, NoEntry, NoState, NoTime, OperationTooLong, NoRequest, NoReply, Config, Codec, Unopened, Halted, Session}
 
 abbrev pub number_of : Status → ℕ
 number_of Done = 0
@@ -26,6 +26,8 @@ number_of NoClient = 54
 number_of NoVotes = 68
 number_of NoRepeats = 69
 number_of NoAudit = 70
+number_of NoLedger = 80
+number_of NoItem = 81
 number_of NoKey = 55
 number_of NoSeed = 56
 number_of NoHeight = 57

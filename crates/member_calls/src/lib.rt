@@ -2,6 +2,7 @@
 //! [`Status`], and says in its contract what it left. Nothing here signs bytes that are given.
 #![tactic(auto)]
 
+mod accounting;
 mod auditing;
 mod calling;
 mod doing;
@@ -15,6 +16,7 @@ mod status;
 mod stepping;
 mod voting;
 
+pub use accounting::{Compared, begin_ledger, compare, new_ledger};
 pub use auditing::{Heard, audit, new_audit, no_audit};
 pub use calling::{Accepted, ask, hear, last_message, reply};
 pub use doing::{DoneItem, done};

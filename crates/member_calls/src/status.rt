@@ -32,6 +32,10 @@ pub enum Status {
     NoRepeats,
     /// A handle holds no audit.
     NoAudit,
+    /// A handle holds no ledger.
+    NoLedger,
+    /// The kind of what a replica did is neither 0 nor 1.
+    NoItem,
     /// A key isn't 60 bytes that begin with 1 or 2 levels.
     NoKey,
     /// A seed hasn't 48 bytes.
@@ -86,6 +90,8 @@ impl Status {
             Status::NoVotes => 68,
             Status::NoRepeats => 69,
             Status::NoAudit => 70,
+            Status::NoLedger => 80,
+            Status::NoItem => 81,
             Status::NoKey => 55,
             Status::NoSeed => 56,
             Status::NoHeight => 57,

@@ -310,7 +310,7 @@ module _ (secrets : ℕ → List ℕ) where
   stands (suc (suc (suc zero))) correct = absurd (true≢false correct.1)
   stands (suc (suc (suc (suc n)))) correct = absurd (omega (arith, correct.0))
 
-  end_is : (i : ℕ) (s : Core) → ComesTo c journals i (journals.rows i) s → core_over c (start_of c (signer_of secrets i)) (turns_by secrets i) ≡ s
+  pub end_is : (i : ℕ) (s : Core) → ComesTo c journals i (journals.rows i) s → core_over c (start_of c (signer_of secrets i)) (turns_by secrets i) ≡ s
   end_is i s ends = one_core c i (signer_of secrets i) (journals.rows i) (start_of c (signer_of secrets i)) (core_over c (start_of c (signer_of secrets i)) (turns_by secrets i)) s (comes i) ends
 
   view_by_table : EachEnds c journals (λ i s. s.view ≡ 0)
@@ -341,13 +341,13 @@ module _ (secrets : ℕ → List ℕ) where
       subst (λ (x : Signed Body). HasReceived x (journals.rows i)) (sym is) (has_request i right)
 
   -- they are the one request
-  same_asked : (m p : Signed RequestBody) → as_message bodies.Request m ≡ as_message bodies.Request p → m ≡ p
+  pub same_asked : (m p : Signed RequestBody) → as_message bodies.Request m ≡ as_message bodies.Request p → m ≡ p
   same_asked m p e =
       let both : bodies.Request m.body ≡ bodies.Request p.body = ap (λ (x : Signed Body). x.body) e in
       let body : m.body ≡ p.body = cc in
       λ i. record { role = (e i).role; id = (e i).id; body = body i; sig = (e i).sig }
 
-  one_asked : (m : Signed RequestBody) → HasReceived (as_message bodies.Request m) (journals.rows 0) → as_message bodies.Request m ≡ as_message bodies.Request (a_request secrets)
+  pub one_asked : (m : Signed RequestBody) → HasReceived (as_message bodies.Request m) (journals.rows 0) → as_message bodies.Request m ≡ as_message bodies.Request (a_request secrets)
   one_asked m received = only_request (as_message bodies.Request m) (plain 0 (as_message bodies.Request m) received) m.body refl
 
   asks_by_table : AsksInOrder c journals

@@ -1,11 +1,11 @@
--- The first window: what the primary gave out is executed by more correct replicas than may be faulty.
-use Rattle.std.proofs.Common.{◌≡◌, ◌⊎◌, ℕ, zero, suc, ◌+◌, ◌<◌, ◌≤◌, Bool, true, false, ◌&&◌, List, [], ◌∷◌, Option, Some, None, refl, sym, ap, subst, ◌∙◌, arith, inl, inr}
+-- Where no vote comes early, what the primary gave out is executed by more correct replicas than may be faulty.
+use Rattle.std.proofs.Common.{◌≡◌, ◌⊎◌, ℕ, zero, suc, ◌+◌, ◌<◌, ◌≤◌, Bool, true, false, ◌&&◌, List, ◌∷◌, Option, Some, None, refl, sym, ap, subst, ◌∙◌, arith, inl, inr}
 use Rattle.std.specs.Prelude.{not, bytes_eq, ◌==◌}
 use Rattle.std.proofs.lemmas.Bool.{false≢true, cases_lt, cases_eq, and_parts, eqb-true, leb-true, not-true, not_from_false}
-use Rattle.pbft_model.specs.Words.{Signed, Body, RequestBody, Checkpoint, Replica, Part, part_of}
+use Rattle.pbft_model.specs.Words.{Signed, RequestBody, Checkpoint, Replica, Part, part_of}
 use Rattle.pbft_codec.specs.declared.body.Body.TheVariants as bodies
-use Rattle.pbft_model.specs.Sequential.{Service, Outcome}
-use Rattle.pbft_model.specs.Setup.{Setup, primary, replicas, quorum, span, count, digest_of}
+use Rattle.pbft_model.specs.Sequential.{Service}
+use Rattle.pbft_model.specs.Setup.{Setup, primary, replicas, quorum, count, digest_of}
 use Rattle.pbft_model.specs.Tables.{at, checkpoint_key}
 use Rattle.pbft_model.specs.Certificates.{Fields, is_by, some_by, is_checkpoint_of, checkpointed}
 use Rattle.pbft_model.specs.Core.{Core, start_of, is_known}
@@ -18,7 +18,7 @@ use Rattle.pbft_progress.specs.Progress.{IsDrained, EachEnds, Enough}
 use Rattle.pbft_progress.specs.Votes.{HasProposed}
 use Rattle.pbft_answers.specs.Window.{AsksInOrder, SpreadsRequests, InstallsNothing}
 use Rattle.pbft_model.proofs.Counting.{found_outside}
-use Rattle.pbft_model.proofs.Events.{now, before, earlier_trans, history_at}
+use Rattle.pbft_model.proofs.Events.{before, earlier_trans, history_at}
 use Rattle.pbft_model.proofs.Stages.{by_is}
 use Rattle.pbft_model.proofs.Real.{real_core}
 use Rattle.pbft_model.proofs.ByView.{signed_real}
@@ -30,14 +30,14 @@ use Rattle.pbft_progress.proofs.Views.{each_or_one}
 use Rattle.pbft_answers.proofs.Kin.{family, told, unforged}
 use Rattle.pbft_answers.proofs.Reaching.{Done, Jumped, reaches, number_rises}
 use Rattle.pbft_answers.proofs.Speaking.{alone}
-use Rattle.pbft_answers.proofs.Deciding.{Asked, last, AllPrepare, AllCommit, GavePrepare, GaveCommit, prepares, commits, none_rests_before, none_rests_behind, above_zero}
+use Rattle.pbft_answers.proofs.Deciding.{Asked, InTime, last, AllPrepare, AllCommit, GavePrepare, GaveCommit, prepares, commits, none_rests_before, none_rests_behind, above_zero}
 use Rattle.pbft_answers.proofs.Proposing.{Signs, signs_asked, asked_signs, signs_below, signs_view}
 use Rattle.pbft_answers.proofs.Holding.{behind, known_last, StaysNew}
 use Rattle.pbft_answers.proofs.OneResult.{one_result}
-use Rattle.pbft_answers.proofs.Listing.{IsTakenBy, above_new}
+use Rattle.pbft_answers.proofs.Listing.{above_new}
 use Rattle.pbft_answers.proofs.Ordering.{times_rise}
 use Rattle.pbft_answers.proofs.Counts.{many_right}
-use Rattle.pbft_answers.proofs.Executing.{asked_of, executes_it, all_reach}
+use Rattle.pbft_answers.proofs.Executing.{timely_of, number_in_time, executes_it, all_reach}
 
 module _ (c : Setup) (j : Journals) (h : IsHonestFamily c j) (first : EachEnds c j (λ i s. s.view ≡ 0)) (leader : IsCorrect c j.faulty (primary c.config 0)) where
   abbrev acts_of : ℕ → List Act
@@ -232,13 +232,12 @@ module _ (c : Setup) (j : Journals) (h : IsHonestFamily c j) (first : EachEnds c
     enough_done : (n : ℕ) → (x : Fields) → x.number ≡ n → Asked c j h first leader x → Enough c j (DoneBy x.number)
     enough_done zero x number asked = let one = above_zero c j h first leader drained x asked in absurd (omega (arith, one, number))
     enough_done (suc n) x number asked =
-        let within = asked.within in
         next_enough x asked n (number ∙ omega arith) (elim (cases_lt 0 n) [
           | inr none ↦ all_enough (λ i. n ≤ (last c j h first leader i).executed) (λ k right. omega (arith, none))
           | inl some ↦
               let below = signs_below c j h first leader (suc n) (x, number, asked_signs c j h first leader x asked) n (omega (arith, some)) (omega arith) in
               let number_is : below.0.number ≡ n = below.1 in
-              let down = signs_asked c j h first leader below.0 (signs_view c j h first leader below.0 below.2) (omega (arith, within, number, number_is)) below.2 in
+              let down = signs_asked c j h first leader below.0 (signs_view c j h first leader below.0 below.2) (number_in_time c j h first leader x below.0 asked (omega (arith, number, number_is))) below.2 in
               let enough = enough_done n below.0 below.1 down in
               (enough.0, enough.1, λ k under t. let w = enough.2 k under t in (w.0, subst (λ (m : ℕ). m ≤ (last c j h first leader k).executed) number_is (done_reached below.0.number k w.0 w.1)))
         ])
@@ -251,9 +250,9 @@ module _ (c : Setup) (j : Journals) (h : IsHonestFamily c j) (first : EachEnds c
     none_less n m more = let none = zero_count n in omega (arith, more, none)
 
     -- Each own PrePrepare of the primary is executed by more correct replicas than may be faulty, with one result.
-    pub enough_execute : (x : Fields) → x.number ≤ span c.config → HasProposed x (j.rows (primary c.config 0)) → (result : List ℕ) × Enough c j (λ i. HasDone (Executed x.number x.digest result) (j.rows i))
-    enough_execute x within proposed =
-        let asked = asked_of c j h first leader x within proposed in
+    pub enough_execute : (x : Fields) → ((n : ℕ) → n ≤ x.number → InTime c j h first leader n) → HasProposed x (j.rows (primary c.config 0)) → (result : List ℕ) × Enough c j (λ i. HasDone (Executed x.number x.digest result) (j.rows i))
+    enough_execute x in_time proposed =
+        let asked = timely_of c j h first leader x in_time proposed in
         let enough = enough_done x.number x refl asked in
         let some = found_outside enough.0 (λ i. false) (replicas c.config) (none_less (replicas c.config) (count enough.0 (replicas c.config)) enough.1) in
         let those = enough.2 in
@@ -271,27 +270,48 @@ module _ (c : Setup) (j : Journals) (h : IsHonestFamily c j) (first : EachEnds c
           ),
         )
 
-    -- Where nobody installed a snapshot, all execute it.
-    pub all_end : InstallsNothing c j → (x : Fields) → x.number ≤ span c.config → HasProposed x (j.rows (primary c.config 0)) → EachEnds c j (λ i s. x.number ≤ s.executed)
-    all_end nothing x within proposed i correct s comes =
-        let t = told c j h i correct in
-        let nobody : (k : ℕ) → IsCorrect c j.faulty k → (n : ℕ) → 1 ≤ n → Jumped n (acts_of k) → ⊥ = λ k right n one jumped.
-        nothing k jumped.0 (c.hash jumped.1) right ((told c j h k right).installs jumped.0 jumped.1 jumped.2 jumped.3 jumped.4) in
-        let up = all_reach c j h first leader drained nobody (knows asks spread) x.number x refl (asked_of c j h first leader x within proposed) i correct in
-        let same : core_after c (j.signer i) (acts_of i) ≡ s = t.core_is ∙ one_core c i (j.signer i) (j.rows i) (start_of c (j.signer i)) t.core s t.comes comes in
-        subst (λ (u : Core). x.number ≤ u.executed) same up
+    -- ---- where nobody installed a snapshot, all execute it
+
+    module _ (nothing : InstallsNothing c j) where
+      nobody : (k : ℕ) → IsCorrect c j.faulty k → (n : ℕ) → 1 ≤ n → Jumped n (acts_of k) → ⊥
+      nobody k right n one jumped = nothing k jumped.0 (c.hash jumped.1) right ((told c j h k right).installs jumped.0 jumped.1 jumped.2 jumped.3 jumped.4)
+
+      all_done : (x : Fields) → Asked c j h first leader x → (i : ℕ) → IsCorrect c j.faulty i → DoneBy x.number i
+      all_done x asked i correct =
+          let up = all_reach c j h first leader drained nobody (knows asks spread) x.number x refl asked i correct in
+          let one = above_zero c j h first leader drained x asked in
+          elim (reaches c i (j.signer i) x.number (acts_of i) (told c j h i correct).is one up) [ inl done ↦ done | inr jumped ↦ absurd (nobody i correct x.number one jumped) ]
+
+      pub all_end : (x : Fields) → ((n : ℕ) → n ≤ x.number → InTime c j h first leader n) → HasProposed x (j.rows (primary c.config 0)) → EachEnds c j (λ i s. x.number ≤ s.executed)
+      all_end x in_time proposed i correct s comes =
+          let t = told c j h i correct in
+          let up = done_reached x.number i correct (all_done x (timely_of c j h first leader x in_time proposed) i correct) in
+          let same : core_after c (j.signer i) (acts_of i) ≡ s = t.core_is ∙ one_core c i (j.signer i) (j.rows i) (start_of c (j.signer i)) t.core s t.comes comes in
+          subst (λ (u : Core). x.number ≤ u.executed) same up
+
+      pub all_execute : (x : Fields) → ((n : ℕ) → n ≤ x.number → InTime c j h first leader n) → HasProposed x (j.rows (primary c.config 0))
+          → (result : List ℕ) × ((i : ℕ) → IsCorrect c j.faulty i → HasDone (Executed x.number x.digest result) (j.rows i))
+      all_execute x in_time proposed =
+          let lead = primary c.config 0 in
+          let asked = timely_of c j h first leader x in_time proposed in
+          let w = executes_it c j h first leader x asked lead leader (all_done x asked lead leader) in (
+            w.0,
+            λ i correct.
+                let v = executes_it c j h first leader x asked i correct (all_done x asked i correct) in
+                let same = one_result c j h i lead x.number x.digest v.0 x.digest w.0 correct leader v.1 w.1 in
+                subst (λ (r : List ℕ). HasDone (Executed x.number x.digest r) (j.rows i)) same.1 v.1,
+          )
 
     -- Where nobody is faulty, all execute it, whatever was installed.
     honest_reach : ((v : ℕ) → v < replicas c.config → j.faulty v ≡ false) → (n : ℕ) → (x : Fields) → x.number ≡ n → Asked c j h first leader x → (i : ℕ) → IsCorrect c j.faulty i → n ≤ (last c j h first leader i).executed
     honest_reach nobody zero x number asked i correct = omega arith
     honest_reach nobody (suc n) x number asked i correct =
-        let within = asked.within in
         let lower : n ≤ (last c j h first leader i).executed = elim (cases_lt 0 n) [
           | inr none ↦ omega (arith, none)
           | inl some ↦
               let below = signs_below c j h first leader (suc n) (x, number, asked_signs c j h first leader x asked) n (omega (arith, some)) (omega arith) in
               let number_is : below.0.number ≡ n = below.1 in
-              let down = signs_asked c j h first leader below.0 (signs_view c j h first leader below.0 below.2) (omega (arith, within, number, number_is)) below.2 in
+              let down = signs_asked c j h first leader below.0 (signs_view c j h first leader below.0 below.2) (number_in_time c j h first leader x below.0 asked (omega (arith, number, number_is))) below.2 in
               honest_reach nobody n below.0 below.1 down i correct
         ] in
         let enough = enough_done x.number x refl asked in
@@ -302,9 +322,9 @@ module _ (c : Setup) (j : Journals) (h : IsHonestFamily c j) (first : EachEnds c
           | inl less ↦ absurd (none_rests_behind c j h first leader drained x asked nobody (knows asks spread x asked) some.0 someone.0 someone.1 i correct (omega (arith, less, lower, number)))
         ]
 
-    pub honest_end : ((v : ℕ) → v < replicas c.config → j.faulty v ≡ false) → (x : Fields) → x.number ≤ span c.config → HasProposed x (j.rows (primary c.config 0)) → EachEnds c j (λ i s. x.number ≤ s.executed)
-    honest_end nobody x within proposed i correct s comes =
+    pub honest_end : ((v : ℕ) → v < replicas c.config → j.faulty v ≡ false) → (x : Fields) → ((n : ℕ) → n ≤ x.number → InTime c j h first leader n) → HasProposed x (j.rows (primary c.config 0)) → EachEnds c j (λ i s. x.number ≤ s.executed)
+    honest_end nobody x in_time proposed i correct s comes =
         let t = told c j h i correct in
-        let up = honest_reach nobody x.number x refl (asked_of c j h first leader x within proposed) i correct in
+        let up = honest_reach nobody x.number x refl (timely_of c j h first leader x in_time proposed) i correct in
         let same : core_after c (j.signer i) (acts_of i) ≡ s = t.core_is ∙ one_core c i (j.signer i) (j.rows i) (start_of c (j.signer i)) t.core s t.comes comes in
         subst (λ (u : Core). x.number ≤ u.executed) same up

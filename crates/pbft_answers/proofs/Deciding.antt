@@ -1,23 +1,23 @@
 -- One proposal of a correct primary in view 0: each correct replica prepares it and commits to it, or has jumped over its number;
 -- and where all have, nobody rests before it.
-use Rattle.std.proofs.Common.{◌≡◌, ◌⊎◌, ℕ, ◌+◌, ◌*◌, ◌<◌, ◌≤◌, Bool, true, false, ◌&&◌, List, [], ◌∷◌, Option, Some, None, refl, sym, ap, subst, ◌∙◌, arith, inl, inr}
+use Rattle.std.proofs.Common.{◌≡◌, ◌⊎◌, ℕ, ◌+◌, ◌*◌, ◌<◌, ◌≤◌, true, false, ◌&&◌, List, ◌∷◌, Option, Some, None, refl, sym, ap, subst, ◌∙◌, arith, inl, inr}
 use Rattle.std.specs.Prelude.{nat_le, not, ◌==◌}
 use Rattle.std.proofs.lemmas.Bool.{true≢false, cases_lt, cases_eq, and_parts, and_from, ne_eqb, le-leb, leb-true}
 use Rattle.pbft_model.specs.Words.{Signed, Body, PrePrepare, Prepare, Commit, Replica, Part, part_of}
 use Rattle.pbft_codec.specs.declared.body.Body.TheVariants as bodies
+use Rattle.pbft_model.specs.Sequential.{Service}
 use Rattle.pbft_model.specs.Setup.{Setup, primary, replicas, quorum, span, count}
 use Rattle.pbft_model.specs.Tables.{Table, at, vote_key}
-use Rattle.pbft_model.specs.Certificates.{Fields, of_pre_prepare, of_prepare, of_commit, same_fields, is_by, voted, has_quorum}
+use Rattle.pbft_model.specs.Certificates.{Fields, of_pre_prepare, of_prepare, of_commit, same_fields, voted, has_quorum}
 use Rattle.pbft_model.specs.Validity.{floor_of}
 use Rattle.pbft_model.specs.Core.{Core, inside, floor_in, is_certified, is_known, is_prepared, is_committed, pre_prepare_at}
-use Rattle.pbft_model.specs.Acts.{Act, Send, Execute}
+use Rattle.pbft_model.specs.Acts.{Act, Take, Send, Execute}
 use Rattle.pbft_model.specs.Rules.{IsInside, MaySay, MayExecute}
 use Rattle.pbft_model.specs.Duties.{due_prepare, due_commit, leads}
 use Rattle.pbft_model.specs.Histories.{core_after, IsHistory, IsEarlier, IsIn, HasSigned}
 use Rattle.pbft_model.specs.Families.{IsCorrect}
 use Rattle.pbft_agreement.specs.Journals.{Journals, HasGiven, IsHonestFamily}
 use Rattle.pbft_progress.specs.Progress.{IsDrained, EachEnds, IsAtRest}
-use Rattle.pbft_progress.specs.Votes.{HasProposed}
 use Rattle.pbft_model.proofs.Events.{now, before, earlier_trans, history_at, low_reached, signed_at}
 use Rattle.pbft_model.proofs.Stages.{Stage, in_numbers, by_is, fields_are, voted_is}
 use Rattle.pbft_model.proofs.Real.{real_core}
@@ -28,10 +28,12 @@ use Rattle.pbft_progress.proofs.Resting.{journal_rests}
 use Rattle.pbft_progress.proofs.Lives.{TakenAt}
 use Rattle.pbft_progress.proofs.Recording.{Stands, pre_prepare_taken, prepare_taken, commit_taken, pre_prepare_sent, prepare_sent, commit_sent}
 use Rattle.pbft_progress.proofs.Voting.{prepare_answered, commit_answered, not_committed}
-use Rattle.pbft_answers.proofs.Kin.{family, Told, told, unforged}
+use Rattle.pbft_answers.specs.Early.{voted_number}
+use Rattle.pbft_answers.proofs.FirstView.{marked}
+use Rattle.pbft_answers.proofs.Kin.{family, told, unforged}
 use Rattle.pbft_answers.proofs.Reaching.{Done, Jumped, reaches, low_rises, votes_first}
 use Rattle.pbft_answers.proofs.Speaking.{Spoken, spoken, IsToAll, comes, first_then, ends_first}
-use Rattle.pbft_answers.proofs.Certifying.{the_leader, core_then, IsPoint, Proposed, one_proposal, proposal_at, certified_proposed, pre_prepare_counts, prepare_counts, commit_counts, all_certify, all_commit}
+use Rattle.pbft_answers.proofs.Certifying.{the_leader, Proposed, one_proposal, proposal_at, certified_proposed, pre_prepare_counts, prepare_counts, commit_counts, all_certify, all_commit}
 
 module _ (c : Setup) (j : Journals) (h : IsHonestFamily c j) (first : EachEnds c j (λ i s. s.view ≡ 0)) (leader : IsCorrect c j.faulty (primary c.config 0)) where
   abbrev acts_of : ℕ → List Act
@@ -47,9 +49,15 @@ module _ (c : Setup) (j : Journals) (h : IsHonestFamily c j) (first : EachEnds c
   pub rests : (i : ℕ) (correct : IsCorrect c j.faulty i) → IsAtRest c i (last i)
   rests i correct = let e = told c j h i correct in subst (IsAtRest c i) (sym e.core_is) (journal_rests c i (j.signer i) (j.rows i) e.core e.comes)
 
-  -- ---- votes of the first window come in time
+  -- ---- votes that come in time
 
-  inside_or_below : (i : ℕ) → IsCorrect c j.faulty i → (acts : List Act) → IsEarlier acts (acts_of i) → (view n : ℕ) → view ≡ 0 → n ≤ span c.config
+  -- No vote for the number that a correct replica gave came early to one.
+  abbrev pub InTime : ℕ → Type 0
+  InTime n =
+      (i : ℕ) → IsCorrect c j.faulty i → (m : Signed Body) (r : Option Service) (early : List Act) → IsEarlier (Take m r ∷ early) ((family c j h).acts i)
+      → IsCorrect c j.faulty m.id → voted_number m.body ≡ Some n → n ≤ (core_after c (j.signer i) early).low + span c.config
+
+  inside_or_below : (i : ℕ) → IsCorrect c j.faulty i → (acts : List Act) → IsEarlier acts (acts_of i) → (view n : ℕ) → view ≡ 0 → n ≤ (core_after c (j.signer i) acts).low + span c.config
       → (n ≤ (core_after c (j.signer i) acts).low) ⊎ IsInside c (core_after c (j.signer i) acts) view n
   inside_or_below i correct acts at view n zero_is within = elim (cases_lt (core_after c (j.signer i) acts).low n) [
     | inr below ↦ inl below
@@ -62,7 +70,7 @@ module _ (c : Setup) (j : Journals) (h : IsHonestFamily c j) (first : EachEnds c
           view_is = zero_is ∙ sym here.0;
           above_floor = omega (arith, above, floor);
           above_low = above;
-          up_to_high = omega (arith, within);
+          up_to_high = within;
         })
   ]
 
@@ -73,36 +81,36 @@ module _ (c : Setup) (j : Journals) (h : IsHonestFamily c j) (first : EachEnds c
   passed_on : {X : Type 0} (table : Core → Table X) (n view k i : ℕ) → IsCorrect c j.faulty i → (acts : List Act) → IsEarlier acts (acts_of i) → n ≤ (core_after c (j.signer i) acts).low → Stands table n view k (last i)
   passed_on table n view k i correct acts at below = let up = low_rises c i (j.signer i) acts (acts_of i) at (told c j h i correct).is in inl (omega (arith, below, up))
 
-  pre_prepare_arrives : (i : ℕ) → IsCorrect c j.faulty i → (m : Signed Body) (b : PrePrepare) → TakenAt m (acts_of i) → m.body ≡ bodies.PrePrepare b → b.view.0 ≡ 0 → b.number.0 ≤ span c.config
-      → Stands (λ s. s.pre_prepares) b.number.0 b.view.0 m.id (last i)
-  pre_prepare_arrives i correct m b w body view within =
+  pre_prepare_arrives : (i : ℕ) → IsCorrect c j.faulty i → (m : Signed Body) (b : PrePrepare) → TakenAt m (acts_of i) → m.body ≡ bodies.PrePrepare b → b.view.0 ≡ 0
+      → IsCorrect c j.faulty m.id → InTime b.number.0 → Stands (λ s. s.pre_prepares) b.number.0 b.view.0 m.id (last i)
+  pre_prepare_arrives i correct m b w body view right in_time =
       let at = before _ w.early (acts_of i) w.point in
-      elim (inside_or_below i correct w.early at b.view.0 b.number.0 view within) [
+      elim (inside_or_below i correct w.early at b.view.0 b.number.0 view (in_time i correct m w.reading w.early w.point right (ap voted_number body))) [
         | inl below ↦ passed_on (λ s. s.pre_prepares) b.number.0 b.view.0 m.id i correct w.early at below
         | inr here ↦ stands_now (λ s. s.pre_prepares) b.number.0 b.view.0 m.id i correct (pre_prepare_taken c i (j.signer i) (acts_of i) (told c j h i correct).is m w.reading w.early b w.point body here)
       ]
 
-  prepare_arrives : (i : ℕ) → IsCorrect c j.faulty i → (m : Signed Body) (b : Prepare) → TakenAt m (acts_of i) → m.body ≡ bodies.Prepare b → b.view.0 ≡ 0 → b.number.0 ≤ span c.config
-      → Stands (λ s. s.prepares) b.number.0 b.view.0 m.id (last i)
-  prepare_arrives i correct m b w body view within =
+  prepare_arrives : (i : ℕ) → IsCorrect c j.faulty i → (m : Signed Body) (b : Prepare) → TakenAt m (acts_of i) → m.body ≡ bodies.Prepare b → b.view.0 ≡ 0
+      → IsCorrect c j.faulty m.id → InTime b.number.0 → Stands (λ s. s.prepares) b.number.0 b.view.0 m.id (last i)
+  prepare_arrives i correct m b w body view right in_time =
       let at = before _ w.early (acts_of i) w.point in
-      elim (inside_or_below i correct w.early at b.view.0 b.number.0 view within) [
+      elim (inside_or_below i correct w.early at b.view.0 b.number.0 view (in_time i correct m w.reading w.early w.point right (ap voted_number body))) [
         | inl below ↦ passed_on (λ s. s.prepares) b.number.0 b.view.0 m.id i correct w.early at below
         | inr here ↦ stands_now (λ s. s.prepares) b.number.0 b.view.0 m.id i correct (prepare_taken c i (j.signer i) (acts_of i) (told c j h i correct).is m w.reading w.early b w.point body here)
       ]
 
-  commit_arrives : (i : ℕ) → IsCorrect c j.faulty i → (m : Signed Body) (b : Commit) → TakenAt m (acts_of i) → m.body ≡ bodies.Commit b → b.view.0 ≡ 0 → b.number.0 ≤ span c.config
-      → Stands (λ s. s.commits) b.number.0 b.view.0 m.id (last i)
-  commit_arrives i correct m b w body view within =
+  commit_arrives : (i : ℕ) → IsCorrect c j.faulty i → (m : Signed Body) (b : Commit) → TakenAt m (acts_of i) → m.body ≡ bodies.Commit b → b.view.0 ≡ 0
+      → IsCorrect c j.faulty m.id → InTime b.number.0 → Stands (λ s. s.commits) b.number.0 b.view.0 m.id (last i)
+  commit_arrives i correct m b w body view right in_time =
       let at = before _ w.early (acts_of i) w.point in
-      elim (inside_or_below i correct w.early at b.view.0 b.number.0 view within) [
+      elim (inside_or_below i correct w.early at b.view.0 b.number.0 view (in_time i correct m w.reading w.early w.point right (ap voted_number body))) [
         | inl below ↦ passed_on (λ s. s.commits) b.number.0 b.view.0 m.id i correct w.early at below
         | inr here ↦ stands_now (λ s. s.commits) b.number.0 b.view.0 m.id i correct (commit_taken c i (j.signer i) (acts_of i) (told c j h i correct).is m w.reading w.early b w.point body here)
       ]
 
   -- ---- one proposal
 
-  -- The leader proposed it in view 0, within the first window.
+  -- The leader proposed it in view 0, and no vote for it or a lower number came early.
   pub record Asked (x : Fields) : Type 0 where
     pub view : x.view ≡ 0
     pub body : PrePrepare
@@ -110,7 +118,7 @@ module _ (c : Setup) (j : Journals) (h : IsHonestFamily c j) (first : EachEnds c
     pub given : HasGiven part (j.rows (primary c.config 0))
     pub body_is : part.body ≡ bodies.PrePrepare body
     pub fields : of_pre_prepare body ≡ x
-    pub within : x.number ≤ span c.config
+    pub in_time : (n : ℕ) → n ≤ x.number → InTime n
 
   module _ (drained : IsDrained c j) (x : Fields) (asked : Asked x) where
     spoken_there : Spoken c j h first (the_leader c j h first leader) asked.part
@@ -132,11 +140,8 @@ module _ (c : Setup) (j : Journals) (h : IsHonestFamily c j) (first : EachEnds c
     body_view : asked.body.view.0 ≡ 0
     body_view = ap (λ (y : Fields). y.view) asked.fields ∙ asked.view
 
-    body_within : asked.body.number.0 ≤ span c.config
-    body_within =
-        let number : asked.body.number.0 ≡ x.number = ap (λ (y : Fields). y.number) asked.fields in
-        let within = asked.within in
-        omega (arith, within, number)
+    own_in_time : (y : Fields) → y ≡ x → InTime y.number
+    own_in_time y same = let number : y.number ≡ x.number = ap (λ (z : Fields). z.number) same in asked.in_time y.number (omega (arith, number))
 
     -- it stands at each correct replica
     pub pre_prepare_here : (i : ℕ) → IsCorrect c j.faulty i → Stands (λ s. s.pre_prepares) x.number x.view (primary c.config 0) (last i)
@@ -155,7 +160,7 @@ module _ (c : Setup) (j : Journals) (h : IsHonestFamily c j) (first : EachEnds c
           let body : m.0.body ≡ bodies.PrePrepare asked.body = ap (λ (p : Part). p.body) (sym m.2) ∙ asked.body_is in
           let id : m.0.id ≡ primary c.config 0 = ap (λ (p : Part). p.id) (sym m.2 ∙ spoken_there.part_is) ∙ spoken_there.by in
           subst (λ (k : ℕ). Stands (λ s. s.pre_prepares) asked.body.number.0 asked.body.view.0 k (last i)) id
-          (pre_prepare_arrives i correct m.0 asked.body ((told c j h i correct).takes m.0 m.1) body body_view body_within)
+          (pre_prepare_arrives i correct m.0 asked.body ((told c j h i correct).takes m.0 m.1) body body_view (subst (IsCorrect c j.faulty) (sym id) leader) (own_in_time (of_pre_prepare asked.body) asked.fields))
     ])
 
     -- own votes for it
@@ -181,10 +186,8 @@ module _ (c : Setup) (j : Journals) (h : IsHonestFamily c j) (first : EachEnds c
           let body : m.0.body ≡ bodies.Prepare b = ap (λ (q : Part). q.body) (sym m.2) ∙ body_is in
           let id : m.0.id ≡ k = ap (λ (q : Part). q.id) (sym m.2 ∙ w.part_is) ∙ w.by in
           let view : b.view.0 ≡ 0 = ap (λ (y : Fields). y.view) fields ∙ asked.view in
-          let number : b.number.0 ≡ x.number = ap (λ (y : Fields). y.number) fields in
-          let within = asked.within in
           subst (λ (q : ℕ). Stands (λ s. s.prepares) b.number.0 b.view.0 q (last i)) id
-          (prepare_arrives i correct m.0 b ((told c j h i correct).takes m.0 m.1) body view (omega (arith, within, number)))
+          (prepare_arrives i correct m.0 b ((told c j h i correct).takes m.0 m.1) body view (subst (IsCorrect c j.faulty) (sym id) right) (own_in_time (of_prepare b) fields))
     ])
 
     commit_here : (k i : ℕ) → IsCorrect c j.faulty k → IsCorrect c j.faulty i → GaveCommit k → Stands (λ s. s.commits) x.number x.view k (last i)
@@ -202,10 +205,8 @@ module _ (c : Setup) (j : Journals) (h : IsHonestFamily c j) (first : EachEnds c
           let body : m.0.body ≡ bodies.Commit b = ap (λ (q : Part). q.body) (sym m.2) ∙ body_is in
           let id : m.0.id ≡ k = ap (λ (q : Part). q.id) (sym m.2 ∙ w.part_is) ∙ w.by in
           let view : b.view.0 ≡ 0 = ap (λ (y : Fields). y.view) fields ∙ asked.view in
-          let number : b.number.0 ≡ x.number = ap (λ (y : Fields). y.number) fields in
-          let within = asked.within in
           subst (λ (q : ℕ). Stands (λ s. s.commits) b.number.0 b.view.0 q (last i)) id
-          (commit_arrives i correct m.0 b ((told c j h i correct).takes m.0 m.1) body view (omega (arith, within, number)))
+          (commit_arrives i correct m.0 b ((told c j h i correct).takes m.0 m.1) body view (subst (IsCorrect c j.faulty) (sym id) right) (own_in_time (of_commit b) fields))
     ])
 
     -- ---- what an end below the number has
@@ -299,12 +300,15 @@ module _ (c : Setup) (j : Journals) (h : IsHonestFamily c j) (first : EachEnds c
         ]
       ]
 
-      within_marks : (k : ℕ) (acts : List Act) → Ready k acts → IsIn x.number (inside c (core_after c (j.signer k) acts))
-      within_marks k acts r =
-          let low = (core_after c (j.signer k) acts).low in
+      within_marks : (k : ℕ) → IsCorrect c j.faulty k → (acts : List Act) → Ready k acts → IsIn x.number (inside c (core_after c (j.signer k) acts))
+      within_marks k right acts r =
+          let s = core_after c (j.signer k) acts in
           let above = r.above in
-          let within = asked.within in
-          in_numbers (span c.config) (low + 1) x.number (omega (arith, above)) (omega (arith, within))
+          let w = voted_is of_pre_prepare s.pre_prepares x (primary c.config 0) r.voted_for in
+          let by = by_is (primary c.config 0) (λ b. same_fields (of_pre_prepare b) x) w.0 w.2 in
+          let number : w.0.body.number.0 ≡ x.number = ap (λ (y : Fields). y.number) (fields_are (of_pre_prepare w.0.body) x by.2) in
+          let high = marked c k (j.signer k) acts (history k right acts r.point) (first_then c j h first k right acts r.point).0 (vote_key x.number x.view (primary c.config 0)) w.0 w.1 in
+          in_numbers (span c.config) (s.low + 1) x.number (omega (arith, above)) (omega (arith, high, number))
 
       found : (k : ℕ) (right : IsCorrect c j.faulty k) (acts : List Act) → Ready k acts → (m : Signed PrePrepare) × (pre_prepare_at c (core_after c (j.signer k) acts) (core_after c (j.signer k) acts).view x.number ≡ Some m) × (of_pre_prepare m.body ≡ x)
       found k right acts r =
@@ -320,7 +324,7 @@ module _ (c : Setup) (j : Journals) (h : IsHonestFamily c j) (first : EachEnds c
             let m = found k right acts r in
             let follows : leads c k s ≡ false = ne_eqb (primary c.config s.view) k (λ e. backup (sym e ∙ ap (primary c.config) view.0)) in
             let known : is_known c s m.0.body.digest.0 ≡ true = subst (λ (z : Fields). is_known c s z.digest ≡ true) (sym m.2) r.known in
-            let w = prepare_answered c k (j.signer k) acts (history k right acts r.point) x.number m.0 view.1 follows (within_marks k acts r) m.1 known r.prepare_rests in
+            let w = prepare_answered c k (j.signer k) acts (history k right acts r.point) x.number m.0 view.1 follows (within_marks k right acts r) m.1 known r.prepare_rests in
             let sending = w.0 in
             inl (
               sending.vote,
@@ -339,7 +343,7 @@ module _ (c : Setup) (j : Journals) (h : IsHonestFamily c j) (first : EachEnds c
             let view = first_then c j h first k right acts r.point in
             let m = found k right acts r in
             let prepared : is_prepared c s (of_pre_prepare m.0.body) ≡ true = subst (λ (z : Fields). is_prepared c s z ≡ true) (sym m.2) (and_from (is_certified c s x) (is_known c s x.digest) (r.certified all) r.known) in
-            let w = commit_answered c k (j.signer k) acts (history k right acts r.point) x.number m.0 view.1 (within_marks k acts r) m.1 prepared r.commit_rests in
+            let w = commit_answered c k (j.signer k) acts (history k right acts r.point) x.number m.0 view.1 (within_marks k right acts r) m.1 prepared r.commit_rests in
             let sending = w.0 in
             inl (
               sending.vote,

@@ -1,12 +1,11 @@
 -- Until a mark rises, all is executed by all.
-use Rattle.std.proofs.Common.{◌≡◌, ◌⊎◌, ℕ, zero, suc, ◌+◌, ◌<◌, ◌≤◌, true, List, [], ◌∷◌, refl, sym, ap, subst, ◌∙◌, arith, inl, inr}
-use Rattle.std.proofs.lemmas.Bool.{cases_lt, cases_eq}
-use Rattle.pbft_model.specs.Words.{Signed, Body, RequestBody, PrePrepare, Part, as_message}
-use Rattle.pbft_codec.specs.declared.body.Body.TheVariants as bodies
+use Rattle.std.proofs.Common.{◌≡◌, ℕ, zero, suc, ◌<◌, ◌≤◌, true, List, ◌∷◌, refl, sym, ap, subst, ◌∙◌, arith, inl, inr}
+use Rattle.std.proofs.lemmas.Bool.{cases_lt}
+use Rattle.pbft_model.specs.Words.{Body}
 use Rattle.pbft_model.specs.Setup.{Setup, primary, span, digest_of}
-use Rattle.pbft_model.specs.Certificates.{Fields, of_pre_prepare}
+use Rattle.pbft_model.specs.Certificates.{Fields}
 use Rattle.pbft_model.specs.Core.{Core, is_known}
-use Rattle.pbft_model.specs.Acts.{Act, Take, Timeout, Send, Relay, Enter, Rise, Execute, Install}
+use Rattle.pbft_model.specs.Acts.{Act, Send, Rise, Install}
 use Rattle.pbft_model.specs.Rules.{MaySay}
 use Rattle.pbft_model.specs.Rows.{Executed, result_of}
 use Rattle.pbft_model.specs.Histories.{core_after, IsEarlier}
@@ -18,18 +17,28 @@ use Rattle.pbft_answers.specs.Window.{SpreadsRequests}
 use Rattle.pbft_model.proofs.Events.{before, history_at}
 use Rattle.pbft_answers.proofs.Kin.{family, told}
 use Rattle.pbft_answers.proofs.Reaching.{Done, Jumped, reaches, low_rises}
-use Rattle.pbft_answers.proofs.Speaking.{spoken, first_then}
-use Rattle.pbft_answers.proofs.Deciding.{Asked, last, AllPrepare, AllCommit, GavePrepare, GaveCommit, prepares, commits, none_rests_before, above_zero}
+use Rattle.pbft_answers.proofs.Speaking.{spoken}
+use Rattle.pbft_answers.proofs.Deciding.{Asked, InTime, last, AllPrepare, AllCommit, prepares, commits, none_rests_before, above_zero}
 use Rattle.pbft_answers.proofs.Proposing.{Signs, signs_asked, asked_signs, signs_below, signs_view, executed_signs, one_signed}
 use Rattle.pbft_answers.proofs.OneResult.{one_result}
-use Rattle.pbft_answers.proofs.Holding.{Behind, behind, known_last, StaysNew}
+use Rattle.pbft_answers.proofs.Holding.{behind, known_last, StaysNew}
 
 module _ (c : Setup) (j : Journals) (h : IsHonestFamily c j) (first : EachEnds c j (λ i s. s.view ≡ 0)) (leader : IsCorrect c j.faulty (primary c.config 0)) where
   -- what the primary proposed, as its journal reports it
-  pub asked_of : (x : Fields) → x.number ≤ span c.config → HasProposed x (j.rows (primary c.config 0)) → Asked c j h first leader x
-  asked_of x within (b, (p, given, body), fields) =
+  pub timely_of : (x : Fields) → ((n : ℕ) → n ≤ x.number → InTime c j h first leader n) → HasProposed x (j.rows (primary c.config 0)) → Asked c j h first leader x
+  timely_of x in_time (b, (p, given, body), fields) =
       let signs : Signs c j h first leader x = (p, b, (told c j h (primary c.config 0) leader).signs p given, body, fields) in
-      signs_asked c j h first leader x (signs_view c j h first leader x signs) within signs
+      signs_asked c j h first leader x (signs_view c j h first leader x signs) in_time signs
+
+  -- up to the first high mark no vote comes early
+  pub window_in_time : (x : Fields) → x.number ≤ span c.config → (n : ℕ) → n ≤ x.number → InTime c j h first leader n
+  window_in_time x within n le i correct m r early at right number = omega (arith, within, le)
+
+  pub asked_of : (x : Fields) → x.number ≤ span c.config → HasProposed x (j.rows (primary c.config 0)) → Asked c j h first leader x
+  asked_of x within = timely_of x (window_in_time x within)
+
+  pub number_in_time : (x y : Fields) → Asked c j h first leader x → y.number ≤ x.number → (n : ℕ) → n ≤ y.number → InTime c j h first leader n
+  number_in_time x y asked less n le = asked.in_time n (omega (arith, less, le))
 
   module _ (drained : IsDrained c j) (nobody_jumps : (i : ℕ) → IsCorrect c j.faulty i → (n : ℕ) → 1 ≤ n → Jumped n ((family c j h).acts i) → ⊥)
       (knows : (x : Fields) → Asked c j h first leader x → (i : ℕ) → IsCorrect c j.faulty i → (last c j h first leader i).executed < x.number → is_known c (last c j h first leader i) x.digest ≡ true) where
@@ -46,13 +55,12 @@ module _ (c : Setup) (j : Journals) (h : IsHonestFamily c j) (first : EachEnds c
           | inl gave ↦ gave
           | inr jumped ↦ absurd (nobody_jumps k right x.number one jumped)
         ] in
-        let within = asked.within in
         let lower : n ≤ (last c j h first leader i).executed = elim (cases_lt 0 n) [
           | inr none ↦ omega (arith, none)
           | inl some ↦
               let below = signs_below c j h first leader (suc n) (x, number, asked_signs c j h first leader x asked) n (omega (arith, some)) (omega arith) in
               let number_is : below.0.number ≡ n = below.1 in
-              let down = signs_asked c j h first leader below.0 (signs_view c j h first leader below.0 below.2) (omega (arith, within, number, number_is)) below.2 in
+              let down = signs_asked c j h first leader below.0 (signs_view c j h first leader below.0 below.2) (number_in_time x below.0 asked (omega (arith, number, number_is))) below.2 in
               all_reach n below.0 below.1 down i correct
         ] in
         elim (cases_lt (last c j h first leader i).executed (suc n)) [

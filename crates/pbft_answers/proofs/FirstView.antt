@@ -1,21 +1,22 @@
--- Histories that end in view 0: they were in it, active, from the beginning, and their votes stand under their own places.
-use Rattle.std.proofs.Common.{◌≡◌, ◌⊎◌, ℕ, ◌<◌, ◌≤◌, Bool, true, false, List, [], ◌∷◌, Some, refl, sym, ap, subst, ◌∙◌, arith, inl, inr}
-use Rattle.std.specs.Prelude.{IsTrue}
-use Rattle.std.proofs.lemmas.Bool.{true≢false, false≢true}
-use Rattle.pbft_model.specs.Words.{SigningState, Signed, Body, PrePrepare, Prepare, Commit, Configuration, Role, Replica, Client}
+-- Histories that end in view 0: they were in it, active, from the beginning, and their votes stand under their own places, up to
+-- the high mark.
+use Rattle.std.proofs.Common.{◌≡◌, ℕ, ◌+◌, ◌≤◌, Bool, true, ◌&&◌, List, [], ◌∷◌, Some, refl, sym, ap, subst, ◌∙◌, arith, inl, inr}
+use Rattle.std.specs.Prelude.{IsTrue, nat_lt, nat_le, not, ◌==◌}
+use Rattle.std.proofs.lemmas.Bool.{true≢false, false≢true, and_parts, leb-true}
+use Rattle.pbft_model.specs.Words.{SigningState, Signed, Body, PrePrepare, Configuration, Role, Replica, Client}
 use Rattle.pbft_codec.specs.declared.body.Body.TheVariants as bodies
 use Rattle.pbft_codec.specs.declared.body.fetch.Fetch.TheVariants as fetches
 use Rattle.seal.specs.Signers.{may_sign}
-use Rattle.pbft_model.specs.Setup.{Setup}
+use Rattle.pbft_model.specs.Setup.{Setup, span}
 use Rattle.pbft_model.specs.Tables.{Key, Table, at, keep, add_if, vote_key}
 use Rattle.pbft_model.specs.Certificates.{Fields, of_pre_prepare, of_prepare, of_commit}
-use Rattle.pbft_model.specs.Core.{Core}
-use Rattle.pbft_model.specs.Acts.{Act, Take, Timeout, Send, Relay, Enter, Rise, Execute, Install, after, said, recorded, with_body}
+use Rattle.pbft_model.specs.Core.{Core, floor_in, is_admitted, is_inside}
+use Rattle.pbft_model.specs.Acts.{Act, Take, Send, Enter, Rise, Install, after, said, recorded, with_body}
 use Rattle.pbft_model.specs.Rules.{Allowed, MaySay}
 use Rattle.pbft_model.specs.Histories.{core_after, IsHistory, IsEarlier}
 use Rattle.pbft_model.proofs.Found.{no_some, found_add, found_keep}
 use Rattle.pbft_model.proofs.Events.{history_at, low_reached}
-use Rattle.pbft_model.proofs.Calm.{IsCalm, IsCalmBody, calm}
+use Rattle.pbft_model.proofs.Calm.{IsCalm, IsCalmBody, calm, low_up}
 use Rattle.pbft_model.proofs.Stages.{view_up}
 use Rattle.pbft_progress.proofs.Standing.{view_rises}
 use Rattle.pbft_progress.proofs.Changes.{awaits_more}
@@ -87,7 +88,7 @@ by_replica c Client id (bodies.Prepare b) v h = absurd (false≢true h)
 by_replica c Client id (bodies.Commit b) v h = absurd (false≢true h)
 by_replica c Client id _ v h = absurd v
 
-role_of : (c : Setup) (m : Signed Body) (b : Body) → m.body ≡ b → IsVote b → IsTrue (may_sign c.config m.role m.id m.body) → m.role ≡ Replica
+pub role_of : (c : Setup) (m : Signed Body) (b : Body) → m.body ≡ b → IsVote b → IsTrue (may_sign c.config m.role m.id m.body) → m.role ≡ Replica
 role_of c m b e v may = by_replica c.config m.role m.id b v (subst (λ (x : Body). IsTrue (may_sign c.config m.role m.id x)) e may)
 
 shapes_recorded : (c : Setup) (s : Core) (m : Signed Body) (b : Body) → m.body ≡ b → IsTrue (may_sign c.config m.role m.id m.body) → Shapes s → Shapes (recorded c s m b)
@@ -124,3 +125,57 @@ shapes c me signer [] is e = ((λ q y none. no_some y none), (λ q y none. no_so
 shapes c me signer (a ∷ acts) is e =
     let k = calm_last c me signer a acts is e in
     shapes_after c me (core_after c signer acts) a is.1 k.0 (shapes c me signer acts is.0 k.1.0)
+
+-- ---- each PrePrepare that stands is at most at the high mark
+
+abbrev Marked : ℕ → Table (Signed PrePrepare) → Type 0
+Marked high t = (q : Key) (y : Signed PrePrepare) → at t q ≡ Some y → y.body.number.0 ≤ high
+
+-- what is admitted is at most there
+admitted_high : (c : Setup) (s : Core) (view n : ℕ) → is_admitted c s view n ≡ true → n ≤ s.low + span c.config
+admitted_high c s view n ok =
+    let parts = and_parts (nat_le s.view view) (is_inside c s n && not (s.active && ((view == s.view) && nat_le n (floor_in s)))) ok in
+    let marks = and_parts (is_inside c s n) (not (s.active && ((view == s.view) && nat_le n (floor_in s)))) parts.1 in
+    leb-true n (s.low + span c.config) ((and_parts (nat_lt s.low n) (nat_le n (s.low + span c.config)) marks.0).1)
+
+marked_add : (c : Setup) (s : Core) (m : Signed PrePrepare) → Marked (s.low + span c.config) s.pre_prepares
+    → Marked (s.low + span c.config) (add_if (is_admitted c s m.body.view.0 m.body.number.0) (vote_key m.body.number.0 m.body.view.0 m.id) m s.pre_prepares)
+marked_add c s m h q y e = elim (found_add (is_admitted c s m.body.view.0 m.body.number.0) s.pre_prepares (vote_key m.body.number.0 m.body.view.0 m.id) q m y e) [
+  | inl w ↦ subst (λ (z : Signed PrePrepare). z.body.number.0 ≤ s.low + span c.config) w.1 (admitted_high c s m.body.view.0 m.body.number.0 w.2)
+  | inr old ↦ h q y old
+]
+
+abbrev IsMarked : Setup → Core → Type 0
+IsMarked c s = Marked (s.low + span c.config) s.pre_prepares
+
+marked_recorded : (c : Setup) (s : Core) (m : Signed Body) (b : Body) → IsMarked c s → IsMarked c (recorded c s m b)
+marked_recorded c s m (bodies.PrePrepare b) h = marked_add c s (with_body m b) h
+marked_recorded c s m (bodies.Request b) h = h
+marked_recorded c s m _ h = h
+
+marked_said : (c : Setup) (s : Core) (m : Signed Body) (b : Body) → IsCalmBody b → IsMarked c s → IsMarked c (said c s m b)
+marked_said c s m (bodies.PrePrepare b) k h = marked_add c s (with_body m b) h
+marked_said c s m (bodies.Request b) k h = absurd k
+marked_said c s m (bodies.ViewChange b) k h = absurd k
+marked_said c s m (bodies.NewView b) k h = absurd k
+marked_said c s m (bodies.Fetch (fetches.Request d)) k h = h
+marked_said c s m (bodies.Fetch (fetches.State n)) k h = h
+marked_said c s m _ k h = h
+
+marked_kept : (c : Setup) (s : Core) (test : Key → Bool) (low : ℕ) → s.low ≤ low → IsMarked c s → Marked (low + span c.config) (keep test s.pre_prepares)
+marked_kept c s test low up h q y e = let le = h q y ((found_keep test s.pre_prepares q y e).1) in omega (arith, up, le)
+
+marked_after : (c : Setup) (me : ℕ) (s : Core) (a : Act) → s.low ≤ s.executed → Allowed c me s a → IsCalm a → IsMarked c s → IsMarked c (after c s a)
+marked_after c me s (Take m r) low ok k h = marked_recorded c s m m.body h
+marked_after c me s (Send to m) low ok k h = marked_said c s m m.body k h
+marked_after c me s (Enter m) low ok k h = absurd k
+marked_after c me s (Rise n d) low ok k h = marked_kept c s _ n (low_up c me s (Rise n d) low ok) h
+marked_after c me s (Install n b t) low ok k h = marked_kept c s _ n (low_up c me s (Install n b t) low ok) h
+marked_after c me s _ low ok k h = h
+
+pub marked : (c : Setup) (me : ℕ) (signer : SigningState) (acts : List Act) → IsHistory c me signer acts → (core_after c signer acts).view ≡ 0 → (q : Key) (y : Signed PrePrepare)
+    → at (core_after c signer acts).pre_prepares q ≡ Some y → y.body.number.0 ≤ (core_after c signer acts).low + span c.config
+marked c me signer [] is e = λ q y none. no_some y none
+marked c me signer (a ∷ acts) is e =
+    let k = calm_last c me signer a acts is e in
+    marked_after c me (core_after c signer acts) a (low_reached c me signer acts is.0) is.1 k.0 (marked c me signer acts is.0 k.1.0)

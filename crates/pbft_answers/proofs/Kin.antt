@@ -1,5 +1,5 @@
 -- The family of histories behind the journals of an honest family: each correct replica's is its journal's.
-use Rattle.std.proofs.Common.{◌≡◌, ℕ, Bool, true, false, List, [], ◌∷◌, Option, refl, sym, subst, ◌∙◌, inl, inr}
+use Rattle.std.proofs.Common.{◌≡◌, ℕ, Bool, true, false, List, [], ◌∷◌, Option, refl, sym, ◌∙◌, inl, inr}
 use Rattle.std.specs.Prelude.{nat_lt}
 use Rattle.std.proofs.lemmas.Bool.{true≢false, ltb-true, lt-ltb}
 use Rattle.pbft_model.specs.Words.{Signed, Body, Part, as_message, part_of}
@@ -13,8 +13,8 @@ use Rattle.pbft_model.specs.Histories.{core_after, IsHistory, IsEarlier, IsIn, H
 use Rattle.pbft_model.specs.Families.{Family, IsCorrect, IsUnforged}
 use Rattle.pbft_agreement.specs.Journals.{Journals, HasReceived, HasGiven, HasDone, ComesTo, RunsTo, IsHashedIn, IsHonestFamily}
 use Rattle.pbft_agreement.specs.Agreement.{IsHashed, IsHonest}
-use Rattle.pbft_progress.proofs.Lives.{Life, TakenAt, DoesDue, Split}
-use Rattle.pbft_progress.proofs.Spreading.{Ended, ended}
+use Rattle.pbft_progress.proofs.Lives.{TakenAt, DoesDue, Split}
+use Rattle.pbft_progress.proofs.Spreading.{ended}
 
 module _ (c : Setup) (j : Journals) (h : IsHonestFamily c j) where
   abbrev pick : (i : ℕ) (a b : Bool) → nat_lt i (replicas c.config) ≡ a → j.faulty i ≡ b → List Act
@@ -38,7 +38,7 @@ module _ (c : Setup) (j : Journals) (h : IsHonestFamily c j) where
     pub does : (x : List Act) → IsEarlier x acts → DoesDue c i (j.signer i) x
     pub reports : (n : ℕ) (d : List ℕ) (t : Service) (o : Outcome) (early : List Act) → IsEarlier (Execute n d t o ∷ early) acts → HasDone (Executed n d (result_of o.reply)) (j.rows i)
     pub runs : (n : ℕ) (d : List ℕ) (t : Service) (o : Outcome) (early : List Act) → IsEarlier (Execute n d t o ∷ early) acts → RunsTo c i (start_of c (j.signer i)) (j.rows i) t
-    pub splits : (m : Signed Body) (r : Option Service) (x : List Act) → IsEarlier (Take m r ∷ x) acts → Split c i (j.signer i) m x [] (j.rows i)
+    pub splits : (m : Signed Body) (r : Option Service) (x : List Act) → IsEarlier (Take m r ∷ x) acts → Split c i (j.signer i) m x [] (start_of c (j.signer i)) (j.rows i)
     pub installs : (k : ℕ) (b : List ℕ) (t : Service) (x : List Act) → IsEarlier (Install k b t ∷ x) acts → HasDone (Installed k (c.hash b)) (j.rows i)
     pub did : (done : Done) → HasDone done (j.rows i) → (a : Act) × (early : List Act) × IsEarlier (a ∷ early) acts × IsIn done (done_of c a)
 

@@ -15,3 +15,17 @@ pub mod Ordering
 pub mod Answering
 pub mod Answered
 pub mod Asking
+pub mod Timely
+pub use Rattle.pbft_model.proofs.Counting
+pub use Rattle.pbft_model.proofs.Found
+pub use Rattle.pbft_model.proofs.Events
+pub use Rattle.pbft_model.proofs.Holdings
+pub use Rattle.pbft_model.proofs.Origins
+pub use Rattle.pbft_model.proofs.Following
+pub use Rattle.pbft_model.proofs.Rowed
+pub use Rattle.pbft_agreement.proofs.Reporting
+pub use Rattle.pbft_agreement.proofs.Within
+pub use Rattle.pbft_agreement.proofs.OverJournals
+pub use Rattle.pbft_agreement.proofs.Digests
+pub use Rattle.pbft_agreement.proofs.Turns
+pub use Rattle.pbft_progress.proofs.Drained

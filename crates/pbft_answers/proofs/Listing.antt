@@ -30,7 +30,7 @@ use Rattle.pbft_answers.proofs.Replying.{replies_stem, taken_old, later_than}
 
 -- ---- places in a list
 
-in_take : {X : Type 0} (n : ℕ) (xs : List X) (x : X) → IsIn x (take n xs) → (k : ℕ) × (k < n) × (slice_get xs k ≡ Some x)
+pub in_take : {X : Type 0} (n : ℕ) (xs : List X) (x : X) → IsIn x (take n xs) → (k : ℕ) × (k < n) × (slice_get xs k ≡ Some x)
 in_take zero [] x h = absurd h
 in_take zero (y ∷ xs) x h = absurd h
 in_take (suc n) [] x h = absurd h
@@ -43,7 +43,7 @@ taken_in (suc n) [] k x less e = no_some x e
 taken_in (suc n) (y ∷ xs) zero x less e = inl (sym (same_Some y x e))
 taken_in (suc n) (y ∷ xs) (suc k) x less e = inr (taken_in n xs k x (omega (arith, less)) e)
 
-got_in : {X : Type 0} (xs : List X) (k : ℕ) (x : X) → slice_get xs k ≡ Some x → IsIn x xs
+pub got_in : {X : Type 0} (xs : List X) (k : ℕ) (x : X) → slice_get xs k ≡ Some x → IsIn x xs
 got_in [] k x e = no_some x e
 got_in (y ∷ xs) zero x e = inl (sym (same_Some y x e))
 got_in (y ∷ xs) (suc k) x e = inr (got_in xs k x e)

@@ -1,18 +1,18 @@
 -- What the primary of view 0 proposes: requests that it holds, at numbers one after another.
-use Rattle.std.proofs.Common.{◌≡◌, ◌⊎◌, ℕ, zero, suc, ◌+◌, ◌<◌, ◌≤◌, Bool, true, false, ◌&&◌, cond, max, List, [], ◌∷◌, map, filter, Some, refl, sym, ap, subst, ◌∙◌, arith, inl, inr}
+use Rattle.std.proofs.Common.{◌≡◌, ◌⊎◌, ℕ, zero, suc, ◌+◌, ◌<◌, ◌≤◌, Bool, true, false, cond, max, List, [], ◌∷◌, map, filter, refl, sym, ap, subst, ◌∙◌, arith, inl, inr}
 use Rattle.std.specs.Prelude.{IsTrue, is_some, ◌==◌}
 use Rattle.std.proofs.lemmas.Bool.{false≢true, cases_lt, cases_eq, and_parts, eqb-true}
 use Rattle.pbft_model.specs.Words.{SigningState, Signed, Body, PrePrepare, Configuration, Role, Replica, Client, Part, as_message, part_of}
 use Rattle.pbft_codec.specs.declared.body.Body.TheVariants as bodies
 use Rattle.pbft_codec.specs.declared.body.fetch.Fetch.TheVariants as fetches
 use Rattle.seal.specs.Signers.{may_sign}
-use Rattle.pbft_model.specs.Setup.{Setup, primary, replicas, span}
+use Rattle.pbft_model.specs.Setup.{Setup, primary, replicas}
 use Rattle.pbft_model.specs.Tables.{Key, Table, at, with_entry, add_if, entries_in, vote_key}
-use Rattle.pbft_model.specs.Certificates.{Fields, of_pre_prepare, of_commit, same_fields, is_by, voted, has_quorum}
+use Rattle.pbft_model.specs.Certificates.{Fields, of_pre_prepare, of_commit, same_fields, voted, has_quorum}
 use Rattle.pbft_model.specs.Validity.{greatest_of, floor_of}
 use Rattle.pbft_model.specs.Core.{Core, start_of, floor_in, next_number, of_view, is_admitted, is_certified, is_known, is_prepared}
 use Rattle.pbft_model.specs.Acts.{Act, Take, Timeout, Send, Relay, Enter, Rise, Execute, Install, after, said, recorded, with_body}
-use Rattle.pbft_model.specs.Rules.{Allowed, MaySay, MayExecute}
+use Rattle.pbft_model.specs.Rules.{MaySay, MayExecute}
 use Rattle.pbft_model.specs.Rows.{Executed, Installed, done_of, result_of}
 use Rattle.pbft_model.specs.Sequential.{Service, Outcome}
 use Rattle.pbft_model.specs.Histories.{core_after, IsHistory, IsEarlier, IsIn, HasSigned, HasTaken}
@@ -34,9 +34,9 @@ use Rattle.pbft_progress.proofs.Noting.{notes}
 use Rattle.pbft_answers.proofs.FirstView.{First, calm_last}
 use Rattle.pbft_answers.proofs.Kin.{family, told, unforged}
 use Rattle.pbft_answers.proofs.Reaching.{number_rises}
-use Rattle.pbft_answers.proofs.Speaking.{Spoken, spoken, first_then, ends_first}
+use Rattle.pbft_answers.proofs.Speaking.{spoken, first_then}
 use Rattle.pbft_answers.proofs.Certifying.{Proposed, one_proposal}
-use Rattle.pbft_answers.proofs.Deciding.{Asked}
+use Rattle.pbft_answers.proofs.Deciding.{Asked, InTime}
 
 -- ---- what is recorded was taken or sent
 
@@ -183,34 +183,39 @@ module _ (c : Setup) (j : Journals) (h : IsHonestFamily c j) (first : EachEnds c
   abbrev pub Signs : Fields → Type 0
   Signs x = (p : Part) × (b : PrePrepare) × HasSigned p ((family c j h).acts (primary c.config 0)) × (p.body ≡ bodies.PrePrepare b) × (of_pre_prepare b ≡ x)
 
-  pub signs_asked : (x : Fields) → x.view ≡ 0 → x.number ≤ span c.config → Signs x → Asked c j h first leader x
-  signs_asked x view within (p, b, signed, body, fields) = record {
+  pub signs_asked : (x : Fields) → x.view ≡ 0 → ((n : ℕ) → n ≤ x.number → InTime c j h first leader n) → Signs x → Asked c j h first leader x
+  signs_asked x view in_time (p, b, signed, body, fields) = record {
     view = view;
     body = b;
     part = p;
     given = (told c j h (primary c.config 0) leader).gives p signed;
     body_is = body;
     fields = fields;
-    within = within;
+    in_time = in_time;
   }
 
   pub asked_signs : (x : Fields) → Asked c j h first leader x → Signs x
   asked_signs x w = (w.part, w.body, (told c j h (primary c.config 0) leader).signs w.part w.given, w.body_is, w.fields)
 
-  -- what is certified in view 0 the primary signed
-  pub certified_signs : (i : ℕ) → IsCorrect c j.faulty i → (acts : List Act) → IsEarlier acts ((family c j h).acts i) → (x : Fields) → x.view ≡ 0 → is_certified c (core_after c (j.signer i) acts) x ≡ true → Signs x
-  certified_signs i correct acts at x view e =
+  -- a PrePrepare of view 0 that is voted at a correct replica the primary signed
+  pub voted_signs : (i : ℕ) → IsCorrect c j.faulty i → (acts : List Act) → IsEarlier acts ((family c j h).acts i) → (x : Fields) → x.view ≡ 0
+      → voted of_pre_prepare (core_after c (j.signer i) acts).pre_prepares x (primary c.config x.view) ≡ true → Signs x
+  voted_signs i correct acts at x view t =
       let s = core_after c (j.signer i) acts in
       let lead = primary c.config x.view in
       let is_leader : lead ≡ primary c.config 0 = ap (primary c.config) view in
       let right : IsCorrect c j.faulty lead = subst (IsCorrect c j.faulty) (sym is_leader) leader in
-      let t = (and_parts (voted of_pre_prepare s.pre_prepares x lead) _ e).0 in
       let w = voted_is of_pre_prepare s.pre_prepares x lead t in
       let by = by_is lead (λ b. same_fields (of_pre_prepare b) x) w.0 w.2 in
       let real = (real_core c (family c j h) i correct (unforged c j h) acts at).0 (vote_key x.number x.view lead) w.0 w.1 in
       let signed = signed_real c (family c j h) (unforged c j h) bodies.PrePrepare lead (λ b. same_fields (of_pre_prepare b) x) w.0 w.2 real right in
       let p : Part = record { role = Replica; id = lead; body = bodies.PrePrepare w.0.body } in
       (p, w.0.body, subst (λ (k : ℕ). HasSigned p ((family c j h).acts k)) is_leader signed, refl, fields_are (of_pre_prepare w.0.body) x by.2)
+
+  -- what is certified in view 0 the primary signed
+  pub certified_signs : (i : ℕ) → IsCorrect c j.faulty i → (acts : List Act) → IsEarlier acts ((family c j h).acts i) → (x : Fields) → x.view ≡ 0 → is_certified c (core_after c (j.signer i) acts) x ≡ true → Signs x
+  certified_signs i correct acts at x view e =
+      voted_signs i correct acts at x view ((and_parts (voted of_pre_prepare (core_after c (j.signer i) acts).pre_prepares x (primary c.config x.view)) _ e).0)
 
   -- What a correct replica executed the primary proposed.
   pub point_signs : (i : ℕ) → IsCorrect c j.faulty i → (n : ℕ) (d : List ℕ) (t : Service) (o : Outcome) (early : List Act) → IsEarlier (Execute n d t o ∷ early) ((family c j h).acts i)

@@ -17,6 +17,7 @@ ghost use Rattle.pbft_agreement.specs.Example.{the_setup, the_digest};
 ghost use Rattle.pbft_progress.specs.Progress.{IsDrained, Ends, EachEnds, Enough};
 ghost use Rattle.pbft_progress.specs.Votes.{HasProposed};
 ghost use Rattle.pbft_answers.specs.Window.{leader_of, SpreadsRequests, IsFirstWindow, InstallsNothing};
+ghost use Rattle.pbft_answers.specs.Early.{IsTimely};
 ghost use Rattle.pbft_answers.specs.Answered.{the_answered};
 
 /// Until a low mark rises all is executed by all: in an honest drained family whose correct replicas all stand in view 0 with the
@@ -50,12 +51,38 @@ pub fn the_first_window_is_answered()
         → (is_new s.service m ≡ false) ⊎ ((x : Fields) × (x.digest ≡ digest_of c m) × HasProposed x (journals.rows (leader_of c)))) }
 {}
 
+/// A timely first view is answered, **for any number**: in an honest drained family whose correct replicas all stand in view 0, whose
+/// primary is correct, where no vote of a correct replica came early to one, that is, above its high water mark, so that it dropped it,
+/// and where each client's requests came to the primary with rising times and to all (`IsTimely`; each first window is timely:
+/// `window`), whatever the primary gave out is executed by more correct replicas than may be faulty, with one result (`enough`), so
+/// that its client has enough replies; by all, with one result, where none of them installed a snapshot (`all`); all have reached it
+/// where nobody is faulty, whatever was installed (`honest`); and where the primary has room, what it received of requests it gave out,
+/// or it is new to its service no more (`asked`). A driver may keep early votes back (`early_votes`): they come once the mark has
+/// risen. Whatever the faulty ones said, and whatever else was lost.
+pub fn a_timely_view_is_answered()
+    ensures window { (c : Setup) (journals : Journals) → IsHonestFamily c journals → IsFirstWindow c journals → IsTimely c journals }
+    ensures enough { (c : Setup) (journals : Journals) → IsHonestFamily c journals → IsDrained c journals → IsTimely c journals
+        → (x : Fields) → HasProposed x (journals.rows (leader_of c))
+        → (result : List ℕ) × Enough c journals (λ i. HasDone (Executed x.number x.digest result) (journals.rows i)) }
+    ensures all { (c : Setup) (journals : Journals) → IsHonestFamily c journals → IsDrained c journals → IsTimely c journals → InstallsNothing c journals
+        → (x : Fields) → HasProposed x (journals.rows (leader_of c))
+        → (result : List ℕ) × ((i : ℕ) → IsCorrect c journals.faulty i → HasDone (Executed x.number x.digest result) (journals.rows i)) }
+    ensures honest { (c : Setup) (journals : Journals) → IsHonestFamily c journals → IsDrained c journals → IsTimely c journals
+        → ((i : ℕ) → i < replicas c.config → journals.faulty i ≡ false)
+        → (x : Fields) → HasProposed x (journals.rows (leader_of c)) → EachEnds c journals (λ i s. x.number ≤ s.executed) }
+    ensures asked { (c : Setup) (journals : Journals) → IsHonestFamily c journals → IsDrained c journals → IsTimely c journals
+        → (m : Signed RequestBody) → HasReceived (as_message bodies.Request m) (journals.rows (leader_of c))
+        → Ends c journals (leader_of c) (λ s. next_number s ≤ s.low + span c.config
+        → (is_new s.service m ≡ false) ⊎ ((x : Fields) × (x.digest ≡ digest_of c m) × HasProposed x (journals.rows (leader_of c)))) }
+{}
+
 /// An honest drained family under SHA-256, whatever the signers' secrets are, in which each correct replica executes a client's request,
 /// while the fourth is faulty and silent: the premises of these laws can hold.
 pub fn a_drained_family_executes()
     ensures honest { (secrets : ℕ → List ℕ) → IsHonestFamily (the_setup sha256 secrets) (the_answered sha256 secrets) }
     ensures drained { (secrets : ℕ → List ℕ) → IsDrained (the_setup sha256 secrets) (the_answered sha256 secrets) }
     ensures window { (secrets : ℕ → List ℕ) → IsFirstWindow (the_setup sha256 secrets) (the_answered sha256 secrets) }
+    ensures timely { (secrets : ℕ → List ℕ) → IsTimely (the_setup sha256 secrets) (the_answered sha256 secrets) }
     ensures unmoved { (secrets : ℕ → List ℕ) → EachEnds (the_setup sha256 secrets) (the_answered sha256 secrets) (λ i s. s.low ≡ 0) }
     ensures installs { (secrets : ℕ → List ℕ) → InstallsNothing (the_setup sha256 secrets) (the_answered sha256 secrets) }
     ensures proposes { (secrets : ℕ → List ℕ) → HasProposed (record { view = 0; number = 1; digest = the_digest }) ((the_answered sha256 secrets).rows 0) }

@@ -180,13 +180,14 @@ module _ (c : Setup) (me : ℕ) (signer : SigningState) where
 
   -- ---- what was received in rows before
 
-  -- The message came in this row, and what was taken before it in the rows before.
-  pub record Split (m : Signed Body) (x early : List Act) (rows : List Row) : Type 0 where
+  -- The message came in this row, and what was taken before it in the rows before, which lead to the core that took it.
+  pub record Split (m : Signed Body) (x early : List Act) (s : Core) (rows : List Row) : Type 0 where
     pub earlier : List Row
     pub row : Row
     pub later : List Row
     pub splits : rows ≡ earlier ++ row ∷ later
     pub came : row.input ≡ Received m
+    pub leads : IsLawfulFrom c me s earlier (core_after c signer x)
     pub before_it : (p : Signed Body) → HasTaken p x → HasTaken p early ⊎ HasReceived p earlier
 
   -- acts that are no inputs take nothing
@@ -199,19 +200,20 @@ module _ (c : Setup) (me : ℕ) (signer : SigningState) where
     head : (m : Signed Body) (r : Option Service) (x : List Act) (a : Act) (early : List Act) → Take m r ∷ x ≡ a ∷ early → a ≡ Take m r
     head m r x a early e = cc
 
-  split_in : (m : Signed Body) (r : Option Service) (x early : List Act) (rows : List Row) (s t : Core) (w : IsLawfulFrom c me s rows t) → IsEarlier (Take m r ∷ x) (acts_from c me signer early rows s t w)
-      → IsEarlier (Take m r ∷ x) early ⊎ Split m x early rows
-  split_in m r x early [] s t w h = inl h
-  split_in m r x early (row ∷ rows) s t (u, next, rest) h =
+  split_in : (m : Signed Body) (r : Option Service) (x early : List Act) (rows : List Row) (s t : Core) (w : IsLawfulFrom c me s rows t) → core_after c signer early ≡ s
+      → IsEarlier (Take m r ∷ x) (acts_from c me signer early rows s t w) → IsEarlier (Take m r ∷ x) early ⊎ Split m x early s rows
+  split_in m r x early [] s t w start h = inl h
+  split_in m r x early (row ∷ rows) s t (u, next, rest) start h =
       let done : List Act = pushed (next.first ∷ next.acts) early in
       let quiet = reactions c me signer next.acts (after c s next.first) u next.reacts.follows in
-      elim (split_in m r x done rows u t rest h) [
+      elim (split_in m r x done rows u t rest (row_core c me signer early s u row next start) h) [
         | inr w ↦ inr (record {
           earlier = row ∷ w.earlier;
           row = w.row;
           later = w.later;
           splits = ap (λ (rs : List Row). row ∷ rs) w.splits;
           came = w.came;
+          leads = (u, next, w.leads);
           before_it = λ p taken. elim (w.before_it p taken) [
             | inr later ↦ inr (later.0, inr later.1, later.2)
             | inl here ↦ elim (taken_before p next.acts (next.first ∷ early) quiet here) [
@@ -228,6 +230,7 @@ module _ (c : Setup) (me : ℕ) (signer : SigningState) where
             later = rows;
             splits = refl;
             came = begins_take c me signer row.input m r next.first next.begins (first_is m r x next.first early same);
+            leads = ap (core_after c signer) (rest_is m r x next.first early same) ∙ start;
             before_it = λ p taken. inl (subst (HasTaken p) (rest_is m r x next.first early same) taken);
           })
         ]
@@ -288,7 +291,7 @@ module _ (c : Setup) (me : ℕ) (signer : SigningState) where
     pub does : (x : List Act) → IsEarlier x acts → DoesDue x
     pub reports : (n : ℕ) (d : List ℕ) (t : Service) (o : Outcome) (early : List Act) → IsEarlier (Execute n d t o ∷ early) acts → HasDone (Executed n d (result_of o.reply)) rows
     pub runs : (n : ℕ) (d : List ℕ) (t : Service) (o : Outcome) (early : List Act) → IsEarlier (Execute n d t o ∷ early) acts → RunsTo c me (start_of c signer) rows t
-    pub splits : (m : Signed Body) (r : Option Service) (x : List Act) → IsEarlier (Take m r ∷ x) acts → Split m x [] rows
+    pub splits : (m : Signed Body) (r : Option Service) (x : List Act) → IsEarlier (Take m r ∷ x) acts → Split m x [] (start_of c signer) rows
     pub installs : (k : ℕ) (b : List ℕ) (t : Service) (x : List Act) → IsEarlier (Install k b t ∷ x) acts → HasDone (Installed k (c.hash b)) rows
     pub did : (done : Done) → HasDone done rows → (a : Act) × (early : List Act) × IsEarlier (a ∷ early) acts × IsIn done (done_of c a)
 
@@ -311,7 +314,7 @@ module _ (c : Setup) (me : ℕ) (signer : SigningState) where
     does = λ x h. does_all x [] rows (start_of c signer) s w refl refl h;
     reports = λ n d t o early h. elim (execution_reported c me signer n d t o early [] rows (start_of c signer) s w h) [ inl none ↦ absurd (nothing n d t o early none) | inr done ↦ done ];
     runs = λ n d t o early h. elim (executed_from c me signer n d t o early [] rows (start_of c signer) s w h) [ inl none ↦ absurd (nothing n d t o early none) | inr run ↦ run ];
-    splits = λ m r x h. elim (split_in m r x [] rows (start_of c signer) s w h) [ inl none ↦ absurd (never m r x none) | inr at ↦ at ];
+    splits = λ m r x h. elim (split_in m r x [] rows (start_of c signer) s w refl h) [ inl none ↦ absurd (never m r x none) | inr at ↦ at ];
     installs = λ k b y x h. elim (installed_in k b y x [] rows (start_of c signer) s w h) [ inl none ↦ absurd (none_installed k b y x none) | inr done ↦ done ];
     did = λ done h. done_from c me signer done [] rows (start_of c signer) s w h;
   }

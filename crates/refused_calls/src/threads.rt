@@ -1,4 +1,10 @@
-//! Drivers of what runs in threads: a station's step, and the start of a host.
+//! Drivers of what runs in threads: a station's step, and the start of a host. Its calls of a host and of a station repeat their
+//! contracts, which no other proof uses: a clause that says less fails here.
+
+ghost use Rattle.std.specs.Prelude.{◌≡◌, ◌⊎◌, ◌↔◌, length, map, IfErr, IfOk, IsErrOf};
+ghost use Rattle.host_types.specs.Configuration.{replicas_for};
+ghost use Rattle.replica_threads.specs.Hosts.{AgreeAtClose, AreIdsFrom, HaveKeys};
+ghost use Rattle.replica_threads.specs.declared.fault.HostFault.TheVariants as faults;
 
 mod said;
 mod station;
@@ -10,8 +16,12 @@ use crate::threads::said::messages;
 use crate::threads::station::take_all;
 use anyhow::Result;
 use host_client::{Host, HostFault};
+use host_types::{Config, ReplicaId};
+use lms_tree::Signer;
+use std::alloc::Global;
 use std::sync::{Arc, Wait};
 use std::thread::Threads;
+use world_script::Row;
 
 /// The rows that a journal has room for.
 const LIMIT: u32 = 1_000;
@@ -40,7 +50,7 @@ pub(crate) fn print_start<R: Threads + Wait + Copy + Send + Sync + Drop + 'stati
     } = Group::new(rt.alloc())?;
     let gate = Arc::new(rt.alloc(), NoGate)?;
     begin(rt)?;
-    match Host::start(threads, rt.alloc(), &config, replicas, LIMIT, OPENERS, gate) {
+    match start(threads, rt.alloc(), &config, replicas, gate) {
         Ok(host) => print_close(rt, threads, &host),
         Err(fault) => {
             println!(rt; "refused {fault}")?;
@@ -52,10 +62,35 @@ pub(crate) fn print_start<R: Threads + Wait + Copy + Send + Sync + Drop + 'stati
 /// Closes a host. A refusal has closed nothing, and the call is made again.
 fn print_close<R: Wait>(rt: &HostRuntime, threads: &R, host: &Host) -> Result<()> {
     println!(rt; "started")?;
-    let journals = match host.close(threads) {
-        Err(HostFault::Memory) => host.close(threads)?,
+    let journals = match close(threads, host) {
+        Err(HostFault::Memory) => close(threads, host)?,
         closed => closed?,
     };
     println!(rt; "{} journals", journals.len())?;
     Ok(())
+}
+
+/// Starts a host with these signers.
+fn start<R: Threads + Wait + Copy + Send + Sync + Drop + 'static>(
+    threads: &R,
+    alloc: Global,
+    config: &Arc<Config>,
+    signers: Vec<Signer>,
+    gate: Arc<NoGate>,
+) -> Result<Host, HostFault>
+    ensures host { IfOk result (λ host. host ≡ record { config = config.now.value; leaves = map (λ s. s.next_leaf) signers.items }) }
+    ensures fault { IfErr result (λ fault. (fault ≡ faults.WrongSigners) ⊎ (fault ≡ faults.Memory)) }
+    ensures signers { IsErrOf result faults.WrongSigners ↔ (HaveKeys config.now.value.keys signers.items → ⊥) }
+{
+    Host::start(threads, alloc, config, signers, LIMIT, OPENERS, gate)
+}
+
+/// Closes a host, for the journals of its replicas.
+fn close<R: Wait>(threads: &R, host: &Host) -> Result<Vec<(ReplicaId, Vec<Row>)>, HostFault>
+    ensures agree { IfOk result (λ journals. AgreeAtClose host.now (map (λ p. p.1.items) journals.items)) }
+    ensures ids { IfOk result (λ journals. AreIdsFrom 0 (map (λ p. p.0) journals.items)) }
+    ensures many { IfOk result (λ journals. length journals.items ≡ replicas_for host.now.config.f) }
+    ensures fault { IfErr result (λ fault. (fault ≡ faults.Closed) ⊎ (fault ≡ faults.Memory)) }
+{
+    host.close(threads)
 }

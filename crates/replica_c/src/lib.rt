@@ -4,6 +4,7 @@
 //! test has a status. No export signs bytes that its client gives.
 #![tactic(auto)]
 
+mod accounting;
 mod auditing;
 mod calling;
 mod doing;

@@ -1,2 +1,3 @@
+mod AsBox
 pub mod Kept
 pub mod Told

@@ -3,7 +3,7 @@ use Rattle.std.proofs.Common.{◌≡◌, ℕ, Bool, true, false, cond, List, len
 use Rattle.std.proofs.Math.Seq.{take-append_seam}
 use Rattle.tenant_maps.specs.Entries.{Entries}
 use Rattle.sandbox_c.specs.declared.status.Status.TheVariants.{Done, ArgumentsTooLong, BufferTooShort}
-use Rattle.handles.specs.declared.held.Held.{Held}
+use Rattle.sandbox_c.specs.declared.held.Held.{Held}
 use Rattle.sandbox_c.specs.RunAnswers.{HasStoppedIn, run_status}
 use Rattle.sandbox_c.specs.Statuses.{number_of}
 

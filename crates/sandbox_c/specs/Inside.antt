@@ -1,8 +1,8 @@
 -- Statement: what a handle holds.
 use Rattle.std.specs.Prelude.{ℕ, List, Option, Some, None, option_and_then}
 use Rattle.tenant_maps.specs.Entries.{Entries}
-use Rattle.handles.specs.declared.held.Held.{Held}
-use Rattle.handles.specs.declared.held.Held.TheVariants as held
+use Rattle.sandbox_c.specs.declared.held.Held.{Held}
+use Rattle.sandbox_c.specs.declared.held.Held.TheVariants as held
 
 -- The entries, of a map.
 abbrev pub entries_of : Held → Option Entries

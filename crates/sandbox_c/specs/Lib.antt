@@ -4,3 +4,4 @@ pub mod Verdicts
 pub mod RunAnswers
 pub mod MapAnswers
 pub mod Texts
+pub mod Slots

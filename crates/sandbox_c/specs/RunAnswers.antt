@@ -7,7 +7,7 @@ use Rattle.bpf_model.specs.Run.{EndsSo}
 use Rattle.bpf_machine.specs.Represents.{call_of, ending_of}
 use Rattle.bpf_machine.specs.Stops.{StopsAtPut}
 use Rattle.bpf_model.specs.declared.fault.VerifyFault.TheVariants.{Memory}
-use Rattle.handles.specs.declared.held.Held.{Held}
+use Rattle.sandbox_c.specs.declared.held.Held.{Held}
 use Rattle.sandbox_c.specs.declared.status.Status.{Status}
 use Rattle.sandbox_c.specs.declared.status.Status.TheVariants.{Done, Fault, NoProcedure, NoMap, ArgumentsTooLong, BufferTooShort}
 use Rattle.sandbox_c.specs.Inside.{code_in, map_in}

@@ -9,7 +9,7 @@ use Rattle.bpf_asm.specs.declared.fault.AsmFault.{AsmFault}
 use Rattle.bpf_asm.specs.Assembly.{assembly}
 use Rattle.bpf_asm.specs.Faults.{number_of as kind_number}
 use Rattle.bpf_asm.specs.Printing.{printed}
-use Rattle.handles.specs.Told.{AreTold}
+use Rattle.handle_parts.specs.Told.{AreTold}
 
 -- What is answered for the text of code: the text of its instructions, the first fault of the decoder and its slot, or that
 -- memory ran out.

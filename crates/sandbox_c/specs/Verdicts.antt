@@ -5,8 +5,8 @@ use Rattle.bpf_model.specs.Profiles.{profile_of}
 use Rattle.bpf_model.specs.Verdict.{AcceptsUnder, RefusesUnder}
 use Rattle.bpf_model.specs.declared.fault.VerifyFault.{VerifyFault}
 use Rattle.bpf_model.specs.declared.profile.Profile.{Profile}
-use Rattle.handles.specs.declared.held.Held.{Held}
-use Rattle.handles.specs.declared.held.Held.TheVariants as held
+use Rattle.sandbox_c.specs.declared.held.Held.{Held}
+use Rattle.sandbox_c.specs.declared.held.Held.TheVariants as held
 
 -- The code was accepted under the profile, with this bound: the status is 0, and the procedure of these bytes is inside.
 abbrev pub HasAccepted : Profile → List ℕ → ℕ → ℕ → Option Held → Type 0

@@ -4,15 +4,18 @@
 //! status.
 #![tactic(auto)]
 
+mod handle;
+mod held;
 mod maps;
 mod running;
+mod slot;
 mod status;
 mod texts;
 mod verifying;
 
 ghost use Rattle.std.specs.Prelude.{◌≡◌, None};
 
-use handles::Handle;
+use crate::handle::Handle;
 use std::alloc::Global;
 
 /// Frees what a handle holds. One that holds nothing stays as it is.

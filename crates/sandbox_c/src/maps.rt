@@ -9,9 +9,10 @@ ghost use Rattle.sandbox_c.specs.MapAnswers.{get_status, put_status, del_status,
 ghost use Rattle.sandbox_c.specs.Statuses.{number_of};
 ghost use Rattle.sandbox_c.specs.declared.status.Status.TheVariants.{Done, Fault, NoMap};
 
+use crate::handle::Handle;
+use crate::held::Held;
 use crate::status::Status;
 use bpf_verifier::VerifyFault;
-use handles::{Handle, Held};
 use std::alloc::Global;
 use tenant_maps::{MapPort, Put, TenantMap};
 

@@ -6,11 +6,13 @@ ghost use Rattle.sandbox_c.specs.RunAnswers.{HasRunIn, HasStoppedIn, RunRefused,
 ghost use Rattle.sandbox_c.specs.Statuses.{number_of};
 ghost use Rattle.sandbox_c.specs.declared.status.Status.TheVariants.{Done};
 
+use crate::handle::Handle;
+use crate::held::Held;
 use crate::status::Status;
 use bpf_machine::{MAX_OUTPUT, run};
 use bpf_model::layout::ARGUMENTS_SIZE;
 use bpf_verifier::VerifyFault;
-use handles::{Handle, Held, put_front};
+use handle_parts::put_front;
 use host_types::ClientId;
 use std::alloc::Global;
 

@@ -10,7 +10,7 @@ use bpf_asm::{AsmKind, assemble, print};
 use bpf_decode::{decode_all, encode_all};
 use bpf_verifier::{Profile, VerifyFault};
 use code_commands::{CodeFailure, CodeForm, sentence_for};
-use handles::tell;
+use handle_parts::tell;
 use std::alloc::{AllocError, Global};
 
 /// Writes why a profile refuses code, as a sentence without a line end, and how many bytes that takes: none where the code

@@ -7,11 +7,12 @@ ghost use Rattle.bpf_model.specs.Verdict.{AcceptsUnder, RefusesUnder};
 ghost use Rattle.bpf_model.specs.declared.fault.VerifyFault.TheVariants.{Memory};
 ghost use Rattle.bpf_model.specs.declared.profile.Profile.{Profile as Following};
 ghost use Rattle.sandbox_c.specs.Verdicts.{IsVerdict};
-ghost use Rattle.handles.specs.declared.held.Held.TheVariants as held;
+ghost use Rattle.sandbox_c.specs.declared.held.Held.TheVariants as held;
 
+use crate::handle::Handle;
+use crate::held::Held;
 use crate::status::Status;
 use bpf_verifier::{Procedure, Profile, Refusal, VerifyFault, verify, verify2};
-use handles::{Handle, Held};
 use std::alloc::Global;
 
 /// What the verifier says of code.

@@ -5,6 +5,7 @@ ghost use Rattle.host_types.specs.Configuration.{replicas_for};
 ghost use Rattle.lms_tree.specs.Keys.{IsKeyOf};
 ghost use Rattle.pbft_codec.specs.declared.signed.Role.TheVariants as roles;
 ghost use Rattle.seal.specs.Signers.{key_of};
+ghost use Rattle.replica_threads.specs.Stations.{IsReported, counted_by};
 
 use crate::common::gate::NoGate;
 use crate::common::rows::leading_of;
@@ -18,7 +19,7 @@ use std::marker::Brand;
 use std::sync::ledger::Blank;
 use std::sync::{Arc, Wait};
 use std::thread::Threads;
-use world_script::{Halt, Row};
+use world_script::{Halt, Row, Status};
 
 /// The replica at the station.
 const REPLICA: ReplicaId = ReplicaId(1);
@@ -102,8 +103,17 @@ fn take<K: Named, R: Threads + Wait + Sync>(
     message: &Checked,
 ) -> Result<Row, Halt>
     requires { message.now.config ≡ K.config }
+    ensures counted { seat.new ≡ counted_by seat.old result }
 {
     station.take(threads, seat, message, &NoGate)
+}
+
+/// Where the replica stands.
+fn standing<K: Named, R: Wait>(threads: &R, station: &Station<K>, seat: &mut Seat<K>) -> Status
+    ensures reported { IsReported K.config K.id K.signer K.limit seat.old.rows result }
+    ensures seat { seat.new ≡ seat.old }
+{
+    station.report(threads, seat)
 }
 
 /// Takes the last message, and prints what comes of it. Where it is refused, the replica has stopped, and the
@@ -123,7 +133,7 @@ fn take_last<K: Named, R: Threads + Wait + Sync>(
         Ok(row) => print_row(rt, &row),
         Err(Halt::Memory) => {
             memory(rt)?;
-            let halted = station.report(threads, seat).halted;
+            let halted = standing(threads, station, seat).halted;
             is_kept(rt, "halt", halted == Some(Halt::Memory))?;
             is_kept(rt, "journal", seat.rows() == rows)
         }

@@ -1,7 +1,7 @@
 //! Bytes that are handed to a caller's buffer.
 
 ghost use Rattle.std.specs.Prelude.{◌≡◌, ◌≤◌, ◌++◌, length, drop};
-ghost use Rattle.handles.specs.Told.{AreTold};
+ghost use Rattle.handle_parts.specs.Told.{AreTold};
 
 /// Writes bytes to the front of a buffer; those behind them stay.
 pub fn put_front(buffer: &mut [u8], bytes: &[u8])

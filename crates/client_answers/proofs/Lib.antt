@@ -1,0 +1,5 @@
+mod Certificate
+mod Executed
+mod Listed
+mod Clients
+mod Heard

@@ -1,0 +1,9 @@
+use Rattle.std.proofs.Common.{◌≡◌, ◌<◌, ℕ, Some}
+use Rattle.std.specs.Prelude.{slice_get}
+use Rattle.pbft_model.specs.Rows.{Received}
+use Rattle.replica_core.specs.Facts.{RowFacts, input_of}
+use Rattle.drained_records.proofs.receipt.has_received.Given as goal
+
+abbrev pub invariant-loop-row : goal.invariant-loop-row
+invariant-loop-row l =
+    (i : ℕ) (r : RowFacts) → i < l.row-index → slice_get l.rows i ≡ Some r → input_of r.input ≡ Received l.message.message → ⊥

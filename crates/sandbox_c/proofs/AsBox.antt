@@ -1,0 +1,21 @@
+-- A full slot and the parts of its box own what a box at the same types owns.
+use mir.Syntax.{impl, tnil, dnil}
+use mathlib.Core.List.{[]}
+use denote.Signature.{Slot as Place, plain}
+use Rattle.std.proofs.BoxSteps.Form.{Bx}
+use Rattle.std.specs.contracts.alloc.Global as Heap
+use Rattle.std.specs.contracts.impls.GlobalAllocator.TheImpl.{ghosts, dict}
+use Rattle.std.proofs.alloc.Global.TheLaws as heap
+use Rattle.handle_parts.specs.contracts.Parts as Parts
+use Rattle.sandbox_c.specs.contracts.held.Held as Held
+use Rattle.sandbox_c.proofs.held.Held.TheLaws as held
+use Rattle.sandbox_c.specs.contracts.slot.Slot as Slot
+
+abbrev pub E : Bx
+E = record { row = Held.the_row; laws = held.the_row_laws; al = record { row = Heap.the_row; laws = heap.the_row_laws; g = ghosts; d = dict; drops = impl [] tnil dnil } }
+
+abbrev pub FromParts : Place 0
+FromParts = plain (λ _. Parts.the_row Held.the_row Heap.the_row ghosts)
+
+abbrev pub FromSlot : Place 0
+FromSlot = plain (λ _. Slot.the_row)
