@@ -378,8 +378,7 @@ fn run<
     let format = format_of(options);
     let placed = match read_script_at(rt, beside, Dialect::Threads, reader) {
         Ok(placed) => placed,
-        Err(refused) if format == Format::Json => return Err(refused.unwritten()),
-        Err(refused) => return Err(refused.written(writer)),
+        Err(refused) => return Err(refused.written_in(format, writer)),
     };
     if !options.get_flag("explain") {
         return run_threads(rt, format, &placed.script, writer, progress);

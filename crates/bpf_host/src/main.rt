@@ -11,6 +11,7 @@ mod counter;
 mod explainer;
 mod failure;
 mod files;
+mod line_objects;
 mod objects;
 mod outlet;
 mod recorder;

@@ -43,7 +43,11 @@ fn accepted_object(alloc: Global, op: &[u8], reply: &Reply) -> Result<String, Al
 }
 
 /// Adds the parts of a result: its status, and what was installed or returned.
-fn add_outcome(alloc: Global, outcome: Outcome<'_>, text: &mut String) -> Result<(), AllocError> {
+pub(crate) fn add_outcome(
+    alloc: Global,
+    outcome: Outcome<'_>,
+    text: &mut String,
+) -> Result<(), AllocError> {
     match outcome {
         Outcome::Installed(id) => write!(text, ",\"status\":0,\"procedure\":{id}"),
         Outcome::Returned { r0, output } => {

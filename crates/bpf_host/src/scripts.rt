@@ -2,6 +2,7 @@
 
 use crate::failure::Failure;
 use crate::files::{Place, Unread, bytes_of};
+use code_commands::Format;
 use host_script::{
     Dialect, FileName, FileUse, MAX_FILE, NamedFile, ScriptFault, ScriptKind, files_named_in,
     read_input, read_script_with, report,
@@ -48,6 +49,14 @@ impl RefusedScript {
             return self.unwritten();
         }
         Failure::Script(fault)
+    }
+
+    /// Returns why the command ends. Its line is written in words; an object is not yet.
+    pub(crate) fn written_in<O: Write>(self, format: Format, writer: &mut O) -> Failure {
+        match format {
+            Format::Words => self.written(writer),
+            Format::Json => self.unwritten(),
+        }
     }
 
     /// Returns why the command ends, of which no line is written yet.

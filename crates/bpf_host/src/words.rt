@@ -34,6 +34,7 @@ Examples:
   bpf_host world script.toml
   bpf_host world script.toml --trace
   bpf_host explore script.toml --seeds 0..1000 --workers 4
+  bpf_host world script.toml --seed 3 --trace
   bpf_host run requests.toml
   bpf_host check crates/bpf_host/data
 
@@ -169,7 +170,7 @@ pub(crate) fn form_of(options: &ArgMatches<'_>) -> CodeForm {
 }
 
 /// The option by which objects of JSON are printed.
-fn json_option<'a>(alloc: Global) -> Arg<'a> {
+pub(crate) fn json_option<'a>(alloc: Global) -> Arg<'a> {
     Arg::new(alloc, "json")
         .long("json")
         .action(ArgAction::SetTrue)

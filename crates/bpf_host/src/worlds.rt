@@ -3,17 +3,20 @@
 use crate::explainer::Explainer;
 use crate::failure::Failure;
 use crate::files::Place;
+use crate::line_objects::LineObjects;
 use crate::scripts::read_script_at;
-use crate::words::{file_argument, file_of, workers_parser};
+use crate::words::{file_argument, file_of, format_of, json_option, workers_parser};
+use clap::builder::ValueParser;
 use clap::{Arg, ArgAction, ArgMatches, Command};
-use host_script::{Dialect, Played, Progress, run_read};
+use code_commands::Format;
+use host_script::{Dialect, Played, Progress, Script, run_read};
 use std::alloc::{AllocError, Global};
 use std::io::{Read, Write};
 use std::rt::Files;
 use std::thread::Threads;
 use world_trace::{
-    ChartForm, PlacedScript, Searched, Seeds, chart_script, explore_script, explore_side_by_side,
-    trace_script,
+    ChartForm, PlacedScript, Search, Searched, Seeds, Wanted, chart_script, explore_script,
+    explore_side_by_side, trace_script,
 };
 
 /// The first number that is no seed.
@@ -33,13 +36,25 @@ pub(crate) fn world_command<'a>(alloc: Global, ending: &'a str) -> Result<Comman
         .default_missing_value("mermaid")
         .value_parser(["mermaid", "svg"].as_slice())
         .help("what happened as a chart of messages, in place of the lines [default: mermaid]");
+    let seed = Arg::new(alloc, "seed")
+        .long("seed")
+        .value_name("N")
+        .value_parser(ValueParser::unsigned(0, SEEDS_END - 1))
+        .help("each deliver step has the order that N draws, as under explore");
     Command::new(alloc, "world")
         .about("Runs a script of replicas, some of them faulty")
         .after_help(ending)
         .arg(file_argument(alloc, "the script [default: standard input]"))?
         .arg(trace)?
         .arg(explain_option(alloc).conflicts_with("chart")?)?
-        .arg(chart)
+        .arg(chart)?
+        .arg(seed)?
+        .arg(
+            json_option(alloc)
+                .conflicts_with("trace")?
+                .conflicts_with("explain")?
+                .conflicts_with("chart")?,
+        )
 }
 
 /// The option that has lines explained.
@@ -62,14 +77,21 @@ pub(crate) fn explore_command<'a>(alloc: Global) -> Result<Command<'a>, AllocErr
         .value_name("N")
         .value_parser(workers_parser())
         .help("how many seeds are run side by side [default: 1]");
+    let answered = Arg::new(alloc, "answered")
+        .long("answered")
+        .action(ArgAction::SetTrue)
+        .help("a request of a client that is open behind the last step ends the search, too");
     Command::new(alloc, "explore")
         .about("Runs a script under many orders of its deliveries and audits each")
         .arg(file_argument(alloc, "the script [default: standard input]"))?
         .arg(seeds)?
-        .arg(workers)
+        .arg(workers)?
+        .arg(answered)?
+        .arg(json_option(alloc))
 }
 
-/// Runs a script of a world, whose FILE lies at this place, and has its lines explained where that is asked for.
+/// Runs a script of a world, whose FILE lies at this place, under the seed that is named, and has its lines explained or objects
+/// made of them where that is asked for.
 pub(crate) fn play<R: Files + AllocGlobal, I: Read, O: Write, P: Progress>(
     rt: &R,
     place: Place<'_>,
@@ -80,10 +102,20 @@ pub(crate) fn play<R: Files + AllocGlobal, I: Read, O: Write, P: Progress>(
 ) -> Result<(), Failure> {
     let alloc = rt.alloc();
     let beside = place.beside(file_of(options));
+    let format = format_of(options);
     let placed = match read_script_at(rt, beside, Dialect::World, reader) {
         Ok(placed) => placed,
-        Err(refused) => return Err(refused.written(writer)),
+        Err(refused) => return Err(refused.written_in(format, writer)),
     };
+    let placed = match options.get_one::<u64>("seed") {
+        Some(seed) => placed.ordered(seed),
+        None => placed,
+    };
+    if format == Format::Json {
+        let mut objects = LineObjects::new(alloc, &placed.script, writer);
+        let done = play_read(alloc, options, &placed, &mut objects, progress);
+        return objects.ended(done);
+    }
     if !options.get_flag("explain") {
         return play_read(alloc, options, &placed, writer, progress);
     }
@@ -120,25 +152,54 @@ pub(crate) fn explore<R: Files + AllocGlobal + Threads + Sync, I: Read, O: Write
     writer: &mut O,
     progress: &mut P,
 ) -> Result<(), Failure> {
-    let seeds = seeds_of(options)?;
+    let search = Search {
+        seeds: seeds_of(options)?,
+        wanted: wanted_of(options),
+    };
     let workers = usize::from(options.get_one::<u8>("workers").unwrap_or(1));
-    let alloc = rt.alloc();
     let beside = place.beside(file_of(options));
+    let format = format_of(options);
     let placed = match read_script_at(rt, beside, Dialect::World, reader) {
         Ok(placed) => placed,
-        Err(refused) => return Err(refused.written(writer)),
+        Err(refused) => return Err(refused.written_in(format, writer)),
     };
-    let script = &placed.script;
-    if workers <= 1 {
-        return ended(explore_script(alloc, seeds, script, writer, progress)?);
+    if format == Format::Json {
+        let mut objects = LineObjects::new(rt.alloc(), &placed.script, writer);
+        let done = explore_read(rt, workers, search, &placed.script, &mut objects, progress);
+        return objects.ended(done);
     }
-    ended(explore_side_by_side(rt, alloc, workers, seeds, script, writer, progress)?)
+    explore_read(rt, workers, search, &placed.script, writer, progress)
+}
+
+/// Runs a script that was read under many seeds, so many side by side.
+fn explore_read<R: AllocGlobal + Threads + Sync, O: Write, P: Progress>(
+    rt: &R,
+    workers: usize,
+    search: Search,
+    script: &Script,
+    writer: &mut O,
+    progress: &mut P,
+) -> Result<(), Failure> {
+    let alloc = rt.alloc();
+    if workers <= 1 {
+        return ended(explore_script(alloc, search, script, writer, progress)?);
+    }
+    ended(explore_side_by_side(rt, alloc, workers, search, script, writer, progress)?)
 }
 
 fn ended(searched: Searched) -> Result<(), Failure> {
     match searched {
         Searched::Agreed => Ok(()),
         Searched::Refused => Err(Failure::Refused),
+    }
+}
+
+/// What the options say that is to hold behind the steps.
+fn wanted_of(options: &ArgMatches<'_>) -> Wanted {
+    if options.get_flag("answered") {
+        Wanted::Answers
+    } else {
+        Wanted::Agreement
     }
 }
 

@@ -10,4 +10,6 @@ mod ProcedureLaws
 mod RecordLaws
 mod JournalLaws
 pub mod RunLaws
+pub use Rattle.pbft_codec.proofs.MessageLaws
+pub use Rattle.pbft_model.proofs.Found
 pub use Rattle.pbft_model.proofs.Leaves

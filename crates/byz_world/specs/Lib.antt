@@ -7,7 +7,12 @@ pub mod Procedures
 pub mod Records
 pub mod WorldFaults
 pub mod Worlds
+pub use Rattle.pbft_agreement.specs.Journals
+pub use Rattle.pbft_codec.specs.Encoding
+pub use Rattle.pbft_codec.specs.WellFormed
 pub use Rattle.pbft_model.specs.Core
+pub use Rattle.pbft_model.specs.Families
+pub use Rattle.pbft_model.specs.Histories
 pub use Rattle.pbft_model.specs.Rows
 pub use Rattle.replica_journal.specs.Dest
 pub use Rattle.replica_journal.specs.Facts
@@ -18,5 +23,6 @@ pub use Rattle.replica_journal.specs.Keeping
 pub use Rattle.replica_journal.specs.Output
 pub use Rattle.replica_journal.specs.Status
 pub use Rattle.replica_journal.specs.Steps
+pub use Rattle.seal.specs.Opening
 pub use Rattle.service_model.specs.Equality
 pub use Rattle.pbft_model.specs.Setup

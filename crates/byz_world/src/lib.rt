@@ -30,4 +30,5 @@ pub use replica_journal::{
     Dest, Done, Halt, Input, Journal, Output, Replica, Row, State, StateFault, Status,
 };
 pub use report::{Outcome, Report};
+pub use seal::Checked;
 pub use world::{World, run_world};

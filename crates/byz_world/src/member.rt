@@ -73,7 +73,8 @@ impl Member {
 
     /// Its id, and handles of its rows so far.
     pub(crate) fn record(&self, alloc: Global) -> Result<(ReplicaId, Vec<Row>), AllocError>
-        ensures { IfOk result (λ r. r.1.items ≡ self.now.rows) }
+        ensures rows { IfOk result (λ r. r.1.items ≡ self.now.rows) }
+        ensures id { IfOk result (λ r. r.0.0 ≡ self.now.replica.me) }
     {
         let mut record = Vec::new(alloc);
         for row in self.keeper.rows() {

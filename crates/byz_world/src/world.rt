@@ -113,11 +113,19 @@ impl World {
         }
     }
 
+    /// What each correct replica did so far, ids ascending: its id, and handles of its rows. The error is that memory ran out.
+    pub fn records(&self) -> Result<Vec<(ReplicaId, Vec<Row>)>, AllocError>
+        ensures ids { IfOk result (λ records. map (λ r. r.0.0) records.items ≡ map (λ m. m.replica.me) self.now.members) }
+        ensures rows { IfOk result (λ records. map (λ r. r.1.items) records.items ≡ map (λ m. m.rows) self.now.members) }
+    {
+        records_of(self.alloc, &self.members)
+    }
+
     /// What an audit of the correct replicas' rows so far answers.
     pub fn audit(&self) -> Result<History, AuditFault>
         ensures { IsAudit (map (λ m. m.rows) self.now.members) result }
     {
-        let records = records_of(self.alloc, &self.members)?;
+        let records = self.records()?;
         audit(self.alloc, &records)
     }
 
@@ -268,9 +276,10 @@ fn first_members(
     Ok(members)
 }
 
-/// Handles of each correct replica's rows.
+/// The id of each correct replica, and handles of its rows.
 fn records_of(alloc: Global, members: &[Member]) -> Result<Vec<(ReplicaId, Vec<Row>)>, AllocError>
-    ensures { IfOk result (λ records. map (λ r. r.1.items) records.items ≡ map (λ m. m.rows) members.now) }
+    ensures ids { IfOk result (λ records. map (λ r. r.0.0) records.items ≡ map (λ m. m.replica.me) members.now) }
+    ensures rows { IfOk result (λ records. map (λ r. r.1.items) records.items ≡ map (λ m. m.rows) members.now) }
 {
     let mut records = Vec::new(alloc);
     for member in members {

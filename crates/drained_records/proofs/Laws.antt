@@ -2,15 +2,15 @@
 use Rattle.std.proofs.Common.{◌≡◌, ℕ, zero, suc, List, [], ◌∷◌, Some, sym, ap, subst, ◌∙◌, inl, inr}
 use Rattle.std.specs.Prelude.{slice_get}
 use Rattle.std.proofs.lemmas.Option.{same_Some}
-use Rattle.pbft_model.specs.Setup.{Setup}
-use Rattle.pbft_model.specs.Rows as rows
-use Rattle.pbft_model.specs.Histories.{IsIn}
-use Rattle.pbft_model.proofs.Found.{in_map, from_map, no_some}
-use Rattle.pbft_agreement.specs.Journals.{Journals, HasReceived}
+use Rattle.byz_world.specs.Setup.{Setup}
+use Rattle.byz_world.specs.Rows as rows
+use Rattle.byz_world.specs.Histories.{IsIn}
+use Rattle.byz_world.proofs.Found.{in_map, from_map, no_some}
+use Rattle.byz_world.specs.Journals.{Journals, HasReceived}
 use Rattle.pbft_progress.specs.Progress.{IsDrained, IsFor}
 use Rattle.host_types.specs.declared.ReplicaId.{ReplicaId}
-use Rattle.replica_core.specs.Facts.{RowFacts, destination_of, output_of, row_of}
-use Rattle.replica_core.specs.declared.row.Output.{Output}
+use Rattle.byz_world.specs.Facts.{RowFacts, destination_of, output_of, row_of}
+use Rattle.byz_world.specs.Output.{Output}
 use Rattle.drained_records.specs.Coming.{AllCame, AreRecordsOf, IsFirst, Record}
 use Rattle.drained_records.specs.declared.missing.Missing.{Missing}
 

@@ -3,15 +3,15 @@ use Rattle.std.proofs.Common.{◌≡◌, ℕ, ◌+◌, ◌<◌, List, map, lengt
 use Rattle.std.proofs.lemmas.Bool.{cases_lt}
 use Rattle.std.specs.Prelude.{slice_get}
 use Rattle.std.proofs.lemmas.Option.{slice_get_within, same_Some}
-use Rattle.pbft_codec.specs.Encoding.{encoding}
-use Rattle.pbft_codec.specs.WellFormed.{Encodes}
-use Rattle.pbft_codec.proofs.MessageLaws.{one_message}
-use Rattle.pbft_model.specs.Words.{Signed, Body}
-use Rattle.pbft_model.specs.Rows.{Received}
-use Rattle.pbft_model.proofs.Found.{in_map, from_map}
-use Rattle.pbft_agreement.specs.Journals.{HasReceived}
-use Rattle.seal.specs.Opening.{CheckedMessage, IsChecked}
-use Rattle.replica_core.specs.Facts.{RowFacts, input_of, row_of}
+use Rattle.byz_world.specs.Encoding.{encoding}
+use Rattle.byz_world.specs.WellFormed.{Encodes}
+use Rattle.byz_world.proofs.MessageLaws.{one_message}
+use Rattle.pbft_progress.specs.Words.{Signed, Body}
+use Rattle.byz_world.specs.Rows.{Received}
+use Rattle.byz_world.proofs.Found.{in_map, from_map}
+use Rattle.byz_world.specs.Journals.{HasReceived}
+use Rattle.byz_world.specs.Opening.{CheckedMessage, IsChecked}
+use Rattle.byz_world.specs.Facts.{RowFacts, input_of, row_of}
 use Rattle.drained_records.proofs.Laws.{placed, there}
 
 pub same_bytes : (a b : CheckedMessage) → IsChecked a → IsChecked b → encoding a.message ≡ encoding b.message → a.message ≡ b.message

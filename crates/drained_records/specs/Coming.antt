@@ -1,15 +1,15 @@
 -- Statement: which message of the records of correct replicas has not come to another of them, and what records the journals of a family
 -- have.
-use Rattle.std.specs.Prelude.{◌≡◌, ◌≢◌, ◌<◌, ℕ, List, map, Option, Some, None, slice_get}
+use Rattle.std.specs.Prelude.{◌≡◌, ◌≢◌, ◌<◌, ◌==◌, ℕ, List, find, map, Option, Some, None, option_and_then, slice_get}
 use Rattle.std.specs.Global.{Vec}
 use Rattle.host_types.specs.declared.ReplicaId.{ReplicaId}
-use Rattle.pbft_model.specs.Setup.{Setup}
-use Rattle.pbft_model.specs.Histories.{IsIn}
-use Rattle.pbft_model.specs.Families.{IsCorrect}
-use Rattle.pbft_agreement.specs.Journals.{Journals, HasReceived}
+use Rattle.byz_world.specs.Setup.{Setup}
+use Rattle.byz_world.specs.Histories.{IsIn}
+use Rattle.byz_world.specs.Families.{IsCorrect}
+use Rattle.byz_world.specs.Journals.{Journals, HasReceived}
 use Rattle.pbft_progress.specs.Progress.{IsFor}
-use Rattle.replica_core.specs.Facts.{RowFacts, destination_of, row_of}
-use Rattle.replica_core.specs.declared.row.Output.{Output}
+use Rattle.byz_world.specs.Facts.{RowFacts, destination_of, row_of}
+use Rattle.byz_world.specs.Output.{Output}
 use Rattle.drained_records.specs.declared.missing.Missing.{Missing}
 
 -- A record: whose it is, and the rows.
@@ -68,6 +68,13 @@ pub record IsFirst (records : List Record) (m : Missing) : Type 0 where
 abbrev pub IsFirstMissing : List Record → Option Missing → Type 0
 IsFirstMissing records None = AllCame records
 IsFirstMissing records (Some m) = IsFirst records m
+
+-- The output at a place of the row at a place; the output that this names, in the first record of its sender's id.
+abbrev pub output_in : List RowFacts → ℕ → ℕ → Option Output
+output_in rows row output = option_and_then (λ r. slice_get r.outputs output) (slice_get rows row)
+
+abbrev pub output_named : List Record → Missing → Option Output
+output_named records m = option_and_then (λ f. output_in f.1.items m.row m.output) (find (λ f. f.0.0 == m.from.0) records)
 
 -- ---- the records of a family
 

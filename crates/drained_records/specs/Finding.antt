@@ -1,8 +1,8 @@
 -- Internal: the first place that misses something, where each place before it came, or each at all.
 use Rattle.std.specs.Prelude.{◌<◌, ℕ, List, Option, Some, None}
 use Rattle.host_types.specs.declared.ReplicaId.{ReplicaId}
-use Rattle.replica_core.specs.Facts.{RowFacts}
-use Rattle.replica_core.specs.declared.row.Output.{Output}
+use Rattle.byz_world.specs.Facts.{RowFacts}
+use Rattle.byz_world.specs.Output.{Output}
 use Rattle.drained_records.specs.Coming.{At, HasCome, IsMissing, Record, SomeAt}
 
 -- ---- what came, and what is missing, of an output, of a row, of a record

@@ -1,8 +1,8 @@
 //! What it says of a family's journals that no message is missing.
 
 ghost use Rattle.std.specs.Prelude.{List, None, Some};
-ghost use Rattle.pbft_agreement.specs.Journals.{Journals};
-ghost use Rattle.pbft_model.specs.Setup.{Setup};
+ghost use Rattle.byz_world.specs.Journals.{Journals};
+ghost use Rattle.byz_world.specs.Setup.{Setup};
 ghost use Rattle.pbft_progress.specs.Progress.{IsDrained};
 ghost use Rattle.drained_records.specs.Coming.{AreRecordsOf, IsFirstMissing, Record};
 ghost use Rattle.drained_records.specs.declared.missing.Missing.{Missing};

@@ -11,5 +11,9 @@ mod law;
 mod missing;
 mod receipt;
 
+pub use byz_world::{
+    AuditFault, Dest, Done, Event, Halt, History, Input, Outcome, Output, Replica, Report, Row,
+    State, StateFault, Status, World, WorldFault, audit, run_world,
+};
 pub use law::drained_families_miss_nothing;
 pub use missing::{Missing, first_missing};

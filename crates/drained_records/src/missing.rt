@@ -1,12 +1,12 @@
 //! The first message that has not come.
 
-ghost use Rattle.std.specs.Prelude.{◌≡◌, ◌<◌, IsTrue, length};
-ghost use Rattle.drained_records.specs.Coming.{Came, IsFirstMissing, Misses, SomeAt};
+ghost use Rattle.std.specs.Prelude.{◌≡◌, ◌<◌, ◌==◌, IsTrue, find, length, option_copied};
+ghost use Rattle.drained_records.specs.Coming.{Came, IsFirstMissing, Misses, SomeAt, output_in, output_named};
 ghost use Rattle.drained_records.specs.Finding.{IsFirstOne, IsFirstPair, IsFirstTriple, OutputCame, OutputMisses, RecordCame, RecordMisses, RowCame, RowMisses};
 
 use crate::receipt::is_missing;
+use byz_world::{Output, Row};
 use host_types::ReplicaId;
-use replica_core::{Output, Row};
 
 /// A message that has not come: an output of a replica, which no row of another one's record received that it is for.
 #[derive(Clone, Copy, Debug, PartialEq, Eq)]
@@ -19,6 +19,32 @@ pub struct Missing {
     pub output: usize,
     /// In whose record it is missing.
     pub to: ReplicaId,
+}
+
+impl Missing {
+    /// The output that it names, in the first record of its sender's id; none where no such record, row or output is there.
+    pub fn output<'a>(&self, records: &'a [(ReplicaId, Vec<Row>)]) -> Option<&'a Output>
+        ensures { option_copied result ≡ output_named records.now self.now }
+    {
+        match record_of(records, self.from) {
+            Some(record) => output_at(&record.1, self.row, self.output),
+            None => None,
+        }
+    }
+}
+
+/// The first record of this id.
+fn record_of(records: &[(ReplicaId, Vec<Row>)], id: ReplicaId) -> Option<&(ReplicaId, Vec<Row>)>
+    ensures { option_copied result ≡ find (λ f. f.0.0 == id.0) records.now }
+{
+    records.iter().find(|record| record.0 == id)
+}
+
+/// The output at this place of the row at that one.
+fn output_at(rows: &[Row], row: usize, output: usize) -> Option<&Output>
+    ensures { option_copied result ≡ output_in rows.now row output }
+{
+    rows.get(row)?.outputs().get(output)
 }
 
 /// The first message that is missing, over the records in order, their rows, the outputs of these, and the records that each is for;

@@ -1,15 +1,14 @@
 //! Whether a message came to a replica that it is for.
 
 ghost use Rattle.std.specs.Prelude.{◌≡◌, ◌↔◌, IsTrue, map};
-ghost use Rattle.pbft_agreement.specs.Journals.{HasReceived};
-ghost use Rattle.pbft_model.specs.Rows.{Received};
+ghost use Rattle.byz_world.specs.Journals.{HasReceived};
+ghost use Rattle.byz_world.specs.Rows.{Received};
 ghost use Rattle.pbft_progress.specs.Progress.{IsFor};
-ghost use Rattle.replica_core.specs.Facts.{destination_of, input_of, row_of};
+ghost use Rattle.byz_world.specs.Facts.{destination_of, input_of, row_of};
 ghost use Rattle.drained_records.specs.Coming.{HasCome, IsMissing};
 
+use byz_world::{Checked, Dest, Input, Output, Row};
 use host_types::ReplicaId;
-use replica_core::{Dest, Input, Output, Row};
-use seal::Checked;
 
 /// Whether what a replica gave is missing in this record.
 pub fn is_missing(from: ReplicaId, output: &Output, to: &(ReplicaId, Vec<Row>)) -> bool

@@ -11,10 +11,9 @@ use lms_tree::Signer;
 use script_text::Script;
 use std::io::Read;
 use std::sync::Arc;
-use world_script::{
-    Event, KeySources, Outcome, Report, WorldFault, read_input, read_script, run_world,
+use world_tests::{
+    Event, KeySources, Outcome, Report, WorldFault, are_listed, read_input, read_script, run_world,
 };
-use world_tests::are_listed;
 
 /// Where no script is given: two requests of a client, and a timeout.
 const SMALL: &str = "\

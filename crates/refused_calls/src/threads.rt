@@ -3,8 +3,8 @@
 
 ghost use Rattle.std.specs.Prelude.{◌≡◌, ◌⊎◌, ◌↔◌, length, map, IfErr, IfOk, IsErrOf};
 ghost use Rattle.host_types.specs.Configuration.{replicas_for};
-ghost use Rattle.replica_threads.specs.Hosts.{AgreeAtClose, AreIdsFrom, HaveKeys};
-ghost use Rattle.replica_threads.specs.declared.fault.HostFault.TheVariants as faults;
+ghost use Rattle.host_client.specs.Hosts.{AgreeAtClose, AreIdsFrom, HaveKeys};
+ghost use Rattle.host_client.specs.HostFault.TheVariants as faults;
 
 mod said;
 mod station;
@@ -21,7 +21,7 @@ use lms_tree::Signer;
 use std::alloc::Global;
 use std::sync::{Arc, Wait};
 use std::thread::Threads;
-use world_script::Row;
+use world_tests::Row;
 
 /// The rows that a journal has room for.
 const LIMIT: u32 = 1_000;

@@ -1,5 +1,6 @@
 mod Unless
 mod Documents
 mod Counting
+mod Ordering
 pub mod TextFaults
 mod Items

@@ -1,5 +1,6 @@
 pub mod Heads
 pub mod Naming
+pub mod Orders
 pub mod Scripts
 pub mod Steps
 pub mod Dialects

@@ -377,6 +377,7 @@ step_named t files count faulty clients earlier members =
     else if bytes_eq t (codes "upgrade") then upgrade_in members
     else if bytes_eq t (codes "expect") then expect_in members
     else if bytes_eq t (codes "audit") then bare printouts.Audit members
+    else if bytes_eq t (codes "drained") then bare printouts.Drained members
     else Err WrongValue
 
 -- ---- steps that name a message
@@ -404,6 +405,7 @@ printout_name printouts.Digest = codes "digest"
 printout_name (printouts.State id) = codes "state"
 printout_name (printouts.Upgrade bytes) = codes "upgrade"
 printout_name printouts.Audit = codes "audit"
+printout_name printouts.Drained = codes "drained"
 
 -- what the `do` of a step has
 abbrev pub step_name : Step → List ℕ

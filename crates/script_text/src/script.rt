@@ -13,6 +13,26 @@ pub struct Script {
     pub steps: Sequence<NamedStep>,
 }
 
+impl Script {
+    ghost use Rattle.std.specs.Prelude.{◌≡◌};
+    ghost use Rattle.script_text.specs.Orders.{ordered};
+
+    /// The script under a seed: each of its `deliver` steps has the seed as its order, whatever its own was.
+    pub fn ordered(self, seed: u64) -> Script
+        ensures { result ≡ ordered seed self }
+    {
+        let Script { head, steps } = self;
+        let mut steps = steps.into_vec();
+        for named in steps.iter_mut() {
+            named.step.order_by(seed);
+        }
+        Script {
+            head,
+            steps: Sequence::from_vec(steps),
+        }
+    }
+}
+
 /// Which messages of the queue are meant. A list that is left out matches every message.
 #[derive(Drop)]
 pub struct Filter {
@@ -113,7 +133,17 @@ pub enum Step {
 
 impl Step {
     ghost use Rattle.std.specs.Prelude.{◌≡◌};
+    ghost use Rattle.script_text.specs.Orders.{ordered_step};
     ghost use Rattle.script_text.specs.Steps.{step_name};
+
+    /// Gives a `deliver` this order, whatever its own was. Any other step stays as it is.
+    pub fn order_by(&mut self, seed: u64)
+        ensures { self.new ≡ ordered_step seed self.old }
+    {
+        if let Step::Deliver { order, .. } = self {
+            *order = Some(seed);
+        }
+    }
 
     /// The step's name, which its `do` has.
     pub fn name(&self) -> &'static str
@@ -182,6 +212,8 @@ pub enum Printout {
     Upgrade(ScriptBytes),
     /// Whether the rows of the correct replicas agree so far.
     Audit,
+    /// Whether each message has come that a correct replica gave for another one.
+    Drained,
 }
 
 impl Printout {
@@ -199,6 +231,7 @@ impl Printout {
             Printout::State(_) => "state",
             Printout::Upgrade(_) => "upgrade",
             Printout::Audit => "audit",
+            Printout::Drained => "drained",
         }
     }
 }

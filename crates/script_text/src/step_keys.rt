@@ -81,6 +81,7 @@ pub const STEP_FORMS: &str =
   do = "upgrade"   bytes = hex
   do = "expect"    lines = a list of lines, or a text
   do = "audit"
+  do = "drained"
 "#;
 
 /// What the keys of steps take, in lines as those of `HEAD_HINTS`: of one step, by its name, or of all others that have the
@@ -264,6 +265,7 @@ fn read_named_step(
         "upgrade" => read_upgrade(alloc, table),
         "expect" => read_expect(alloc, table),
         "audit" => read_bare(table, Printout::Audit),
+        "drained" => read_bare(table, Printout::Drained),
         _ => Err(TableFault::WrongValue),
     }
 }

@@ -8,11 +8,13 @@ ghost use Rattle.client_session.specs.Sessions.{accepted_by, offered};
 ghost use Rattle.seal.specs.Opening.{opening};
 ghost use Rattle.world_queue.specs.Effects.{Offers, Requests, fresh_session, fresh_sessions};
 ghost use Rattle.world_queue.specs.Parties.{accepted_now, is_of, key_of};
+ghost use Rattle.world_queue.specs.Waiting.{first_open, open_time};
 
 use crate::lines::line_of_reply;
 use client_session::{Session, SessionFault};
 use host_types::{Bytes, ClientEntry, ClientId, Config};
 use lms_tree::Signer;
+use pbft_codec::Body;
 use seal::{Checked, SealFault, open};
 use std::alloc::{AllocError, Global};
 use std::sync::Arc;
@@ -89,12 +91,38 @@ impl Sessions {
         Ok(text)
     }
 
+    /// The first client, in the order of the configuration, whose request is open, and that request's time: its last one, as long
+    /// as no reply to it is accepted.
+    pub fn first_open(&self) -> Option<(ClientId, u64)>
+        ensures { result ≡ first_open self.now.sessions.items }
+    {
+        for session in &self.sessions {
+            if let Some(time) = open_time(session) {
+                return Some((session.client(), time));
+            }
+        }
+        None
+    }
+
     fn index_of(&self, client: ClientId) -> Option<usize>
         ensures { result ≡ position (is_of client) self.now.sessions.items }
     {
         self.sessions
             .iter()
             .position(|session| session.client() == client)
+    }
+}
+
+/// The time of a client's open request.
+fn open_time(session: &Session) -> Option<u64>
+    ensures { result ≡ open_time session.now }
+{
+    if session.accepted().is_some() {
+        return None;
+    }
+    match session.last_request()?.body() {
+        Body::Request(request) => Some(request.time),
+        _ => None,
     }
 }
 

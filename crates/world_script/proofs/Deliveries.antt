@@ -5,10 +5,10 @@ use Rattle.host_types.specs.Configuration.{replicas_for}
 use Rattle.host_types.specs.declared.ReplicaId.{ReplicaId}
 use Rattle.seal.specs.Opening.{CheckedMessage, opening}
 use Rattle.seal.specs.declared.fault.SealFault.{SealFault}
-use Rattle.byz_world.specs.Facts.{RowFacts}
-use Rattle.byz_world.specs.declared.fault.WorldFault.TheVariants as faults
-use Rattle.byz_world.specs.Worlds.{Answer, Delivers, Gives, Refuses, Where, WorldFacts}
-use Rattle.byz_world.specs.declared.event.Event.TheVariants as events
+use Rattle.drained_records.specs.Facts.{RowFacts}
+use Rattle.drained_records.specs.WorldFault.TheVariants as faults
+use Rattle.drained_records.specs.Worlds.{Answer, Delivers, Gives, Refuses, Where, WorldFacts}
+use Rattle.drained_records.specs.Event.TheVariants as events
 use Rattle.world_script.specs.Parts.{Happened}
 use Rattle.world_script.specs.Stages as stages
 use Rattle.world_script.specs.Facts.{StageFacts}

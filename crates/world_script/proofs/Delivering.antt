@@ -9,7 +9,7 @@ use Rattle.host_types.specs.declared.ClientId.{ClientId}
 use Rattle.host_types.specs.declared.ReplicaId.{ReplicaId}
 use Rattle.seal.specs.Opening.{CheckedMessage, opening}
 use Rattle.seal.specs.declared.fault.SealFault.{SealFault}
-use Rattle.byz_world.specs.Worlds.{Where}
+use Rattle.drained_records.specs.Worlds.{Where}
 use Rattle.script_text.specs.declared.script.Filter.{Filter}
 use Rattle.script_text.specs.Node.{Node}
 use Rattle.script_text.specs.Node.TheVariants.{Replica, Client}

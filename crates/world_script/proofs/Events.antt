@@ -4,9 +4,9 @@ use Rattle.std.specs.Prelude.{Result}
 use Rattle.host_types.specs.declared.ReplicaId.{ReplicaId}
 use Rattle.seal.specs.Opening.{CheckedMessage, opening}
 use Rattle.seal.specs.declared.fault.SealFault.{SealFault}
-use Rattle.byz_world.proofs.RunLaws.{runs_lead, sound_worlds}
-use Rattle.byz_world.specs.Worlds.{Runs, Where, WorldFacts, first_world}
-use Rattle.byz_world.specs.declared.event.Event.{Event}
+use Rattle.drained_records.proofs.RunLaws.{runs_lead, sound_worlds}
+use Rattle.drained_records.specs.Worlds.{Runs, Where, WorldFacts, first_world}
+use Rattle.drained_records.specs.Event.{Event}
 use Rattle.world_queue.specs.Sessions.{SessionState}
 use Rattle.host_types.specs.declared.ClientId.{ClientId}
 use Rattle.script_text.specs.Scripts.{script_for}

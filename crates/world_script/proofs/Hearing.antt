@@ -15,13 +15,13 @@ use Rattle.seal.specs.Parts.{messages_in}
 use Rattle.seal.specs.Signers.{IsAuthentic, first_fault}
 use Rattle.seal.specs.declared.fault.SealFault.{SealFault}
 use Rattle.seal.proofs.Authenticity.{all_authentic}
-use Rattle.byz_world.specs.Input.{Input}
-use Rattle.byz_world.specs.Input.TheVariants as inputs
-use Rattle.byz_world.specs.Output.{Output}
-use Rattle.byz_world.specs.Worlds as worlds
-use Rattle.byz_world.specs.Worlds.{Answer, Comes, Forwards, Gives, Hands, MemberFacts, Passes as PassesBy, Where, WorldFacts, member_of, output_of}
-use Rattle.byz_world.specs.declared.event.Event.{Event}
-use Rattle.byz_world.specs.declared.event.Event.TheVariants as events
+use Rattle.drained_records.specs.Input.{Input}
+use Rattle.drained_records.specs.Input.TheVariants as inputs
+use Rattle.drained_records.specs.Output.{Output}
+use Rattle.drained_records.specs.Worlds as worlds
+use Rattle.drained_records.specs.Worlds.{Answer, Comes, Forwards, Gives, Hands, MemberFacts, Passes as PassesBy, Where, WorldFacts, member_of, output_of}
+use Rattle.drained_records.specs.Event.{Event}
+use Rattle.drained_records.specs.Event.TheVariants as events
 use Rattle.world_queue.specs.Sessions.{SessionState, offered}
 use Rattle.script_text.specs.Client.{Client}
 use Rattle.script_text.specs.declared.script.Filter.{Filter}

@@ -10,7 +10,7 @@ use Rattle.host_types.specs.Configuration.{Configuration, IsConfiguration, fault
 use Rattle.host_types.specs.declared.config.ClientEntry.{ClientEntry}
 use Rattle.host_types.specs.declared.config.ConfigFault.{ConfigFault}
 use Rattle.host_types.specs.declared.config.ConfigFault.TheVariants.{BadF, WrongReplicaCount, BadInterval, TooMany, DuplicateClient}
-use Rattle.byz_world.specs.Worlds.{AreListed, correct_ids}
+use Rattle.drained_records.specs.Worlds.{AreListed, correct_ids}
 use Rattle.script_text.specs.Forms.{only_keys, pair_of}
 use Rattle.script_text.specs.Heads.{HeadFacts, IsLegal, byte_of, head_from, head_in, head_keys, head_of, head_read, keyless, keyless_configuration, listed_clients, needed_head, optional_head}
 use Rattle.script_text.specs.Scripts.{document, script_from, script_for, script_in, script_with, steps_in, listed_steps}

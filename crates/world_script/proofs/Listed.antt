@@ -7,7 +7,7 @@ use Rattle.host_types.specs.Configuration.{Configuration, IsConfiguration, repli
 use Rattle.host_types.specs.declared.key.PublicKey.{PublicKey}
 use Rattle.lms_tree.specs.Keys.{IsKeyOf}
 use Rattle.lms_tree.specs.SigningState.{SigningState}
-use Rattle.byz_world.specs.Worlds.{AreListed, correct_ids}
+use Rattle.drained_records.specs.Worlds.{AreListed, correct_ids}
 use Rattle.world_script.specs.Keys.{correct_from}
 use Rattle.world_queue.specs.Parties.{key_of}
 

@@ -1,6 +1,6 @@
 -- Statement: a stage, which is what a running script holds.
 use Rattle.std.specs.Prelude.{List}
-use Rattle.byz_world.specs.Worlds.{WorldFacts}
+use Rattle.drained_records.specs.Worlds.{WorldFacts}
 use Rattle.world_queue.specs.Sessions.{SessionState}
 use Rattle.world_queue.specs.declared.forging.Forger.{Forger}
 use Rattle.world_script.specs.declared.made.Made.{Made}

@@ -12,9 +12,10 @@ pub mod Scripts
 pub mod Stages
 pub mod Starts
 pub mod Writing
-pub use Rattle.byz_world.specs.Worlds
+pub use Rattle.drained_records.specs.Worlds
 pub use Rattle.world_queue.specs.Changes
 pub use Rattle.world_queue.specs.Effects
 pub use Rattle.world_queue.specs.Letters
 pub use Rattle.world_queue.specs.Lines
 pub use Rattle.world_queue.specs.Parties
+pub use Rattle.world_queue.specs.Waiting

@@ -12,9 +12,9 @@ use Rattle.script_text.specs.declared.script.Step.TheVariants as steps
 use Rattle.script_text.specs.Node.TheVariants.{Client}
 use Rattle.sha2.specs.Sha256.{sha256}
 use Rattle.world_queue.specs.Letters.{LetterFacts, copies, first_meant, letter_of}
-use Rattle.byz_world.specs.Facts.{RowFacts}
-use Rattle.byz_world.specs.Worlds.{Gives, WorldFacts, member_of}
-use Rattle.byz_world.specs.declared.event.Event.{Event}
+use Rattle.drained_records.specs.Facts.{RowFacts}
+use Rattle.drained_records.specs.Worlds.{Gives, WorldFacts, member_of}
+use Rattle.drained_records.specs.Event.{Event}
 use Rattle.world_script.specs.Facts.{StageFacts}
 use Rattle.world_script.specs.Stages.{Delivers, Prints, halt_in, lacked_memory, letters_in, queued, receivers}
 

@@ -4,9 +4,9 @@ use Rattle.std.specs.List.{AllByRecursion}
 use Rattle.host_types.specs.Configuration.{Configuration}
 use Rattle.host_types.specs.declared.ReplicaId.{ReplicaId}
 use Rattle.lms_tree.specs.SigningState.{SigningState}
-use Rattle.byz_world.specs.Leading.{IsSoundWorld}
-use Rattle.byz_world.specs.Worlds.{Runs, first_world}
-use Rattle.byz_world.specs.declared.event.Event.{Event}
+use Rattle.drained_records.specs.Leading.{IsSoundWorld}
+use Rattle.drained_records.specs.Worlds.{Runs, first_world}
+use Rattle.drained_records.specs.Event.{Event}
 use Rattle.world_queue.specs.Accepted.{HasHeard as HasHeardSince}
 use Rattle.world_queue.specs.Sessions.{SessionState}
 use Rattle.script_text.specs.Heads.{HeadFacts}

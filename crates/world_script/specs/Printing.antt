@@ -9,15 +9,20 @@ use Rattle.service_model.specs.Decoding.{Decodes}
 use Rattle.service_model.specs.Encoding.{encoded}
 use Rattle.service_model.specs.TenantStates.{Service}
 use Rattle.sha2.specs.Sha256.{sha256}
-use Rattle.byz_world.specs.Core.{Core}
-use Rattle.byz_world.specs.Facts.{RowFacts}
-use Rattle.byz_world.specs.Halts as halts
-use Rattle.byz_world.specs.Halt.{Halt}
-use Rattle.byz_world.specs.Status.{Status}
-use Rattle.byz_world.specs.Audits.{IsAudit}
-use Rattle.byz_world.specs.Worlds.{MemberFacts, WorldFacts, member_of}
-use Rattle.byz_world.specs.declared.audit_fault.AuditFault.{AuditFault}
-use Rattle.byz_world.specs.declared.history.Execution.{Execution}
+use Rattle.drained_records.specs.Core.{Core}
+use Rattle.drained_records.specs.Facts.{RowFacts}
+use Rattle.drained_records.specs.Halts as halts
+use Rattle.drained_records.specs.Halt.{Halt}
+use Rattle.drained_records.specs.Status.{Status}
+use Rattle.drained_records.specs.Audits.{IsAudit}
+use Rattle.drained_records.specs.Coming.{IsFirstMissing, Record, output_named}
+use Rattle.drained_records.specs.Output.{Output}
+use Rattle.drained_records.specs.declared.missing.Missing.{Missing}
+use Rattle.pbft_codec.specs.Encoding.{encoding}
+use Rattle.script_text.specs.Kinds.{kind_of_body, kind_text}
+use Rattle.drained_records.specs.Worlds.{MemberFacts, WorldFacts, member_of}
+use Rattle.drained_records.specs.AuditFault.{AuditFault}
+use Rattle.drained_records.specs.Execution.{Execution}
 use Rattle.script_text.specs.declared.script.Printout.{Printout}
 use Rattle.script_text.specs.declared.script.Printout.TheVariants as printouts
 use Rattle.world_script.specs.declared.stage.printing.ReplicaLine.{ReplicaLine}
@@ -25,8 +30,8 @@ use Rattle.world_script.specs.declared.stage.printing.ReplicaLine.TheVariants as
 use Rattle.world_script.specs.Facts.{StageFacts}
 use Rattle.world_queue.specs.Letters.{is_meant}
 use Rattle.world_queue.specs.Lines.{letter_line}
-use Rattle.byz_world.specs.Faults.{audit_name_of, audit_number_of}
-use Rattle.byz_world.specs.declared.audit_fault.AuditFault.TheVariants as audits
+use Rattle.drained_records.specs.Faults.{audit_name_of, audit_number_of}
+use Rattle.drained_records.specs.AuditFault.TheVariants as audits
 
 -- ---- what `show` prints
 
@@ -131,6 +136,37 @@ records_of w = map (λ (m : MemberFacts). m.rows) w.members
 abbrev pub Audits : WorldFacts → List ℕ → Type 0
 Audits w text = (answer : Result (List Execution) AuditFault) × IsAudit (records_of w) answer × IsAuditLine answer text
 
+-- ---- what `drained` prints
+
+-- The records of a world: of each correct replica its id, and its rows so far.
+pub record AreRecordsIn (w : WorldFacts) (records : List Record) : Type 0 where
+  pub ids : map (λ r. r.0.0) records ≡ map (λ (m : MemberFacts). m.replica.me) w.members
+  pub rows : map (λ r. r.1.items) records ≡ records_of w
+
+-- that no message is missing; else the one that is: who gave it, to whom it has not come, its kind and its bytes
+abbrev pub all_came_line : List ℕ
+all_came_line = codes "drained yes\n"
+
+abbrev pub missing_line : Missing → Output → List ℕ
+missing_line m o =
+    codes "drained no " ++ (decimal m.from.0 ++ (codes " " ++ (decimal m.to.0 ++ (codes " " ++ (kind_text (kind_of_body o.message.message.body)
+    ++ (codes " " ++ (encode_lower (encoding o.message.message) ++ codes "\n")))))))
+
+abbrev pub missing_text : Missing → Option Output → List ℕ
+missing_text m None = []
+missing_text m (Some o) = missing_line m o
+
+abbrev pub drained_text : List Record → Option Missing → List ℕ
+drained_text records None = all_came_line
+drained_text records (Some m) = missing_text m (output_named records m)
+
+-- What is printed of records: the first message that is missing among them, if one is.
+abbrev pub IsDrainedLine : List Record → List ℕ → Type 0
+IsDrainedLine records text = (missing : Option Missing) × IsFirstMissing records missing × (text ≡ drained_text records missing)
+
+abbrev pub Drains : WorldFacts → List ℕ → Type 0
+Drains w text = (records : List Record) × AreRecordsIn w records × IsDrainedLine records text
+
 -- ---- all of them
 
 -- the ids of the replicas, ascending
@@ -145,3 +181,4 @@ Shows s printouts.Digest text = text ≡ flat_map (line_printed lines.Digest s.w
 Shows s (printouts.State id) text = text ≡ state_printed s.world id
 Shows s (printouts.Upgrade bytes) text = Upgrades s.world.config bytes text
 Shows s printouts.Audit text = Audits s.world text
+Shows s printouts.Drained text = Drains s.world text

@@ -11,15 +11,15 @@ use Rattle.pbft_codec.specs.Encoding.{signed_text}
 use Rattle.seal.specs.Opening.{CheckedMessage, opening}
 use Rattle.seal.specs.declared.fault.SealFault.{SealFault}
 use Rattle.sha2.specs.Sha256.{sha256}
-use Rattle.byz_world.specs.Facts.{RowFacts}
-use Rattle.byz_world.specs.Halt.{Halt}
-use Rattle.byz_world.specs.Halt.TheVariants as halts
-use Rattle.byz_world.specs.Dest.{Dest}
-use Rattle.byz_world.specs.Dest.TheVariants as dests
-use Rattle.byz_world.specs.Output.{Output}
-use Rattle.byz_world.specs.Worlds.{Gives, MemberFacts, Where, WorldFacts, member_of}
-use Rattle.byz_world.specs.declared.event.Event.{Event}
-use Rattle.byz_world.specs.declared.event.Event.TheVariants as events
+use Rattle.drained_records.specs.Facts.{RowFacts}
+use Rattle.drained_records.specs.Halt.{Halt}
+use Rattle.drained_records.specs.Halt.TheVariants as halts
+use Rattle.drained_records.specs.Dest.{Dest}
+use Rattle.drained_records.specs.Dest.TheVariants as dests
+use Rattle.drained_records.specs.Output.{Output}
+use Rattle.drained_records.specs.Worlds.{Gives, MemberFacts, Where, WorldFacts, member_of}
+use Rattle.drained_records.specs.Event.{Event}
+use Rattle.drained_records.specs.Event.TheVariants as events
 use Rattle.world_queue.specs.Sessions.{SessionState, next_request}
 use Rattle.script_text.specs.declared.script.Filter.{Filter}
 use Rattle.script_text.specs.declared.script.ForgedMessage.{ForgedMessage}

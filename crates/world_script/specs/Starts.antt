@@ -4,7 +4,7 @@ use Rattle.std.specs.FinSet as set
 use Rattle.std.specs.Ordering.{nat_cmp}
 use Rattle.host_types.specs.declared.ReplicaId.{ReplicaId}
 use Rattle.lms_tree.specs.SigningState.{SigningState}
-use Rattle.byz_world.specs.Worlds.{first_world}
+use Rattle.drained_records.specs.Worlds.{first_world}
 use Rattle.world_queue.specs.Sessions.{SessionState, session_behind}
 use Rattle.script_text.specs.Heads.{HeadFacts}
 use Rattle.script_text.specs.Client.{Client}

@@ -3,7 +3,7 @@
 ghost use Rattle.std.specs.Prelude.{IfOk, string_bytes};
 ghost use Rattle.world_script.specs.Printing.{IsAuditLine};
 
-use byz_world::{AuditFault, History};
+use drained_records::{AuditFault, History};
 use std::alloc::{AllocError, Global};
 
 /// What an audit found: the greatest number that was executed, or a fault. The error is that memory ran out, here or at

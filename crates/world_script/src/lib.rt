@@ -9,6 +9,7 @@
 #![tactic(auto)]
 
 mod auditing;
+mod draining;
 mod expecting;
 mod fault;
 mod input;
@@ -22,7 +23,7 @@ mod stage;
 mod writing;
 
 pub use auditing::line_of_audit;
-pub use byz_world::{
+pub use drained_records::{
     AuditFault, Dest, Done, Event, Halt, History, Input, Outcome, Output, Replica, Report, Row,
     Status, World, WorldFault, audit, run_world,
 };

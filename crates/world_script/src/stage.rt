@@ -5,7 +5,7 @@ mod printing;
 
 ghost use Rattle.std.specs.Prelude.{◌≡◌, ◌<◌, ◌++◌, None, Some, IfOk, IfSome, OnOk, is_some, find, flat_map, length, map, option_copied, option_map, string_bytes};
 ghost use Rattle.std.specs.FinSet as set;
-ghost use Rattle.byz_world.specs.Worlds.{first_world, member_of};
+ghost use Rattle.drained_records.specs.Worlds.{first_world, member_of};
 ghost use Rattle.world_script.specs.Starts.{forgers_from, numbers_of, start_of};
 ghost use Rattle.script_text.specs.declared.script.Step.TheVariants as steps;
 ghost use Rattle.script_text.specs.Node.TheVariants as nodes;
@@ -13,7 +13,8 @@ ghost use Rattle.world_script.specs.Endings.{Ends};
 ghost use Rattle.world_script.specs.Keys.{correct_from, keys_of};
 ghost use Rattle.world_queue.specs.Parties.{key_of};
 ghost use Rattle.world_queue.specs.Letters.{copies, first_meant, meant_count};
-ghost use Rattle.byz_world.specs.declared.event.Event.TheVariants as events;
+ghost use Rattle.world_queue.specs.Waiting.{first_open};
+ghost use Rattle.drained_records.specs.Event.TheVariants as events;
 ghost use Rattle.world_script.specs.Parts.{DeliversNext, Performs, Happened, HasMore, ahead, with_message};
 ghost use Rattle.pbft_codec.specs.declared.body.Body.TheVariants as bodies;
 ghost use Rattle.pbft_codec.specs.declared.body.request.RequestBody.{RequestBody};
@@ -26,7 +27,7 @@ use crate::keys::KeySources;
 use crate::made::Made;
 use crate::progress::{Progress, Unwatched};
 use crate::writing::write_text;
-use byz_world::{Dest, Event, Halt, Output, Row, World};
+use drained_records::{Dest, Event, Halt, Output, Row, World};
 use host_types::{Bytes, ClientId, Config, Digest, ReplicaId, ReplicaSet};
 use lms_tree::Signer;
 use pbft_codec::Body;
@@ -278,6 +279,14 @@ impl Stage {
         ensures { result ≡ is_some (find (is_request (client, time)) self.now.made) }
     {
         find_made(&self.made, client, time).is_some()
+    }
+
+    /// The first client, as the script lists them, whose request is open, and that request's time: its last one, as long as no
+    /// reply to it is accepted.
+    pub fn first_open(&self) -> Option<(ClientId, u64)>
+        ensures { result ≡ first_open self.now.sessions }
+    {
+        self.sessions.first_open()
     }
 
     // ---- names

@@ -24,3 +24,7 @@ mod scripts;
 
 pub use held::{files_in, script_with};
 pub use listed::are_listed;
+pub use world_script::{
+    Dest, Done, Event, Halt, Input, KeySources, Keys, Outcome, Output, Report, Row, Stage, Status,
+    WorldFault, read_input, read_script, run_world,
+};

@@ -7,7 +7,7 @@ use crate::evidence::Evidence;
 use crate::runner::Runner;
 use crate::watcher::Watcher;
 use conflicts::Claim;
-use host_types::ReplicaId;
+use host_types::{ClientId, ReplicaId};
 use script_text::{NamedStep, Node, Script, ScriptFault, ScriptKind};
 use std::alloc::{AllocError, Global};
 use world_chart::Cause;
@@ -20,13 +20,25 @@ pub struct Seeds {
     pub end: u64,
 }
 
+/// What is to hold behind a script's steps.
+#[derive(Clone, Copy, Debug, PartialEq, Eq)]
+pub enum Wanted {
+    /// The rows of the correct replicas agree.
+    Agreement,
+    /// They agree, and no client's request is open.
+    Answers,
+}
+
 /// What came of a script under one order of its deliveries.
 #[derive(Clone, Copy, Debug, PartialEq, Eq)]
 pub enum Outcome {
-    /// All its steps ran, and the rows of the correct replicas agree.
+    /// All its steps ran, and what is wanted holds.
     Agreed,
     /// All its steps ran, and the rows don't agree.
     Audited(AuditFault),
+    /// All its steps ran, and the rows agree; this client, the first as the script lists them, has an open request, of this
+    /// time.
+    Unanswered { client: ClientId, time: u64 },
     /// The `expect` of this step found other lines; of its own, or behind them, this is the first that differs.
     Unexpected { step: u32, line: usize },
     /// It ended early.
@@ -43,13 +55,14 @@ pub struct Explored {
     pub printed: Vec<u8>,
 }
 
-/// Runs a script with all its deliveries in the order that a seed draws, and audits. The keys are its head's, which were
-/// made before. The error is that memory ran out.
+/// Runs a script with all its deliveries in the order that a seed draws, and sees whether what is wanted holds then. The keys are
+/// its head's, which were made before. The error is that memory ran out.
 pub fn explore_seed(
     alloc: Global,
     script: &Script,
     sources: &KeySources,
     seed: u64,
+    wanted: Wanted,
 ) -> Result<Explored, AllocError>
     requires { sources.now ≡ keys_of script.now.head }
 {
@@ -57,7 +70,10 @@ pub fn explore_seed(
     let mut listener = Listener {
         evidence: Evidence::new(alloc),
     };
-    let outcome = outcome_of(alloc, script, seed, &mut runner, &mut listener)?;
+    let outcome = match early_end(alloc, script, seed, &mut runner, &mut listener)? {
+        Some(outcome) => outcome,
+        None => outcome_of(&runner.stage, wanted)?,
+    };
     let printed = match outcome {
         Outcome::Unexpected { .. } => Vec::from_slice(alloc, runner.unread())?,
         _ => Vec::new(alloc),
@@ -69,25 +85,34 @@ pub fn explore_seed(
     })
 }
 
-/// Runs the steps of a script, and audits.
-fn outcome_of(
+/// Runs the steps of a script. How it ends before the last one is done, if it does.
+fn early_end(
     alloc: Global,
     script: &Script,
     seed: u64,
     runner: &mut Runner,
     listener: &mut Listener,
-) -> Result<Outcome, AllocError> {
+) -> Result<Option<Outcome>, AllocError> {
     let mut number: u32 = 0;
     for step in script.steps.as_slice() {
         number = number.saturating_add(1);
         if let Some(outcome) = early_outcome(alloc, runner, number, step, seed, listener)? {
-            return Ok(outcome);
+            return Ok(Some(outcome));
         }
     }
-    match runner.stage.world().audit() {
-        Ok(_) => Ok(Outcome::Agreed),
-        Err(AuditFault::Memory) => Err(AllocError),
-        Err(fault) => Ok(Outcome::Audited(fault)),
+    Ok(None)
+}
+
+/// What has come of a script whose steps ran to this stage.
+fn outcome_of(stage: &Stage, wanted: Wanted) -> Result<Outcome, AllocError> {
+    match stage.world().audit() {
+        Ok(_) => {}
+        Err(AuditFault::Memory) => return Err(AllocError),
+        Err(fault) => return Ok(Outcome::Audited(fault)),
+    }
+    match (wanted, stage.first_open()) {
+        (Wanted::Answers, Some((client, time))) => Ok(Outcome::Unanswered { client, time }),
+        _ => Ok(Outcome::Agreed),
     }
 }
 

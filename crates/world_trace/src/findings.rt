@@ -3,7 +3,7 @@
 ghost use Rattle.std.specs.Prelude.{◌≡◌};
 ghost use Rattle.world_script.specs.Keys.{keys_of};
 
-use crate::explore::{Explored, Outcome, Seeds, explore_seed};
+use crate::explore::{Explored, Outcome, Seeds, Wanted, explore_seed};
 use conflicts::Claim;
 use script_text::{Script, ScriptFault, ScriptKind, Step};
 use std::alloc::{AllocError, Global};
@@ -13,28 +13,35 @@ use std::thread::{self, Threads};
 use world_chart::{Happening, line_of};
 use world_script::{KeySources, Progress, RunFault, report, write_text};
 
+/// What is searched: under which seeds what holds behind the script's steps.
+#[derive(Clone, Copy, Debug, PartialEq, Eq)]
+pub struct Search {
+    pub seeds: Seeds,
+    pub wanted: Wanted,
+}
+
 /// What came of a script under all seeds.
 #[must_use]
 #[derive(Clone, Copy, Debug, PartialEq, Eq)]
 pub enum Searched {
-    /// Its steps ran, each `expect` found its lines, and the rows of the correct replicas agreed, under each seed.
+    /// Its steps ran, each `expect` found its lines, and what is wanted held, under each seed.
     Agreed,
     /// Under one seed it was not so; the line that says so is written.
     Refused,
 }
 
 /// Makes the keys of a script, and runs it under one seed after another, until one is found under which a step ends the
-/// script early, or the audit at its end finds a fault. Writes a line for it, and before it one for each two claims that blame
+/// script early, or what is wanted doesn't hold at its end. Writes a line for it, and before it one for each two claims that blame
 /// a replica, with the first seed where they were heard; and how many seeds there were, where all agreed. It tells how many
 /// keys are made, and under how many seeds the script was run.
 pub fn explore_script<O: Write, P: Progress>(
     alloc: Global,
-    seeds: Seeds,
+    search: Search,
     script: &Script,
     writer: &mut O,
     progress: &mut P,
 ) -> Result<Searched, ScriptFault> {
-    match explore_in_turn(alloc, script, seeds, writer, progress) {
+    match explore_in_turn(alloc, script, search, writer, progress) {
         Ok(searched) => Ok(searched),
         Err(fault) => Err(report(ScriptFault::at_head(fault.into()), writer)),
     }
@@ -46,12 +53,12 @@ pub fn explore_side_by_side<R: Threads + Sync, O: Write, P: Progress>(
     rt: &R,
     alloc: Global,
     workers: usize,
-    seeds: Seeds,
+    search: Search,
     script: &Script,
     writer: &mut O,
     progress: &mut P,
 ) -> Result<Searched, ScriptFault> {
-    match explore_in_batches(rt, alloc, workers, script, seeds, writer, progress) {
+    match explore_in_batches(rt, alloc, workers, script, search, writer, progress) {
         Ok(searched) => Ok(searched),
         Err(fault) => Err(report(ScriptFault::at_head(fault.into()), writer)),
     }
@@ -60,14 +67,15 @@ pub fn explore_side_by_side<R: Threads + Sync, O: Write, P: Progress>(
 fn explore_in_turn<O: Write, P: Progress>(
     alloc: Global,
     script: &Script,
-    seeds: Seeds,
+    search: Search,
     writer: &mut O,
     progress: &mut P,
 ) -> Result<Searched, RunFault> {
+    let Search { seeds, wanted } = search;
     let sources = KeySources::watched(alloc, &script.head, progress)?;
     let mut findings = Findings::new(alloc);
     for seed in seeds.first..seeds.end {
-        let explored = explore_seed(alloc, script, &sources, seed)?;
+        let explored = explore_seed(alloc, script, &sources, seed, wanted)?;
         if findings.take(seed, &explored, writer)? == Searched::Refused {
             tell_unexpected(script, &explored, progress);
             return Ok(Searched::Refused);
@@ -101,16 +109,18 @@ fn explore_in_batches<R: Threads + Sync, O: Write, P: Progress>(
     alloc: Global,
     workers: usize,
     script: &Script,
-    seeds: Seeds,
+    search: Search,
     writer: &mut O,
     progress: &mut P,
 ) -> Result<Searched, RunFault> {
+    let Search { seeds, wanted } = search;
     let sources = KeySources::watched(alloc, &script.head, progress)?;
     let mut findings = Findings::new(alloc);
     let mut next = seeds.first;
     for _ in seeds.first..seeds.end {
         let left = usize::try_from(seeds.end.saturating_sub(next)).unwrap_or(usize::MAX);
-        let batch = run_batch(rt, alloc, script, &sources, next, min(workers, left))?;
+        let count = min(workers, left);
+        let batch = run_batch(rt, alloc, script, &sources, wanted, next, count)?;
         if batch.is_empty() {
             break;
         }
@@ -133,13 +143,15 @@ fn run_batch<R: Threads + Sync>(
     alloc: Global,
     script: &Script,
     sources: &KeySources,
+    wanted: Wanted,
     first: u64,
     count: usize,
 ) -> Result<Vec<Result<Explored, AllocError>>, AllocError>
     requires { sources.now ≡ keys_of script.now.head }
 {
     let run = move |index: usize| -> Result<Explored, AllocError> {
-        explore_seed(alloc, script, sources, first.saturating_add(index as u64))
+        let seed = first.saturating_add(index as u64);
+        explore_seed(alloc, script, sources, seed, wanted)
     };
     thread::map_indices(rt, alloc, count, &run)
 }
@@ -210,7 +222,7 @@ impl Findings {
     }
 }
 
-/// The line that says why a seed ends the search; none where the replicas agreed.
+/// The line that says why a seed ends the search; none where what is wanted held.
 fn line_of_outcome(
     alloc: Global,
     seed: u64,
@@ -221,6 +233,10 @@ fn line_of_outcome(
         Outcome::Audited(fault) => {
             let number = fault.number();
             format!(in alloc; "seed {seed} audit fault {number} {fault}\n")
+        }
+        Outcome::Unanswered { client, time } => {
+            let client = client.0;
+            format!(in alloc; "seed {seed} unanswered client {client} time {time}\n")
         }
         Outcome::Unexpected { step, line } => {
             format!(in alloc; "seed {seed} expect fault step {step} line {line}\n")

@@ -19,8 +19,8 @@ mod tracer;
 mod watcher;
 
 pub use charted::{ChartForm, chart_script};
-pub use explore::{Explored, Outcome, Seeds, explore_seed};
-pub use findings::{Searched, explore_script, explore_side_by_side};
+pub use explore::{Explored, Outcome, Seeds, Wanted, explore_seed};
+pub use findings::{Search, Searched, explore_script, explore_side_by_side};
 pub use placed::PlacedScript;
 pub use queued::words_of_queued;
 pub use trace::trace_script;

@@ -1,5 +1,8 @@
 //! A script, and where its steps stand in its text.
 
+ghost use Rattle.std.specs.Prelude.{◌≡◌};
+ghost use Rattle.script_text.specs.Orders.{ordered};
+
 use script_text::{Script, lines_of_steps};
 use std::alloc::{AllocError, Global};
 
@@ -19,6 +22,18 @@ impl PlacedScript {
             Err(_) => Vec::new(alloc),
         };
         Ok(PlacedScript { script, lines })
+    }
+
+    /// The script under a seed, whose steps stand where they stood.
+    pub fn ordered(self, seed: u64) -> PlacedScript
+        ensures script { result.script ≡ ordered seed self.script }
+        ensures places { result.lines ≡ self.lines }
+    {
+        let PlacedScript { script, lines } = self;
+        PlacedScript {
+            script: script.ordered(seed),
+            lines,
+        }
     }
 
     /// The line on which the step of this number begins, where it is known.

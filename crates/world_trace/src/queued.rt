@@ -1,4 +1,4 @@
-//! What a line says of a message that waits in the queue.
+//! What a line says of a message that waits in the queue, or that has not come.
 
 use std::alloc::{AllocError, Global};
 use world_chart::{saying_in, words_of};
@@ -9,8 +9,8 @@ const NO_MESSAGE: &str = "bytes";
 /// What stands in a line for no kind.
 const NO_KIND: &str = "-";
 
-/// The words of the message that a line of the queue shows, `queue 0 1 prepare 0100..`, as a trace has them. None where the
-/// line is no such line. The error is that memory ran out.
+/// The words of the message that a line shows, of the queue, `queue 0 1 prepare 0100..`, or of a `drained`,
+/// `drained no 0 1 prepare 0100..`, as a trace has them. None where the line is no such line. The error is that memory ran out.
 pub fn words_of_queued(alloc: Global, line: &str) -> Result<Option<String>, AllocError> {
     let Some((kind, digits)) = shown_in(line) else {
         return Ok(None);
@@ -27,10 +27,9 @@ pub fn words_of_queued(alloc: Global, line: &str) -> Result<Option<String>, Allo
     }
 }
 
-/// The name of the kind and the bytes in hex of a line of the queue.
+/// The name of the kind and the bytes in hex of such a line.
 fn shown_in(line: &str) -> Option<(&str, &str)> {
-    let (word, _) = line.split_once(' ')?;
-    if word != "queue" {
+    if !line.starts_with("queue ") && !line.starts_with("drained no ") {
         return None;
     }
     let (front, digits) = line.rsplit_once(' ')?;

@@ -5,7 +5,9 @@ use crate::world::scripts::{CALLS, OPENED, SIGNED, requests};
 use anyhow::{Result, anyhow};
 use bench_common::ratio::{Comparison, Limit, require_within_limits};
 use bench_common::{Measures, ProcessorTime};
-use world_trace::{ScriptFault, Searched, Seeds, Unwatched, explore_script, read_script};
+use world_trace::{
+    ScriptFault, Search, Searched, Seeds, Unwatched, Wanted, explore_script, read_script,
+};
 
 const ROUNDS: u32 = 5;
 
@@ -38,7 +40,11 @@ fn searched_under(
 ) -> std::result::Result<Searched, ScriptFault> {
     let mut written = Vec::new(rt.alloc());
     let script = read_script(rt.alloc(), script.as_bytes())?;
-    explore_script(rt.alloc(), seeds, &script, &mut written, &mut Unwatched)
+    let search = Search {
+        seeds,
+        wanted: Wanted::Agreement,
+    };
+    explore_script(rt.alloc(), search, &script, &mut written, &mut Unwatched)
 }
 
 /// The processor's time of a seed behind the first, in nanoseconds.

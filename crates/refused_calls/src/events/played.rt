@@ -1,8 +1,8 @@
 //! The events that happen to the replicas of a script when it is played.
 
 ghost use Rattle.std.specs.Prelude.{◌<◌, ◌≡◌};
-ghost use Rattle.world_script.specs.Letters.{meant_count};
-ghost use Rattle.world_script.specs.Keys.{keys_of};
+ghost use Rattle.world_tests.specs.Letters.{meant_count};
+ghost use Rattle.world_tests.specs.Keys.{keys_of};
 
 use anyhow::{Result, anyhow};
 use host_types::{Bytes, Config, ReplicaId, ReplicaSet};
@@ -10,7 +10,7 @@ use lms_tree::Signer;
 use script_text::{Filter, Head, Node, Script, Step};
 use std::alloc::{AllocError, Global};
 use std::sync::Arc;
-use world_script::{Event, KeySources, Keys, Stage};
+use world_tests::{Event, KeySources, Keys, Stage};
 
 /// More deliveries than a script's step has.
 const MOST: u32 = 10_000;

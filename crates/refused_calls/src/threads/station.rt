@@ -5,7 +5,7 @@ ghost use Rattle.host_types.specs.Configuration.{replicas_for};
 ghost use Rattle.lms_tree.specs.Keys.{IsKeyOf};
 ghost use Rattle.pbft_codec.specs.declared.signed.Role.TheVariants as roles;
 ghost use Rattle.seal.specs.Signers.{key_of};
-ghost use Rattle.replica_threads.specs.Stations.{IsReported, counted_by};
+ghost use Rattle.host_client.specs.Stations.{IsReported, counted_by};
 
 use crate::common::gate::NoGate;
 use crate::common::rows::leading_of;
@@ -19,7 +19,7 @@ use std::marker::Brand;
 use std::sync::ledger::Blank;
 use std::sync::{Arc, Wait};
 use std::thread::Threads;
-use world_script::{Halt, Row, Status};
+use world_tests::{Halt, Row, Status};
 
 /// The replica at the station.
 const REPLICA: ReplicaId = ReplicaId(1);

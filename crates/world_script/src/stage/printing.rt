@@ -1,11 +1,12 @@
 //! What the steps print that change nothing, and the text of their lines.
 
 ghost use Rattle.std.specs.Prelude.{◌≡◌, IfOk, flat_map, string_bytes};
-ghost use Rattle.world_script.specs.Printing.{Audits, Shows, Upgrades, digest_line, digest_printed, ids_of, line_printed, no_state_line, state_line, state_printed, status_line, status_printed, upgraded_line};
+ghost use Rattle.world_script.specs.Printing.{Audits, Drains, Shows, Upgrades, digest_line, digest_printed, ids_of, line_printed, no_state_line, state_line, state_printed, status_line, status_printed, upgraded_line};
 
 use crate::auditing::line_of_audit;
+use crate::draining::line_of_drained;
 use crate::stage::Stage;
-use byz_world::{State, StateFault, Status};
+use drained_records::{State, StateFault, Status};
 use host_types::ReplicaId;
 use script_text::Printout;
 use std::alloc::{AllocError, Global};
@@ -32,6 +33,7 @@ impl Stage {
             Printout::State(id) => self.state_text(*id),
             Printout::Upgrade(bytes) => self.upgrade_text(bytes.as_slice()),
             Printout::Audit => self.audit_text(),
+            Printout::Drained => self.drained_text(),
         }
     }
 
@@ -99,6 +101,13 @@ impl Stage {
         ensures { IfOk result (λ text. Audits self.now.world (string_bytes text)) }
     {
         line_of_audit(self.alloc, &self.world.audit())
+    }
+
+    /// Whether each message has come that a correct replica gave for another one.
+    fn drained_text(&self) -> Result<String, AllocError>
+        ensures { IfOk result (λ text. Drains self.now.world (string_bytes text)) }
+    {
+        line_of_drained(self.alloc, &self.world.records()?)
     }
 }
 

@@ -1,7 +1,7 @@
 use Rattle.std.proofs.Common.{◌≡◌, ◌<◌, List, Some, length, refl, sym, subst}
 use Rattle.std.specs.Prelude.{slice_get}
 use Rattle.std.proofs.lemmas.Option.{slice_get_read}
-use Rattle.replica_core.specs.declared.row.Output.{Output}
+use Rattle.byz_world.specs.Output.{Output}
 use Rattle.drained_records.specs.Finding.{OutputCame, OutputMisses}
 use Rattle.drained_records.proofs.Finding.{first_one}
 use Rattle.drained_records.proofs.missing.first_of_output.Goals as goal

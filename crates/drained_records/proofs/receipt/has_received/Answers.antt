@@ -1,9 +1,9 @@
 use Rattle.std.proofs.Common.{◌≡◌, length, refl, sym, subst, ◌∙◌, arith}
 use Rattle.std.proofs.lemmas.Bool.{true≢false}
 use Rattle.std.proofs.lemmas.Option.{slice_get_read}
-use Rattle.pbft_model.specs.Rows.{Received}
-use Rattle.replica_core.specs.Facts.{input_of}
-use Rattle.replica_core.specs.declared.row.Input.{Input}
+use Rattle.byz_world.specs.Rows.{Received}
+use Rattle.byz_world.specs.Facts.{input_of}
+use Rattle.byz_world.specs.Input.{Input}
 use Rattle.drained_records.proofs.Receiving.{is_received, is_not_received, not_yet}
 use Rattle.drained_records.proofs.receipt.has_received.Goals as goal
 

@@ -1,7 +1,7 @@
 use Rattle.std.proofs.Common.{◌≡◌, ◌<◌, ℕ, Some}
 use Rattle.std.specs.Prelude.{slice_get}
-use Rattle.pbft_model.specs.Rows.{Received}
-use Rattle.replica_core.specs.Facts.{RowFacts, input_of}
+use Rattle.byz_world.specs.Rows.{Received}
+use Rattle.byz_world.specs.Facts.{RowFacts, input_of}
 use Rattle.drained_records.proofs.receipt.has_received.Given as goal
 
 abbrev pub invariant-loop-row : goal.invariant-loop-row

@@ -1,7 +1,7 @@
 use Rattle.std.proofs.Common.{◌≡◌, Bool, sym, ap, subst, ◌∙◌}
 use Rattle.std.specs.Bool.{Decides}
 use Rattle.std.proofs.lemmas.Slice.Eq.{bytes_eq-Decides}
-use Rattle.pbft_codec.specs.Encoding.{encoding}
+use Rattle.byz_world.specs.Encoding.{encoding}
 use Rattle.drained_records.proofs.Receiving.{same_bytes}
 use Rattle.drained_records.proofs.receipt.is_same.Goals as goal
 

@@ -3,7 +3,7 @@ use Rattle.std.specs.FinSet as set
 use Rattle.std.specs.Ordering.{nat_cmp}
 use Rattle.host_types.specs.Configuration.{Configuration}
 use Rattle.lms_tree.specs.SigningState.{SigningState}
-use Rattle.byz_world.specs.Worlds.{WorldFacts, first_world}
+use Rattle.drained_records.specs.Worlds.{WorldFacts, first_world}
 use Rattle.world_queue.specs.declared.forging.Forger.{Forger}
 use Rattle.world_script.specs.Keys.{configuration_of, correct_from, replica_signers}
 use Rattle.world_queue.specs.Effects.{fresh_sessions}

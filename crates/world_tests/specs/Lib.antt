@@ -1,0 +1,2 @@
+pub use Rattle.world_script.specs.Keys
+pub use Rattle.world_script.specs.Letters
