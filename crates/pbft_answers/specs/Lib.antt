@@ -12,6 +12,7 @@ pub use Rattle.pbft_model.specs.Duties
 pub use Rattle.pbft_model.specs.Rows
 pub use Rattle.pbft_model.specs.Histories
 pub use Rattle.pbft_model.specs.Families
+pub use Rattle.pbft_agreement.specs.Journals
 pub use Rattle.pbft_agreement.specs.Agreement
 pub use Rattle.pbft_agreement.specs.Example
 pub use Rattle.pbft_agreement.specs.Worked
