@@ -73,6 +73,18 @@ class Findings:
     messages: int = 0
     unopened: int = 0
     reached: int = 0
+    apart: int | None = None  # the least number at which replicas did different things, or one left a number out
+
+    def tell_apart(self, number: int, what: str) -> None:
+        """What was done at this number isn't as it is to be."""
+        self.differ.append(what)
+        self.apart = number if self.apart is None else min(self.apart, number)
+
+    def agreement(self) -> str:
+        """In words, how far the journals agree."""
+        if not self.differ:
+            return f"agree up to number {self.reached}"
+        return "DON'T agree" if self.apart is None else f"DON'T agree, first at number {self.apart}"
 
 
 def records_of(folders: list[Path]) -> tuple[Group, list[Record]]:
@@ -152,8 +164,8 @@ class Audit:
             self.findings.blamed.append(f"{'replica' if topic[0] == REPLICA else 'client'} {topic[1]} {what}.")
 
     def compare_done(self, records: list[Record]) -> None:
-        """What the definitions ask of whole records (byz_world/specs/Audits.antt), of one thing that was done after another: no two say
-        different things of a number, and executions rise by one."""
+        """What the definitions ask of whole records (byz_world/specs/Audits.antt; of deeds ledger_laws/specs/Audits.antt), of one thing that
+        was done after another: no two say different things of a number, and executions rise by one."""
         for record in records:
             last = 0
             for done in record.done():
@@ -169,14 +181,14 @@ class Audit:
         try:
             compared = ledger.note(done)
         except ValueError as fault:
-            self.findings.differ.append(f"replica {replica} {what} something at number {done.number} that has no digest: {fault}.")
+            self.findings.tell_apart(done.number, f"replica {replica} {what} something at number {done.number} that has no digest: {fault}.")
             return
         replicas.append(replica)
         if compared.first is not None:
             other = replicas[compared.first]
-            self.findings.differ.append(f"replicas {other} and {replica} {what} different things at number {done.number}.")
+            self.findings.tell_apart(done.number, f"replicas {other} and {replica} {what} different things at number {done.number}.")
         if not compared.follows:
-            self.findings.differ.append(f"replica {replica} executed number {done.number} behind number {last}.")
+            self.findings.tell_apart(done.number, f"replica {replica} executed number {done.number} behind number {last}.")
 
 
 def said(part: Part) -> str:
@@ -212,7 +224,6 @@ def run_audit(folders: list[Path]) -> int:
     for line in found.blamed + found.differ:
         print(line)
     who = ", ".join(str(record.replica) for record in records)
-    agreed = "agree" if not found.differ else "DON'T agree"
     blamed = "nobody is blamed" if not found.blamed else f"{len(found.blamed)} times somebody is BLAMED"
-    print(f"audit: the journals of replicas {who} {agreed} up to number {found.reached}; of {found.messages} messages, {blamed}.")
+    print(f"audit: the journals of replicas {who} {found.agreement()}; of {found.messages} messages, {blamed}.")
     return 1 if found.blamed or found.differ else 0

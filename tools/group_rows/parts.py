@@ -187,6 +187,7 @@ def compares_what_was_done() -> None:
               "replicas 3 and 4 installed different things at number 128.", "replicas 1 and 4 executed different things at number 200."]
     expect(audit.findings.differ == differ, f"the findings are {audit.findings.differ}")
     expect(audit.findings.reached == 299, f"they reached {audit.findings.reached}")
+    expect(audit.findings.apart == 128, f"they are apart first at {audit.findings.apart}")
     short = journals.Audit(Nobody())
     short.compare_done([Diary(5, [Executed(1, b"short", b"")])])
     expect(len(short.findings.differ) == 1, f"a digest of 5 bytes: {short.findings.differ}")

@@ -39,7 +39,8 @@ all_rise records = list_all (λ deeds. is_some (reached 0 deeds)) records
 
 -- ---- what ledgers remark
 
--- There is a ledger for each window of numbers, which keeps it short. That of a deed's number is told the replica's last number, and notes it.
+-- There is a ledger for each window of numbers, so that each stays short. The one of a deed's number is told the replica's last number, and
+-- notes the deed.
 abbrev pub noted : (ℕ → ℕ) → (ℕ → LedgerFacts) → ℕ → Deed → ℕ → LedgerFacts
 noted window ledgers last deed n = if n == window deed.number.0 then recorded (begun (ledgers n) last) deed else ledgers n
 
