@@ -152,6 +152,23 @@ def parties(counts: Counts) -> str:
         machines.install(100)
         machines.call(100, 10)
         machines.stop()
-        said = machines.said("audit", *[folders[f"replica-{id}"] for id in REPLICAS])
+        given = [folders[f"replica-{id}"] for id in REPLICAS]
+        said = machines.said("audit", *given)
         expect("replicas 0, 1, 2, 3 agree" in said, f"the audit says: {said}")
-        return "six parties, each with its own secrets alone; an audit of four folders agrees"
+        number = _changed(*(given[id] / f"replica-{id}/journal.sqlite" for id in (0, 2)))
+        said = machines.said("audit", *given, status=1)
+        for what in ("was changed", f"replicas 0 and 2 executed different things at number {number}.", f"DON'T agree, first at number {number};"):
+            expect(what in said, f"no {what!r} in what the audit of a changed journal says:\n{said}")
+        return "six parties, each with its own secrets alone; an audit of four folders agrees, and tells where one was changed"
+
+
+def _changed(journal: Path, changed: Path) -> int:
+    """Gives a number that two replicas have executed another result in the second one's journal."""
+    executed = "SELECT max(number) FROM done WHERE result IS NOT NULL"
+    base = sqlite3.connect(changed)
+    with base:
+        base.execute("ATTACH ? AS other", (str(journal),))
+        (number,) = base.execute(f"{executed} AND number IN (SELECT number FROM other.done WHERE result IS NOT NULL)").fetchone()
+        base.execute("UPDATE main.done SET result = zeroblob(3) WHERE number = ? AND result IS NOT NULL", (number,))
+    base.close()
+    return number

@@ -22,7 +22,7 @@ pub fn ledgers_remark_what_an_audit_asks()
 {}
 
 /// Of what correct replicas tell of an honest family's journals, each as far as it was read, nothing is remarked: none differs, and all
-/// follow. So what is remarked is no correct replica's doing: a record was changed, its replica is faulty, or a premise of agreement failed.
+/// follow. So where something is remarked, one of the records isn't a correct replica's, or a premise of agreement failed.
 pub fn nothing_is_remarked_of_correct_replicas()
     ensures agree { (c : Setup) (j : Journals) (records : List (List Deed)) → IsHonestFamily c j → AreTold c j records → Agree (all_deeds records) }
     ensures rise { (c : Setup) (j : Journals) (records : List (List Deed)) → IsHonestFamily c j → AreTold c j records → IsTrue (all_rise records) }
