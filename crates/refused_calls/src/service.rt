@@ -10,10 +10,9 @@ use crate::common::told::{begin, is_kept, leading, memory};
 use crate::service::setup::{TENANTS, apply, call, is_listed, state};
 use anyhow::{Result, anyhow};
 use host_types::Request;
-use service_core::{Outcome, State};
 use std::alloc::{AllocError, Global};
 use std::thread::Threads;
-use tenant_lanes::apply_all;
+use tenant_lanes::{Outcome, State, apply_all};
 
 /// The workers of lanes.
 const WORKERS: u8 = 2;

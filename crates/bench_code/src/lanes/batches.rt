@@ -8,11 +8,10 @@ use bench_common::operations::{EXIT, MOVE, call, installation, large_code};
 use bench_common::states::{apply, config};
 use bench_common::{Measures, NoGate};
 use host_types::{Bytes, ClientId, Request};
-use service_core::State;
 use std::alloc::{AllocError, Global};
 use std::thread::Threads;
 use std::time::{Clock, Instant};
-use tenant_lanes::apply_all;
+use tenant_lanes::{State, apply_all};
 
 /// The tenants, each with one client.
 pub(crate) const TENANTS: u32 = 8;

@@ -4,8 +4,8 @@ use crate::lanes::batches::{LARGE, SMALL, TENANTS, calls, in_lanes, in_turn, sta
 use anyhow::Result;
 use bench_common::Measures;
 use bench_common::ratio::{Comparison, Limit, require_within_limits};
-use service_core::State;
 use std::thread::{self, Threads};
+use tenant_lanes::State;
 
 /// How often each is measured; the least time counts.
 const ROUNDS: u32 = 10;

@@ -3,8 +3,8 @@
 use anyhow::Result;
 use bench_common::operations::{PUT, installation, key, put};
 use bench_common::states::{apply, config};
-use service_core::State;
 use std::alloc::{AllocError, Global};
+use tenant_lanes::State;
 use tenant_maps::{MapPort, TenantMap};
 
 /// A state whose map has so many entries, put there by one client of one tenant.

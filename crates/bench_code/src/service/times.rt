@@ -5,9 +5,9 @@ use anyhow::{Result, anyhow};
 use bench_common::Measures;
 use bench_common::operations::key;
 use bench_common::ratio::{Comparison, Limit, require_within_limits};
-use service_core::State;
 use sha2::{Digest, Sha256};
 use std::time::{Clock, Instant};
+use tenant_lanes::State;
 use tenant_maps::{MapPort, TenantMap};
 
 const ROUNDS: u32 = 40;

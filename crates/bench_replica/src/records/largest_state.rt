@@ -4,7 +4,7 @@ use anyhow::Result;
 use bench_common::operations::{PUT, call, long_installation, put};
 use bench_common::states::{apply, config};
 use host_types::Config;
-use service_core::State;
+use replica_core::State;
 use std::alloc::Global;
 use std::sync::Arc;
 

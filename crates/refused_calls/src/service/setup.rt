@@ -5,9 +5,9 @@ ghost use Rattle.host_types.specs.Configuration.{entry_of};
 
 use anyhow::{Result, anyhow};
 use host_types::{Bytes, ClientEntry, ClientId, Config, PublicKey, Request, TenantId};
-use service_core::{Outcome, State};
 use std::alloc::{AllocError, Global};
 use std::sync::Arc;
+use tenant_lanes::{Outcome, State};
 
 /// How many tenants there are.
 pub(crate) const TENANTS: u32 = 3;
