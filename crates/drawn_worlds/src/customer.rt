@@ -41,6 +41,7 @@ pub(crate) struct Customer {
 }
 
 impl Customer {
+    /// A client that makes so many requests, before its first.
     pub(crate) fn new(
         alloc: Global,
         config: &Arc<Config>,
@@ -79,11 +80,12 @@ impl Customer {
         Ok(!had_accepted && self.session.accepted().is_some())
     }
 
+    /// The reply to its last request that it has accepted, if it has.
     pub(crate) fn accepted(&self) -> Option<&Reply> {
         self.session.accepted()
     }
 
-    /// The number and the result that it has accepted for its last request.
+    /// Its last request.
     pub(crate) fn last_request(&self) -> Option<&Checked> {
         self.session.last_request()
     }

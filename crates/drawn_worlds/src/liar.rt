@@ -51,6 +51,7 @@ pub(crate) struct Liar {
 }
 
 impl Liar {
+    /// One that signs by this signer, whose key the configuration lists for the replica.
     pub(crate) fn new(
         alloc: Global,
         config: &Arc<Config>,
@@ -66,6 +67,7 @@ impl Liar {
         })
     }
 
+    /// The replica that it is.
     pub(crate) fn id(&self) -> ReplicaId {
         self.id
     }

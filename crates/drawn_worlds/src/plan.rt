@@ -56,6 +56,7 @@ pub(crate) struct Plan {
 }
 
 impl Plan {
+    /// That of a seed: two of seven replicas may be faulty in a sixteenth of the worlds, one of four in the others.
     pub(crate) fn of(seed: u64, draws: &mut Draws) -> Plan {
         let f = if seed % 16 == 0 { 2 } else { 1 };
         let clients = [1, 2, 3][draws.below(3)];
@@ -79,6 +80,7 @@ impl Plan {
 }
 
 impl Plan {
+    /// What a replica does. There are no others.
     pub(crate) fn conduct(&self, id: ReplicaId) -> Conduct {
         match self.conducts.get(usize::from(id.0)) {
             Some(conduct) => *conduct,

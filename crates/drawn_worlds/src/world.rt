@@ -105,18 +105,22 @@ impl World {
         self.settle()
     }
 
+    /// What its seed planned, with the timeouts that are left.
     pub(crate) fn plan(&self) -> &Plan {
         &self.plan
     }
 
+    /// Who takes part.
     pub(crate) fn config(&self) -> &Arc<Config> {
         &self.config
     }
 
+    /// The clients, in the order of their indices.
     pub(crate) fn customers(&self) -> &[Customer] {
         &self.customers
     }
 
+    /// What was noted while it was played.
     pub(crate) fn notes(&self) -> &Notes {
         &self.notes
     }
