@@ -56,6 +56,11 @@ is_meant f l = is_among same_node f.to (Some l.to) && (is_among same_node f.from
 abbrev pub first_meant : Filter → List LetterFacts → Option LetterFacts
 first_meant f ls = find (is_meant f) ls
 
+-- a letter, if there is one and it is meant
+abbrev pub meant_one : Filter → Option LetterFacts → Option LetterFacts
+meant_one f None = None
+meant_one f (Some l) = if is_meant f l then Some l else None
+
 -- the letters without the first that is meant
 abbrev pub without_first : Filter → List LetterFacts → List LetterFacts
 without_first f [] = []

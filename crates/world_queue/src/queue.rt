@@ -1,10 +1,10 @@
 //! Messages on their way.
 
-ghost use Rattle.std.specs.Prelude.{◌≡◌, ◌<◌, ◌++◌, ◌∷◌, [], Some, None, IfNone, IsSomeAnd, IfOk, OnOk, MatchOption, length, slice_get};
+ghost use Rattle.std.specs.Prelude.{◌≡◌, ◌<◌, ◌++◌, ◌∷◌, [], Some, None, IfNone, IsSomeAnd, IfOk, OnOk, MatchOption, length, option_copied, slice_get};
 ghost use Rattle.std.specs.List.{list_any};
 ghost use Rattle.script_text.specs.Kind.{Kind};
 ghost use Rattle.script_text.specs.Node.{Node};
-ghost use Rattle.world_queue.specs.Letters.{LetterFacts, addressed, all_but, copies, first_meant, is_among, is_meant, letter_of, meant_count, same_kind, same_node, without_first};
+ghost use Rattle.world_queue.specs.Letters.{LetterFacts, addressed, all_but, copies, first_meant, is_among, is_meant, letter_of, meant_count, meant_one, same_kind, same_node, without_first};
 ghost use Rattle.world_queue.specs.Effects.{IsPlace, IsTaken};
 
 use host_types::Bytes;
@@ -302,12 +302,16 @@ impl Queue {
         self.letters.remove(index)
     }
 
-    /// The letter that is meant and has so many before it that are.
-    pub fn letter_meant(&self, filter: &Filter, passed: usize) -> Option<&Letter>
-        requires { passed < meant_count filter.now self.now }
+    /// The letter at an index, if there is one and it is meant.
+    pub fn meant_at(&self, filter: &Filter, index: usize) -> Option<&Letter>
+        ensures { option_copied result ≡ meant_one filter.now (slice_get self.now index) }
     {
-        let index = self.place_of(filter, passed)?;
-        self.letters.get(index)
+        let letter = self.letters.get(index)?;
+        if letter.is_meant_by(filter) {
+            Some(letter)
+        } else {
+            None
+        }
     }
 
     /// Where the letter stands that is meant and has so many before it that are.

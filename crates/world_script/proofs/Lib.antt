@@ -8,11 +8,11 @@ mod Legal
 mod LegalHeads
 mod Listed
 mod Naming
-mod Playing
+pub mod Playing
 mod Reporting
 mod Printed
 mod Ranges
 mod Timing
 mod Turns
-mod Written
+pub mod Written
 mod FaultLine

@@ -11,10 +11,10 @@ use Rattle.script_text.specs.declared.script.NamedStep.{NamedStep}
 use Rattle.script_text.specs.declared.script.Script.{Script}
 use Rattle.script_text.specs.declared.script.Step.{Step}
 use Rattle.script_text.specs.declared.script.Step.TheVariants as steps
-use Rattle.world_script.specs.Endings.{Ends}
+use Rattle.world_script.specs.Endings.{Ends, StepEnds}
 use Rattle.world_script.specs.Faults.{kind_of}
 use Rattle.world_script.specs.Expecting.{Holds, IsUnexpected, MayPrint, Scene, behind, first_scene, unread_behind, unexpected_line}
-use Rattle.world_script.specs.Running.{Compares, Fails, RunsSteps, StepEnds}
+use Rattle.world_script.specs.Running.{Compares, Fails, RunsSteps}
 use Rattle.world_script.specs.Scripts.{BreaksOff, Plays}
 use Rattle.world_script.specs.Parts.{Performs}
 use Rattle.world_queue.specs.Letters.{LetterFacts}
@@ -42,7 +42,7 @@ plays_more (x ∷ xs) step s u t text line p one holds =
     (p.0, p.1 ++ line, p.2, p.3, p.4, plays_more xs step (behind s x p.0 p.2) u t p.1 line p.5 one holds, ap (λ (bs : List ℕ). bs ++ line) p.6 ∙ append_assoc p.0 p.1 line)
 
 -- the step at this index breaks off
-breaks_at : (steps : List NamedStep) (i : ℕ) (x : NamedStep) (start scene : Scene) (number : ℕ) (Early : Scene → Step → List ℕ → Type 0) (front last : List ℕ) → i < length steps → x ≡ get_or steps i x
+pub breaks_at : (steps : List NamedStep) (i : ℕ) (x : NamedStep) (start scene : Scene) (number : ℕ) (Early : Scene → Step → List ℕ → Type 0) (front last : List ℕ) → i < length steps → x ≡ get_or steps i x
     → number ≡ min (i + 1) 4294967295 → Plays start (take i steps) front scene → Early scene x.step last → BreaksOff start steps number Early (front ++ last)
 breaks_at steps i x start scene number Early front last below read numbered plays early = record {
   before = take i steps;
@@ -128,7 +128,7 @@ compared number s x expected given old new r later is same c =
 
 -- ---- another step
 
-begun : (s : StageFacts) (step : Step) (text : List ℕ) (t : StageFacts) → Prints s step text t → Begins s step text
+pub begun : (s : StageFacts) (step : Step) (text : List ℕ) (t : StageFacts) → Prints s step text t → Begins s step text
 begun s (steps.Deliver f order) text t p = (p.0, t, p.1, p.2)
 begun s other text t p = inr (t, p)
 

@@ -12,6 +12,9 @@ pub mod Scripts
 pub mod Stages
 pub mod Starts
 pub mod Writing
+pub use Rattle.drained_records.specs.AuditFault
+pub use Rattle.drained_records.specs.Audits
+pub use Rattle.drained_records.specs.Execution
 pub use Rattle.drained_records.specs.Worlds
 pub use Rattle.world_queue.specs.Changes
 pub use Rattle.world_queue.specs.Effects

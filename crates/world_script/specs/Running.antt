@@ -7,10 +7,10 @@ use Rattle.script_text.specs.ScriptKind.{ScriptKind}
 use Rattle.script_text.specs.ScriptKind.TheVariants as kinds
 use Rattle.script_text.specs.declared.script.Script.{Script}
 use Rattle.script_text.specs.declared.script.NamedStep.{NamedStep}
-use Rattle.world_script.specs.Expecting.{Holds, IsUnexpected, MayPrint, Scene, behind, differing_line, first_scene, unexpected_line}
+use Rattle.world_script.specs.Expecting.{IsUnexpected, MayPrint, Scene, differing_line, first_scene, unexpected_line}
 use Rattle.world_script.specs.Scripts.{BreaksOff, IsPlayed, fault_line, Plays, WritesBefore}
 use Rattle.world_script.specs.Facts.{StageFacts}
-use Rattle.world_script.specs.Stages.{Begins, Overruns, Prints}
+use Rattle.world_script.specs.Stages.{Begins, Overruns}
 use Rattle.world_script.specs.declared.fault.RunFault.{RunFault}
 use Rattle.world_script.specs.declared.fault.RunFault.TheVariants.{TooManyDeliveries, Write, Memory}
 use Rattle.world_script.specs.declared.played.Played.{Played}
@@ -43,15 +43,6 @@ Fails kinds.Memory script number old new =
     (text : List ℕ) × (((text ≡ []) × (number ≡ 0)) ⊎ BreaksOff (first_scene script.head) script.steps number (λ s. Begins s.stage) text) × Appends old new text
 Fails kinds.Write script number old new = (text : List ℕ) × BreaksOff (first_scene script.head) script.steps number (MayPrint number) text × AppendsFront old new text
 Fails _ script number old new = ⊥
-
--- A step that is done, of this number, or that ends the run.
-abbrev pub StepEnds : ℕ → Scene → NamedStep → Option (List ℕ) → Option (List ℕ) → Result Played RunFault → Scene → Type 0
-StepEnds number s x old new (Ok Whole) t =
-    (text : List ℕ) × (u : StageFacts) × Prints s.stage x.step text u × Holds s.unread x.step × (t ≡ behind s x text u) × Appends old new text
-StepEnds number s x old new (Ok Unexpected) t = (text : List ℕ) × IsUnexpected number s x.step text × Appends old new text
-StepEnds number s x old new (Err TooManyDeliveries) t = (text : List ℕ) × Overruns s.stage x.step text × Appends old new text
-StepEnds number s x old new (Err Memory) t = (text : List ℕ) × Begins s.stage x.step text × Appends old new text
-StepEnds number s x old new (Err Write) t = (text : List ℕ) × MayPrint number s x.step text × AppendsFront old new text
 
 -- These lines and what was printed since the last `expect` are compared; or that ends the run.
 abbrev pub Compares : ℕ → List ℕ → List ℕ → Option (List ℕ) → Option (List ℕ) → Result Played RunFault → List ℕ → Type 0

@@ -3,7 +3,8 @@
 ghost use Rattle.std.specs.Prelude.{◌≡◌, ◌≢◌, ◌⊎◌, ◌++◌, OnOk, IfErr, IsOk, string_bytes};
 ghost use Rattle.std.specs.Io.KnownBytes.{Appends};
 ghost use Rattle.script_text.specs.ScriptKind.TheVariants as kinds;
-ghost use Rattle.world_script.specs.Running.{Compares, PlaysWhatIsRead, Reports, RunsRead, RunsSteps, StepEnds};
+ghost use Rattle.world_script.specs.Endings.{StepEnds};
+ghost use Rattle.world_script.specs.Running.{Compares, PlaysWhatIsRead, Reports, RunsRead, RunsSteps};
 ghost use Rattle.world_script.specs.Scripts.{WritesWhatIsRead};
 ghost use Rattle.world_script.specs.Stages.{after_naming};
 ghost use Rattle.world_script.specs.Starts.{start_of};
@@ -14,6 +15,7 @@ use crate::input::read_input;
 use crate::played::Played;
 use crate::progress::{Progress, Unwatched};
 use crate::stage::Stage;
+use crate::watcher::{Untold, Watcher};
 use crate::writing::{write_fault, write_text};
 use script_text::{NamedStep, Script, ScriptFault, ScriptKind, Step, read_script};
 use std::alloc::{AllocError, Global};
@@ -117,7 +119,8 @@ fn run_steps_at<O: Write, P: Progress>(
     for step in script.steps.as_slice() {
         number = number.saturating_add(1);
         progress.step(number, script.steps.as_slice().len());
-        match run_step(alloc, stage, &mut unread, number, step, writer, progress) {
+        let telling = &mut Untold;
+        match run_step(stage, &mut unread, number, step, writer, progress, telling) {
             Ok(Played::Whole) => {}
             Ok(Played::Unexpected) => return Ok(Played::Unexpected),
             Err(fault) => {
@@ -129,23 +132,31 @@ fn run_steps_at<O: Write, P: Progress>(
     Ok(Played::Whole)
 }
 
-/// Runs the step of this number. `unread` is what was printed since the last `expect`.
-fn run_step<O: Write, P: Progress>(
-    alloc: Global,
+/// Runs the step of this number, and writes what it prints. `unread` is what was printed since the last `expect`. Progress is told
+/// what an `expect` finds, and the watcher of what happens.
+pub fn run_step<O: Write, P: Progress>(
     stage: &mut Stage,
     unread: &mut String,
     number: u32,
     step: &NamedStep,
     writer: &mut O,
     progress: &mut P,
+    watcher: &mut dyn Watcher,
 ) -> Result<Played, RunFault>
     ensures { StepEnds number (record { stage = stage.old; unread = string_bytes unread.old }) step.now (O.contents writer.old) (O.contents writer.new) result (record { stage = stage.new; unread = string_bytes unread.new }) }
 {
     if let Step::Expect(expected) = &step.step {
-        return compare(alloc, unread, number, expected.as_slice(), writer, progress);
+        return compare(
+            stage.alloc(),
+            unread,
+            number,
+            expected.as_slice(),
+            writer,
+            progress,
+        );
     }
     let before = stage.queue_length();
-    let text = match stage.run(&step.step, writer) {
+    let text = match stage.run(&step.step, writer, watcher) {
         Ok(text) => text,
         Err(fault) => return Err(fault),
     };

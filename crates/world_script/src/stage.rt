@@ -26,13 +26,14 @@ use crate::fault::RunFault;
 use crate::keys::KeySources;
 use crate::made::Made;
 use crate::progress::{Progress, Unwatched};
+use crate::watcher::Watcher;
 use crate::writing::write_text;
 use drained_records::{Dest, Event, Halt, Output, Row, World};
 use host_types::{Bytes, ClientId, Config, Digest, ReplicaId, ReplicaSet};
 use lms_tree::Signer;
 use pbft_codec::Body;
 use script_text::{
-    Filter, ForgedMessage, Forgery, Head, Kind, NamedStep, Node, Order, Printout, Step,
+    Filter, ForgedMessage, Forgery, Head, Kind, NamedStep, Node, Order, Printout, QueueEdit, Step,
 };
 use seal::{Checked, SealFault, open, request_digest};
 use sha2::{Digest as _, Sha256};
@@ -63,8 +64,6 @@ pub struct Stage {
     made: Vec<Made>,
     named: Vec<Named>,
     queue: Queue,
-    // The row that the last event gave, until it is taken. No definition speaks of it.
-    row: Option<Row>,
 }
 
 impl Model for Stage {
@@ -123,7 +122,6 @@ impl Stage {
             made: Vec::new(alloc),
             named: Vec::new(alloc),
             queue: Queue::new(alloc),
-            row: None,
         })
     }
 
@@ -143,33 +141,29 @@ impl Stage {
         &self.config
     }
 
-    /// The letter that is meant and has so many before it that are.
-    pub fn letter_meant(&self, filter: &Filter, passed: usize) -> Option<&Letter>
-        requires { passed < meant_count filter.now self.now.queue }
-    {
-        self.queue.letter_meant(filter, passed)
-    }
-
-    /// The row that the last event gave, if it gave one and it was not taken yet.
-    pub fn take_row(&mut self) -> Option<Row>
-        ensures { self.new ≡ self.old }
-    {
-        self.row.take()
+    /// What it allocates by.
+    pub(crate) fn alloc(&self) -> Global {
+        self.alloc
     }
 
     // ---- steps
 
-    /// Runs a step, writes what it prints, and returns that. An `expect` is not looked at.
-    pub fn run<O: Write>(&mut self, step: &Step, writer: &mut O) -> Result<String, RunFault>
+    /// Runs a step, writes what it prints, and returns that. An `expect` is not looked at. The watcher is told of what happens.
+    pub fn run<O: Write>(
+        &mut self,
+        step: &Step,
+        writer: &mut O,
+        watcher: &mut dyn Watcher,
+    ) -> Result<String, RunFault>
         ensures { Ends self.old step.now (O.contents writer.old) (O.contents writer.new) result self.new }
     {
         if let Step::Deliver { filter, order } = step {
             return match order {
-                None => self.deliver(filter, writer),
-                Some(seed) => self.deliver_drawn(filter, *seed, writer),
+                None => self.deliver(filter, writer, watcher),
+                Some(seed) => self.deliver_drawn(filter, *seed, writer, watcher),
             };
         }
-        let Ok(text) = self.perform(step) else {
+        let Ok(text) = self.perform(step, watcher) else {
             return Err(RunFault::Memory);
         };
         match write_text(writer, &text) {
@@ -178,8 +172,17 @@ impl Stage {
         }
     }
 
-    /// Runs a step that delivers nothing. What is printed.
-    fn perform(&mut self, step: &Step) -> Result<String, AllocError>
+    /// Runs a step that delivers nothing, and tells that it is done. What is printed.
+    fn perform(&mut self, step: &Step, watcher: &mut dyn Watcher) -> Result<String, AllocError>
+        ensures { IfOk result (λ text. Performs self.old step.now (string_bytes text) self.new) }
+    {
+        let text = self.act(step, watcher)?;
+        watcher.printed(self, step, &text)?;
+        Ok(text)
+    }
+
+    /// Does what a step says that delivers nothing. What is printed.
+    fn act(&mut self, step: &Step, watcher: &mut dyn Watcher) -> Result<String, AllocError>
         ensures { IfOk result (λ text. Performs self.old step.now (string_bytes text) self.new) }
     {
         let nothing = String::new(self.alloc);
@@ -187,13 +190,29 @@ impl Stage {
             Step::Request(order) => self.request(order),
             Step::Forge(forgery) => self.forge(forgery),
             Step::Timeout(at) => {
-                self.time_out(at.as_slice())?;
+                self.time_out(at.as_slice(), watcher)?;
                 Ok(nothing)
             }
-            Step::Edit(edit) => self.edit(edit),
+            Step::Edit(edit) => {
+                self.tell_lost(edit, watcher)?;
+                self.edit(edit)
+            }
             Step::Print(printout) => self.printout_text(printout),
             Step::Deliver { .. } | Step::Expect(_) => Ok(nothing),
         }
+    }
+
+    /// Tells of the letters that a change of the queue loses.
+    fn tell_lost(&self, edit: &QueueEdit, watcher: &mut dyn Watcher) -> Result<(), AllocError> {
+        let QueueEdit::Drop(filter) = edit else {
+            return Ok(());
+        };
+        for index in 0..self.queue.len() {
+            if let Some(letter) = self.queue.meant_at(filter, index) {
+                watcher.losing(letter)?;
+            }
+        }
+        Ok(())
     }
 
     // ---- what is queued
@@ -325,13 +344,18 @@ impl Stage {
     // ---- deliveries
 
     /// Delivers the first letter that is meant, until none is. What comes of it is queued last.
-    fn deliver<O: Write>(&mut self, filter: &Filter, writer: &mut O) -> Result<String, RunFault>
+    fn deliver<O: Write>(
+        &mut self,
+        filter: &Filter,
+        writer: &mut O,
+        watcher: &mut dyn Watcher,
+    ) -> Result<String, RunFault>
         ensures { Ends self.old (steps.Deliver filter.now None) (O.contents writer.old) (O.contents writer.new) result self.new }
     {
         let mut lines = String::new(self.alloc);
         let mut others = Queue::new(self.alloc);
         for _ in 0..MAX_DELIVERIES {
-            let Some(text) = self.deliver_next(filter, &mut others)? else {
+            let Some(text) = self.deliver_next(filter, &mut others, watcher)? else {
                 return Ok(lines);
             };
             let line = text.as_str();
@@ -352,6 +376,7 @@ impl Stage {
         &mut self,
         filter: &Filter,
         others: &mut Queue,
+        watcher: &mut dyn Watcher,
     ) -> Result<Option<String>, AllocError>
         requires { first_meant filter.now others.old ≡ None }
         ensures { IfOk result (λ text. DeliversNext filter.now (ahead others.old self.old) (option_map string_bytes text) others.new self.new) }
@@ -360,7 +385,7 @@ impl Stage {
             swap(&mut self.queue, others);
             return Ok(None);
         };
-        let text = self.hand_over(&letter)?;
+        let text = self.hand_over(&letter, watcher)?;
         Ok(Some(text))
     }
 
@@ -383,6 +408,7 @@ impl Stage {
         filter: &Filter,
         seed: u64,
         writer: &mut O,
+        watcher: &mut dyn Watcher,
     ) -> Result<String, RunFault>
         ensures { Ends self.old (steps.Deliver filter.now (Some seed)) (O.contents writer.old) (O.contents writer.new) result self.new }
     {
@@ -394,7 +420,7 @@ impl Stage {
                 return Ok(lines);
             }
             state = next_state(state);
-            let text = self.deliver_at(filter, drawn(state, count))?;
+            let text = self.deliver_at(filter, drawn(state, count), watcher)?;
             let line = text.as_str();
             lines.push_str(line)?;
             if let Err(_) = write_text(writer, line) {
@@ -408,51 +434,90 @@ impl Stage {
     }
 
     /// How many letters are meant.
-    pub fn count_meant(&self, filter: &Filter) -> usize
+    fn count_meant(&self, filter: &Filter) -> usize
         ensures { result ≡ meant_count filter.now self.now.queue }
     {
         self.queue.count_meant(filter)
     }
 
     /// Delivers the letter that is meant and has so many before it that are. What is printed.
-    pub fn deliver_at(&mut self, filter: &Filter, passed: usize) -> Result<String, AllocError>
+    fn deliver_at(
+        &mut self,
+        filter: &Filter,
+        passed: usize,
+        watcher: &mut dyn Watcher,
+    ) -> Result<String, AllocError>
         requires { passed < meant_count filter.now self.old.queue }
         ensures { IfOk result (λ text. Delivers filter.now passed self.old (string_bytes text) self.new) }
     {
         let Some(letter) = self.queue.take_meant(filter, passed) else {
             unreachable!()
         };
-        self.hand_over(&letter)
+        self.hand_over(&letter, watcher)
     }
 
-    /// Hands a letter to its addressee. What is printed.
-    fn hand_over(&mut self, letter: &Letter) -> Result<String, AllocError>
+    /// Hands a letter to its addressee, and tells of it. What is printed.
+    fn hand_over(
+        &mut self,
+        letter: &Letter,
+        watcher: &mut dyn Watcher,
+    ) -> Result<String, AllocError>
         ensures { IfOk result (λ text. HandsTo letter.now.to self.old letter.now.bytes (string_bytes text) self.new) }
     {
+        watcher.about(self, letter)?;
         match letter.to() {
-            Node::Replica(id) => self.hand_to_replica(id, letter.bytes()),
-            Node::Client(client) => self.sessions.deliver(client, letter.bytes()),
+            Node::Replica(id) => self.hand_to_replica(id, letter.bytes(), watcher),
+            Node::Client(client) => self.hand_to_client(client, letter.bytes(), watcher),
         }
     }
 
-    /// Hands bytes to a replica. One that is faulty or has stopped does nothing. What is printed.
-    fn hand_to_replica(&mut self, id: ReplicaId, bytes: &[u8]) -> Result<String, AllocError>
-        ensures { IfOk result (λ text. AtReplica self.old id bytes.now (string_bytes text) self.new) }
+    /// Hands bytes to a client, and tells what came of it. What is printed.
+    fn hand_to_client(
+        &mut self,
+        client: ClientId,
+        bytes: &[u8],
+        watcher: &mut dyn Watcher,
+    ) -> Result<String, AllocError>
+        ensures { IfOk result (λ text. (string_bytes text, self.new) ≡ at_client self.old client (opening self.old.world.config bytes.now)) }
     {
-        if !self.is_running(id) {
-            return Ok(String::new(self.alloc));
-        }
-        let gave = self.receive(id, bytes)?;
-        if gave || !self.is_running(id) {
-            return Ok(String::new(self.alloc));
-        }
-        let text = self.refusal_text(id, bytes)?;
+        let text = self.sessions.deliver(client, bytes)?;
+        watcher.handed(self, Node::Client(client), &text, None)?;
         Ok(text)
     }
 
-    /// Lets bytes come to a replica, and queues what it gives. Whether it gave a row.
-    fn receive(&mut self, id: ReplicaId, bytes: &[u8]) -> Result<bool, AllocError>
-        ensures { IfOk result (λ gave. Happened self.old id (events.Deliver id bytes.now) gave self.new) }
+    /// Hands bytes to a replica, and tells what came of it. What is printed.
+    fn hand_to_replica(
+        &mut self,
+        id: ReplicaId,
+        bytes: &[u8],
+        watcher: &mut dyn Watcher,
+    ) -> Result<String, AllocError>
+        ensures { IfOk result (λ text. AtReplica self.old id bytes.now (string_bytes text) self.new) }
+    {
+        let (text, row) = self.take_in(id, bytes)?;
+        watcher.handed(self, Node::Replica(id), &text, row)?;
+        Ok(text)
+    }
+
+    /// Lets bytes come to a replica. One that is faulty or has stopped does nothing. What is printed, and the row that it gave.
+    fn take_in(&mut self, id: ReplicaId, bytes: &[u8]) -> Result<(String, Option<Row>), AllocError>
+        ensures { IfOk result (λ r. AtReplica self.old id bytes.now (string_bytes r.0) self.new) }
+    {
+        let nothing = String::new(self.alloc);
+        if !self.is_running(id) {
+            return Ok((nothing, None));
+        }
+        let row = self.receive(id, bytes)?;
+        if row.is_some() || !self.is_running(id) {
+            return Ok((nothing, row));
+        }
+        let text = self.refusal_text(id, bytes)?;
+        Ok((text, None))
+    }
+
+    /// Lets bytes come to a replica, and queues what it gives. The row, if it gave one.
+    fn receive(&mut self, id: ReplicaId, bytes: &[u8]) -> Result<Option<Row>, AllocError>
+        ensures { IfOk result (λ row. Happened self.old id (events.Deliver id bytes.now) (is_some row) self.new) }
     {
         let event = Event::Deliver {
             to: id,
@@ -462,28 +527,37 @@ impl Stage {
     }
 
     /// Timeouts at replicas, one after another.
-    fn time_out(&mut self, at: &[ReplicaId]) -> Result<(), AllocError>
+    fn time_out(&mut self, at: &[ReplicaId], watcher: &mut dyn Watcher) -> Result<(), AllocError>
         ensures { OnOk result (AllTimeOut self.old at.now self.new) }
     {
         for id in at {
-            self.time_out_at(*id)?;
+            self.time_out_at(*id, watcher)?;
         }
         Ok(())
     }
 
-    /// A timeout at a replica. One that is faulty or has stopped does nothing.
-    pub fn time_out_at(&mut self, id: ReplicaId) -> Result<(), AllocError>
+    /// A timeout at a replica, of which it tells. One that is faulty or has stopped does nothing.
+    fn time_out_at(&mut self, id: ReplicaId, watcher: &mut dyn Watcher) -> Result<(), AllocError>
         ensures { OnOk result (TimesOut self.old id self.new) }
     {
-        if self.is_running(id) {
-            self.happen(id, &Event::Timeout { at: id })?;
-        }
-        Ok(())
+        watcher.about_timeout(self, id)?;
+        let row = self.expire(id)?;
+        watcher.timed_out(self, id, row)
     }
 
-    /// Lets an event happen at a replica, and queues what it gives. Whether it gave a row.
-    fn happen(&mut self, id: ReplicaId, event: &Event) -> Result<bool, AllocError>
-        ensures { IfOk result (λ gave. Happened self.old id event.now gave self.new) }
+    /// Lets a replica's timer expire. The row, if it gave one.
+    fn expire(&mut self, id: ReplicaId) -> Result<Option<Row>, AllocError>
+        ensures { OnOk result (TimesOut self.old id self.new) }
+    {
+        if !self.is_running(id) {
+            return Ok(None);
+        }
+        self.happen(id, &Event::Timeout { at: id })
+    }
+
+    /// Lets an event happen at a replica, and queues what it gives. The row, if it gave one.
+    fn happen(&mut self, id: ReplicaId, event: &Event) -> Result<Option<Row>, AllocError>
+        ensures { IfOk result (λ row. Happened self.old id event.now (is_some row) self.new) }
     {
         let Ok(row) = self.world.event(event) else {
             return Err(AllocError);
@@ -491,14 +565,10 @@ impl Stage {
         if self.is_out_of_memory(id) {
             return Err(AllocError);
         }
-        match row {
-            Some(row) => {
-                self.queue_outputs(id, row.outputs())?;
-                self.row = Some(row);
-                Ok(true)
-            }
-            None => Ok(false),
+        if let Some(row) = &row {
+            self.queue_outputs(id, row.outputs())?;
         }
+        Ok(row)
     }
 
     /// Whether a replica is correct and has not stopped.

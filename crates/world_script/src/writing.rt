@@ -18,7 +18,15 @@ pub fn write_text<O: Write>(writer: &mut O, text: &str) -> Result<(), RunFault>
     ensures front { OnErr result (AppendsFront (O.contents writer.old) (O.contents writer.new) text.now) }
     ensures fault { IfErr result (λ fault. fault ≡ write_failed) }
 {
-    let bytes = text.as_bytes();
+    write_bytes(writer, text.as_bytes())
+}
+
+/// Writes bytes whole, as `write_text` writes text.
+pub fn write_bytes<O: Write>(writer: &mut O, bytes: &[u8]) -> Result<(), RunFault>
+    ensures whole { OnOk result (Appends (O.contents writer.old) (O.contents writer.new) bytes.now) }
+    ensures front { OnErr result (AppendsFront (O.contents writer.old) (O.contents writer.new) bytes.now) }
+    ensures fault { IfErr result (λ fault. fault ≡ write_failed) }
+{
     let mut at = 0;
     for _ in 0..u64::MAX {
         if at == bytes.len() {

@@ -25,6 +25,6 @@ mod scripts;
 pub use held::{files_in, script_with};
 pub use listed::are_listed;
 pub use world_script::{
-    Dest, Done, Event, Halt, Input, KeySources, Keys, Outcome, Output, Report, Row, Stage, Status,
-    WorldFault, read_input, read_script, run_world,
+    Dest, Done, Event, Halt, Input, KeySources, Keys, Letter, Outcome, Output, Report, Row, Stage,
+    Status, Unwatched, Watcher, WorldFault, read_input, read_script, run_step, run_world,
 };

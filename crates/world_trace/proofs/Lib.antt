@@ -1,0 +1,3 @@
+mod Searching
+mod Telling
+mod Tracing

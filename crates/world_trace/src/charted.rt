@@ -1,13 +1,13 @@
 //! A script as a chart.
 
+use crate::in_memory::run_in_memory;
 use crate::placed::PlacedScript;
-use crate::runner::Runner;
 use crate::tracer::Tracer;
 use script_text::{Script, ScriptFault, ScriptKind};
 use std::alloc::{AllocError, Global};
 use std::io::Write;
 use world_chart::{Chart, Lanes};
-use world_script::{Played, Progress, RunFault, report, write_text};
+use world_script::{Played, Progress, RunFault, Stage, report, write_bytes, write_text};
 
 /// How a chart is written.
 #[derive(Clone, Copy, Debug, PartialEq, Eq)]
@@ -41,47 +41,45 @@ fn chart_steps<O: Write, P: Progress>(
     progress: &mut P,
 ) -> Result<Played, ScriptFault> {
     let script = &placed.script;
-    let Ok(mut runner) = Runner::new(alloc, &script.head, progress) else {
+    let Ok(mut stage) = Stage::watched(alloc, &script.head, progress) else {
         return Err(ScriptFault::at_head(ScriptKind::Memory));
     };
     let mut tracer = Tracer::new(alloc);
-    let mut text = String::new(alloc);
-    let (number, ended) = run_all(placed, &mut runner, &mut tracer, &mut text, progress);
-    match write_chart(alloc, form, script, &runner, &tracer, writer) {
+    let mut line: Vec<u8> = Vec::new(alloc);
+    let (number, ended) = run_all(alloc, placed, &mut stage, &mut tracer, &mut line, progress);
+    match write_chart(alloc, form, script, &stage, &tracer, writer) {
         Ok(()) => {}
         Err(fault) => {
             let kind = fault.into();
             return Err(ScriptFault { kind, step: number });
         }
     }
-    end(number, ended, text.as_str(), writer)
+    end(number, ended, &line, writer)
 }
 
-/// Runs the steps. The number of the last one that ran, and how it ended.
+/// Runs the steps. The number of the last one that ran, and how it ended; `printed` is what it printed.
 fn run_all<P: Progress>(
+    alloc: Global,
     placed: &PlacedScript,
-    runner: &mut Runner,
+    stage: &mut Stage,
     tracer: &mut Tracer,
-    text: &mut String,
+    printed: &mut Vec<u8>,
     progress: &mut P,
 ) -> (u32, Result<Played, RunFault>) {
+    let mut unread = String::new(alloc);
     let mut number: u32 = 0;
     let steps = placed.script.steps.as_slice();
     for step in steps {
         number = number.saturating_add(1);
         progress.step(number, steps.len());
-        text.clear();
+        printed.clear();
         let place = placed.line_of(number);
         if tracer.begin(number, place, step.step.name()).is_err() {
             return (number, Err(RunFault::Memory));
         }
-        match runner.run(number, step, None, tracer, text) {
+        match run_in_memory(stage, &mut unread, number, step, printed, progress, tracer) {
             Ok(Played::Whole) => {}
-            Ok(Played::Unexpected) => {
-                runner.tell_unexpected(number, step, progress);
-                return (number, Ok(Played::Unexpected));
-            }
-            Err(fault) => return (number, Err(fault)),
+            ended => return (number, ended),
         }
     }
     (number, Ok(Played::Whole))
@@ -91,12 +89,12 @@ fn run_all<P: Progress>(
 fn end<O: Write>(
     step: u32,
     ended: Result<Played, RunFault>,
-    text: &str,
+    printed: &[u8],
     writer: &mut O,
 ) -> Result<Played, ScriptFault> {
     match ended {
         Ok(Played::Whole) => Ok(Played::Whole),
-        Ok(Played::Unexpected) => match write_text(writer, text) {
+        Ok(Played::Unexpected) => match write_bytes(writer, printed) {
             Ok(()) => Ok(Played::Unexpected),
             Err(fault) => {
                 let kind = fault.into();
@@ -114,11 +112,11 @@ fn write_chart<O: Write>(
     alloc: Global,
     form: ChartForm,
     script: &Script,
-    runner: &Runner,
+    stage: &Stage,
     tracer: &Tracer,
     writer: &mut O,
 ) -> Result<(), RunFault> {
-    let text = chart_text(alloc, form, script, runner, tracer)?;
+    let text = chart_text(alloc, form, script, stage, tracer)?;
     write_text(writer, &text)
 }
 
@@ -126,10 +124,10 @@ fn chart_text(
     alloc: Global,
     form: ChartForm,
     script: &Script,
-    runner: &Runner,
+    stage: &Stage,
     tracer: &Tracer,
 ) -> Result<String, AllocError> {
-    let lanes = Lanes::new(alloc, runner.stage.config(), script.head.faulty())?;
+    let lanes = Lanes::new(alloc, stage.config(), script.head.faulty())?;
     let chart = Chart::new(alloc, lanes, tracer.happened(), tracer.accepted())?;
     match form {
         ChartForm::Mermaid => chart.mermaid(alloc),

@@ -1,28 +1,56 @@
 //! What replicas were seen to say.
 
-use conflicts::{Claim, claim_of, conflicts};
+use conflicts::{Claim, Topic, claim_of};
+use host_types::{SeqNo, View};
 use seal::{Checked, nested};
 use std::alloc::{AllocError, Global};
+use std::collections::BTreeMap;
+use std::mem::replace;
 use world_script::{Input, Row};
 
-/// Messages that claim something, each claim once, with those that are nested in others.
+/// Whose claims are about one number, in a view where they are votes.
+#[derive(Clone, Copy, Debug, PartialEq, Eq, PartialOrd, Ord)]
+struct Place {
+    signer: u32,
+    number: SeqNo,
+    view: Option<View>,
+}
+
+impl Place {
+    /// Where a claim belongs. Claims that contradict each other belong to one place.
+    fn of(claim: &Claim) -> Place {
+        let signer = claim.signer;
+        match claim.topic {
+            Topic::Vote { view, number, .. } => Place {
+                signer,
+                number,
+                view: Some(view),
+            },
+            Topic::Checkpoint { number } => Place {
+                signer,
+                number,
+                view: None,
+            },
+        }
+    }
+}
+
+/// What messages claim, those that are nested in others too.
 #[derive(Drop)]
 pub(crate) struct Evidence {
     alloc: Global,
-    messages: Vec<Checked>,
-    /// How many of them were looked at.
-    known: usize,
-    /// Whether one of the others contradicts another.
-    suspicious: bool,
+    /// Each claim once, in the order in which they were heard.
+    said: BTreeMap<Place, Vec<Claim>>,
+    /// Claims that contradict each other and that nobody asked for yet, the earlier one first.
+    news: Vec<(Claim, Claim)>,
 }
 
 impl Evidence {
     pub(crate) fn new(alloc: Global) -> Evidence {
         Evidence {
             alloc,
-            messages: Vec::new(alloc),
-            known: 0,
-            suspicious: false,
+            said: BTreeMap::new(alloc),
+            news: Vec::new(alloc),
         }
     }
 
@@ -47,58 +75,45 @@ impl Evidence {
     }
 
     fn add_one(&mut self, message: &Checked) -> Result<(), AllocError> {
-        let Some(claim) = claim_of(message) else {
-            return Ok(());
-        };
-        if self.has(&claim) {
-            return Ok(());
+        match claim_of(message) {
+            Some(claim) => self.hear(claim),
+            None => Ok(()),
         }
-        if self.is_contradicted(&claim) {
-            self.suspicious = true;
-        }
-        self.messages.push(message.copy()?)?;
-        Ok(())
     }
 
-    fn has(&self, claim: &Claim) -> bool {
-        self.messages
-            .iter()
-            .any(|held| claim_of(held) == Some(*claim))
+    fn hear(&mut self, claim: Claim) -> Result<(), AllocError> {
+        let place = Place::of(&claim);
+        if let Some(said) = self.said.get_mut(&place) {
+            return add_claim(said, claim, &mut self.news);
+        }
+        let mut said = Vec::new(self.alloc);
+        said.push(claim)?;
+        match self.said.insert(place, said) {
+            Ok(_) => Ok(()),
+            Err(_) => Err(AllocError),
+        }
     }
 
-    fn is_contradicted(&self, claim: &Claim) -> bool {
-        for held in &self.messages {
-            if let Some(other) = claim_of(held) {
-                if other.contradicts(claim) {
-                    return true;
-                }
-            }
-        }
-        false
+    /// The claims that contradict each other and came since the last call, the earlier message's first.
+    pub(crate) fn news(&mut self) -> Vec<(Claim, Claim)> {
+        replace(&mut self.news, Vec::new(self.alloc))
     }
+}
 
-    /// The conflicts with messages that came since the last call, the earlier message's claim first.
-    pub(crate) fn news(&mut self) -> Result<Vec<(Claim, Claim)>, AllocError> {
-        let known = self.known;
-        self.known = self.messages.len();
-        let mut news = Vec::new(self.alloc);
-        if !self.suspicious {
-            return Ok(news);
-        }
-        self.suspicious = false;
-        for (first, second) in &conflicts(self.alloc, &self.messages)? {
-            if *second >= known {
-                if let Some(both) = self.claims_at(*first, *second) {
-                    news.push(both)?;
-                }
-            }
-        }
-        Ok(news)
+/// Adds a claim to those of its place, and the earlier ones that it contradicts to the news, with it.
+fn add_claim(
+    said: &mut Vec<Claim>,
+    claim: Claim,
+    news: &mut Vec<(Claim, Claim)>,
+) -> Result<(), AllocError> {
+    if said.contains(&claim) {
+        return Ok(());
     }
-
-    fn claims_at(&self, first: usize, second: usize) -> Option<(Claim, Claim)> {
-        let one = claim_of(self.messages.get(first)?)?;
-        let other = claim_of(self.messages.get(second)?)?;
-        Some((one, other))
+    for earlier in said.iter() {
+        if earlier.contradicts(&claim) {
+            news.push((*earlier, claim))?;
+        }
     }
+    said.push(claim)?;
+    Ok(())
 }

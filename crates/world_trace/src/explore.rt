@@ -1,17 +1,23 @@
 //! A script under many orders of its deliveries.
 
-ghost use Rattle.std.specs.Prelude.{◌≡◌};
+ghost use Rattle.std.specs.Prelude.{◌≡◌, [], IfOk, string_bytes};
+ghost use Rattle.script_text.specs.Orders.{ordered, ordered_named};
 ghost use Rattle.world_script.specs.Keys.{keys_of};
+ghost use Rattle.world_script.specs.Starts.{start_of};
+ghost use Rattle.world_trace.specs.Exploring.{IsOutcome};
+ghost use Rattle.world_trace.specs.Searching.{IsUnder, Judges, StepExplored, differing_in};
 
 use crate::evidence::Evidence;
-use crate::runner::Runner;
-use crate::watcher::Watcher;
+use crate::in_memory::run_in_memory;
 use conflicts::Claim;
 use host_types::{ClientId, ReplicaId};
-use script_text::{NamedStep, Node, Script, ScriptFault, ScriptKind};
+use pbft_codec::Sequence;
+use script_text::{Filter, NamedStep, Node, Script, ScriptFault, ScriptKind, Step};
 use std::alloc::{AllocError, Global};
-use world_chart::Cause;
-use world_script::{AuditFault, KeySources, Letter, Row, Stage};
+use world_script::{
+    AuditFault, KeySources, Letter, Played, Row, RunFault, Stage, Unwatched, Watcher,
+    differing_line,
+};
 
 /// The seeds from the first on, without the last.
 #[derive(Clone, Copy, Debug, PartialEq, Eq)]
@@ -65,46 +71,166 @@ pub fn explore_seed(
     wanted: Wanted,
 ) -> Result<Explored, AllocError>
     requires { sources.now ≡ keys_of script.now.head }
+    ensures { IfOk result (λ explored. IsOutcome (ordered seed script.now) wanted explored.outcome) }
 {
-    let mut runner = Runner::at(alloc, Stage::with_keys(alloc, &script.head, sources)?);
-    let mut listener = Listener {
-        evidence: Evidence::new(alloc),
+    let mut explorer = Explorer::new(alloc, Stage::with_keys(alloc, &script.head, sources)?);
+    let outcome = explorer.outcome(script, seed, wanted)?;
+    explorer.explored(outcome)
+}
+
+/// A script that is run under an order of its deliveries.
+#[derive(Drop)]
+struct Explorer {
+    alloc: Global,
+    stage: Stage,
+    /// What was printed since the last `expect`.
+    unread: String,
+    listener: Listener,
+}
+
+impl Explorer {
+    fn new(alloc: Global, stage: Stage) -> Explorer
+        ensures stage { result.stage ≡ stage }
+        ensures unread { string_bytes result.unread ≡ [] }
+    {
+        Explorer {
+            alloc,
+            stage,
+            unread: String::new(alloc),
+            listener: Listener {
+                evidence: Evidence::new(alloc),
+            },
+        }
+    }
+
+    /// Runs the script from the stage of its head on. What came of it.
+    fn outcome(&mut self, script: &Script, seed: u64, wanted: Wanted) -> Result<Outcome, AllocError>
+        requires stage { self.old.stage ≡ start_of script.now.head }
+        requires unread { string_bytes self.old.unread ≡ [] }
+        ensures { IfOk result (IsOutcome (ordered seed script.now) wanted) }
+    {
+        let mut number: u32 = 0;
+        for step in script.steps.as_slice() {
+            number = number.saturating_add(1);
+            if let Some(outcome) = self.step(number, step, seed)? {
+                return Ok(outcome);
+            }
+        }
+        outcome_of(&self.stage, wanted)
+    }
+
+    /// Runs a step, its deliveries in the order that the seed draws. How the script ends there, if it does.
+    fn step(
+        &mut self,
+        number: u32,
+        step: &NamedStep,
+        seed: u64,
+    ) -> Result<Option<Outcome>, AllocError>
+        ensures { IfOk result (λ outcome. StepExplored number (record { stage = self.old.stage; unread = string_bytes self.old.unread }) (ordered_named seed step.now) outcome (record { stage = self.new.stage; unread = string_bytes self.new.unread })) }
+    {
+        match under(self.alloc, step, seed)? {
+            Some(ordered) => self.run(number, &ordered),
+            None => self.run(number, step),
+        }
+    }
+
+    /// Runs a step as it stands.
+    fn run(&mut self, number: u32, step: &NamedStep) -> Result<Option<Outcome>, AllocError>
+        ensures { IfOk result (λ outcome. StepExplored number (record { stage = self.old.stage; unread = string_bytes self.old.unread }) step.now outcome (record { stage = self.new.stage; unread = string_bytes self.new.unread })) }
+    {
+        if let Some(line) = differing(&self.unread, &step.step) {
+            return Ok(Some(Outcome::Unexpected { step: number, line }));
+        }
+        let mut printed: Vec<u8> = Vec::new(self.alloc);
+        let ended = run_in_memory(
+            &mut self.stage,
+            &mut self.unread,
+            number,
+            step,
+            &mut printed,
+            &mut Unwatched,
+            &mut self.listener,
+        );
+        match ended {
+            Ok(_) => Ok(None),
+            Err(RunFault::TooManyDeliveries) => {
+                let kind = ScriptKind::TooManyDeliveries;
+                Ok(Some(Outcome::Faulted(ScriptFault { kind, step: number })))
+            }
+            Err(RunFault::Memory | RunFault::Write) => Err(AllocError),
+        }
+    }
+
+    /// What came of the script, which ended so, and what was heard.
+    fn explored(&mut self, outcome: Outcome) -> Result<Explored, AllocError>
+        ensures { IfOk result (λ explored. explored.outcome ≡ outcome) }
+    {
+        let printed = match outcome {
+            Outcome::Unexpected { .. } => Vec::from_slice(self.alloc, self.unread.as_bytes())?,
+            _ => Vec::new(self.alloc),
+        };
+        Ok(Explored {
+            outcome,
+            blamed: in_order(self.alloc, &self.listener.evidence.news())?,
+            printed,
+        })
+    }
+}
+
+/// The first line in which an `expect` finds other lines than were printed since the last one.
+fn differing(unread: &str, step: &Step) -> Option<usize>
+    ensures { result ≡ differing_in unread.now step.now }
+{
+    match step {
+        Step::Expect(expected) => differing_line(expected.as_slice(), unread.as_bytes()),
+        _ => None,
+    }
+}
+
+/// A step that delivers, with its deliveries in the order that a seed draws; none where it delivers nothing.
+fn under(alloc: Global, step: &NamedStep, seed: u64) -> Result<Option<NamedStep>, AllocError>
+    ensures { IfOk result (IsUnder seed step.now) }
+{
+    let Step::Deliver { filter, .. } = &step.step else {
+        return Ok(None);
     };
-    let outcome = match early_end(alloc, script, seed, &mut runner, &mut listener)? {
-        Some(outcome) => outcome,
-        None => outcome_of(&runner.stage, wanted)?,
+    let name = match &step.name {
+        Some(name) => Some(name.try_clone(alloc)?),
+        None => None,
     };
-    let printed = match outcome {
-        Outcome::Unexpected { .. } => Vec::from_slice(alloc, runner.unread())?,
-        _ => Vec::new(alloc),
+    let step = Step::Deliver {
+        filter: copy_of(alloc, filter)?,
+        order: Some(seed),
     };
-    Ok(Explored {
-        outcome,
-        blamed: in_order(alloc, &listener.evidence.news()?)?,
-        printed,
+    Ok(Some(NamedStep { name, step }))
+}
+
+fn copy_of(alloc: Global, filter: &Filter) -> Result<Filter, AllocError>
+    ensures { IfOk result (λ copy. copy ≡ filter.now) }
+{
+    Ok(Filter {
+        from: copy_of_list(alloc, &filter.from)?,
+        to: copy_of_list(alloc, &filter.to)?,
+        kinds: copy_of_list(alloc, &filter.kinds)?,
     })
 }
 
-/// Runs the steps of a script. How it ends before the last one is done, if it does.
-fn early_end(
+fn copy_of_list<T: Copy>(
     alloc: Global,
-    script: &Script,
-    seed: u64,
-    runner: &mut Runner,
-    listener: &mut Listener,
-) -> Result<Option<Outcome>, AllocError> {
-    let mut number: u32 = 0;
-    for step in script.steps.as_slice() {
-        number = number.saturating_add(1);
-        if let Some(outcome) = early_outcome(alloc, runner, number, step, seed, listener)? {
-            return Ok(Some(outcome));
-        }
+    list: &Option<Sequence<T>>,
+) -> Result<Option<Sequence<T>>, AllocError>
+    ensures { IfOk result (λ copy. copy ≡ list.now) }
+{
+    match list {
+        Some(list) => Ok(Some(Sequence::from_vec(Vec::from_slice(alloc, list.as_slice())?))),
+        None => Ok(None),
     }
-    Ok(None)
 }
 
 /// What has come of a script whose steps ran to this stage.
-fn outcome_of(stage: &Stage, wanted: Wanted) -> Result<Outcome, AllocError> {
+fn outcome_of(stage: &Stage, wanted: Wanted) -> Result<Outcome, AllocError>
+    ensures { IfOk result (Judges wanted stage.now) }
+{
     match stage.world().audit() {
         Ok(_) => {}
         Err(AuditFault::Memory) => return Err(AllocError),
@@ -113,28 +239,6 @@ fn outcome_of(stage: &Stage, wanted: Wanted) -> Result<Outcome, AllocError> {
     match (wanted, stage.first_open()) {
         (Wanted::Answers, Some((client, time))) => Ok(Outcome::Unanswered { client, time }),
         _ => Ok(Outcome::Agreed),
-    }
-}
-
-/// Runs a step. How the script ends there, if it does.
-fn early_outcome(
-    alloc: Global,
-    runner: &mut Runner,
-    number: u32,
-    step: &NamedStep,
-    seed: u64,
-    listener: &mut Listener,
-) -> Result<Option<Outcome>, AllocError> {
-    if let Some(line) = runner.differing(step) {
-        return Ok(Some(Outcome::Unexpected { step: number, line }));
-    }
-    let mut text = String::new(alloc);
-    match runner.run(number, step, Some(seed), listener, &mut text) {
-        Ok(_) => Ok(None),
-        Err(fault) => match fault.into() {
-            ScriptKind::Memory => Err(AllocError),
-            kind => Ok(Some(Outcome::Faulted(ScriptFault { kind, step: number }))),
-        },
     }
 }
 
@@ -185,10 +289,6 @@ impl Watcher for Listener {
         Ok(())
     }
 
-    fn queued_nothing(&mut self, _cause: Cause) -> Result<(), AllocError> {
-        Ok(())
-    }
-
     fn about_timeout(&mut self, _stage: &Stage, _at: ReplicaId) -> Result<(), AllocError> {
         Ok(())
     }
@@ -200,5 +300,9 @@ impl Watcher for Listener {
         row: Option<Row>,
     ) -> Result<(), AllocError> {
         self.listen(row)
+    }
+
+    fn printed(&mut self, _stage: &Stage, _step: &Step, _text: &str) -> Result<(), AllocError> {
+        Ok(())
     }
 }

@@ -6,17 +6,17 @@
 //!     let played = trace_script(alloc, &placed, &mut writer, &mut Unwatched)?;
 #![tactic(auto)]
 
+mod cause;
 mod charted;
 mod evidence;
 mod explore;
 mod findings;
+mod in_memory;
 mod placed;
 mod queued;
 mod refusal;
-mod runner;
 mod trace;
 mod tracer;
-mod watcher;
 
 pub use charted::{ChartForm, chart_script};
 pub use explore::{Explored, Outcome, Seeds, Wanted, explore_seed};

@@ -1,7 +1,8 @@
 //! A script, and where its steps stand in its text.
 
-ghost use Rattle.std.specs.Prelude.{◌≡◌};
+ghost use Rattle.std.specs.Prelude.{◌≡◌, ◌<◌};
 ghost use Rattle.script_text.specs.Orders.{ordered};
+ghost use Rattle.world_trace.specs.Traces.{place_in};
 
 use script_text::{Script, lines_of_steps};
 use std::alloc::{AllocError, Global};
@@ -37,8 +38,11 @@ impl PlacedScript {
     }
 
     /// The line on which the step of this number begins, where it is known.
-    pub(crate) fn line_of(&self, number: u32) -> Option<usize> {
-        let index = (number as usize).checked_sub(1)?;
+    pub(crate) fn line_of(&self, number: u32) -> Option<usize>
+        requires { 0 < number }
+        ensures { result ≡ place_in self.now.lines.items number }
+    {
+        let index = number as usize - 1;
         self.lines.get(index).copied()
     }
 }

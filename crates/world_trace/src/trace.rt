@@ -1,13 +1,22 @@
 //! A script with a line for each thing that happens.
 
+ghost use Rattle.std.specs.Prelude.{◌≡◌, ◌++◌, [], IfErr, IfOk, OnOk, string_bytes};
+ghost use Rattle.std.specs.List.{flat_map};
+ghost use Rattle.std.specs.Io.KnownBytes.{Appends};
+ghost use Rattle.script_text.specs.Steps.{step_name};
+ghost use Rattle.world_chart.specs.Lines.{began_line, happening_line};
+ghost use Rattle.world_script.specs.Starts.{start_of};
+ghost use Rattle.world_trace.specs.Telling.{PassesOn, TellsSome};
+ghost use Rattle.world_trace.specs.Traces.{StepTraced, TracesScript, TracesSteps};
+
+use crate::in_memory::run_in_memory;
 use crate::placed::PlacedScript;
-use crate::runner::Runner;
 use crate::tracer::Tracer;
-use script_text::{NamedStep, ScriptFault, ScriptKind};
-use std::alloc::Global;
+use script_text::{NamedStep, ScriptFault, ScriptKind, Step};
+use std::alloc::{AllocError, Global};
 use std::io::Write;
-use world_chart::line_of;
-use world_script::{Played, Progress, RunFault, report, write_text};
+use world_chart::{Happening, line_of};
+use world_script::{Played, Progress, RunFault, Stage, report, write_bytes, write_text};
 
 /// Runs the steps of a script. Of each step it writes a line with its number, its place in the text and its name, one for each
 /// thing that happened, and then what `run_script` writes; faults as `run_script` does. It tells how far the script is, and
@@ -17,35 +26,55 @@ pub fn trace_script<O: Write, P: Progress>(
     placed: &PlacedScript,
     writer: &mut O,
     progress: &mut P,
-) -> Result<Played, ScriptFault> {
+) -> Result<Played, ScriptFault>
+    ensures { TracesScript placed.now.lines.items placed.now.script (O.contents writer.old) (O.contents writer.new) result }
+{
     match trace_steps(alloc, placed, writer, progress) {
         Ok(played) => Ok(played),
-        Err(fault) => Err(report(fault, writer)),
+        Err(fault) => {
+            let reported = report(fault, writer);
+            Err(reported)
+        }
     }
 }
 
+/// Runs the steps before the line of a fault is written.
 fn trace_steps<O: Write, P: Progress>(
     alloc: Global,
     placed: &PlacedScript,
     writer: &mut O,
     progress: &mut P,
-) -> Result<Played, ScriptFault> {
-    let script = &placed.script;
-    let Ok(mut runner) = Runner::new(alloc, &script.head, progress) else {
-        return Err(ScriptFault::at_head(ScriptKind::Memory));
-    };
-    let mut tracer = Tracer::new(alloc);
+) -> Result<Played, ScriptFault>
+    ensures { TracesSteps placed.now.lines.items placed.now.script (O.contents writer.old) (O.contents writer.new) result }
+{
+    match Stage::watched(alloc, &placed.script.head, progress) {
+        Ok(stage) => {
+            let mut traced = Traced::new(alloc, stage);
+            trace_steps_at(placed, &mut traced, writer, progress)
+        }
+        Err(_) => Err(ScriptFault::at_head(ScriptKind::Memory)),
+    }
+}
+
+/// Runs them from the stage of its head on.
+fn trace_steps_at<O: Write, P: Progress>(
+    placed: &PlacedScript,
+    traced: &mut Traced,
+    writer: &mut O,
+    progress: &mut P,
+) -> Result<Played, ScriptFault>
+    requires stage { traced.old.stage ≡ start_of placed.now.script.head }
+    requires unread { string_bytes traced.old.unread ≡ [] }
+    ensures { TracesSteps placed.now.lines.items placed.now.script (O.contents writer.old) (O.contents writer.new) result }
+{
+    let steps = placed.script.steps.as_slice();
     let mut number: u32 = 0;
-    for step in script.steps.as_slice() {
+    for step in steps {
         number = number.saturating_add(1);
-        progress.step(number, script.steps.as_slice().len());
-        let place = placed.line_of(number);
-        match trace_step(alloc, &mut runner, &mut tracer, number, place, step, writer) {
+        progress.step(number, steps.len());
+        match traced.step(number, placed.line_of(number), step, writer, progress) {
             Ok(Played::Whole) => {}
-            Ok(Played::Unexpected) => {
-                runner.tell_unexpected(number, step, progress);
-                return Ok(Played::Unexpected);
-            }
+            Ok(Played::Unexpected) => return Ok(Played::Unexpected),
             Err(fault) => {
                 let kind = fault.into();
                 return Err(ScriptFault { kind, step: number });
@@ -55,24 +84,109 @@ fn trace_steps<O: Write, P: Progress>(
     Ok(Played::Whole)
 }
 
-/// Runs a step, and writes what happened and then what it prints. Where the step ends early, both are written as
-/// far as they came.
-fn trace_step<O: Write>(
+/// A script that is traced.
+#[derive(Drop)]
+struct Traced {
     alloc: Global,
-    runner: &mut Runner,
-    tracer: &mut Tracer,
+    stage: Stage,
+    /// What was printed since the last `expect`.
+    unread: String,
+    tracer: Tracer,
+}
+
+impl Traced {
+    fn new(alloc: Global, stage: Stage) -> Traced
+        ensures stage { result.stage ≡ stage }
+        ensures unread { string_bytes result.unread ≡ [] }
+    {
+        Traced {
+            alloc,
+            stage,
+            unread: String::new(alloc),
+            tracer: Tracer::new(alloc),
+        }
+    }
+
+    /// Runs a step, and writes what happened and then what it prints. Where the step ends early, both are written as
+    /// far as they came.
+    fn step<O: Write, P: Progress>(
+        &mut self,
+        number: u32,
+        place: Option<usize>,
+        step: &NamedStep,
+        writer: &mut O,
+        progress: &mut P,
+    ) -> Result<Played, RunFault>
+        ensures { StepTraced number place (record { stage = self.old.stage; unread = string_bytes self.old.unread }) step.now (O.contents writer.old) (O.contents writer.new) result (record { stage = self.new.stage; unread = string_bytes self.new.unread }) }
+    {
+        let mut printed: Vec<u8> = Vec::new(self.alloc);
+        self.tracer.clear();
+        let mark = mark_of(self.alloc, number, place, &step.step)?;
+        let ended = run_in_memory(
+            &mut self.stage,
+            &mut self.unread,
+            number,
+            step,
+            &mut printed,
+            progress,
+            &mut self.tracer,
+        );
+        if let Err(fault) = write_told(self.alloc, &mark, self.tracer.happened(), writer) {
+            return Err(fault);
+        }
+        pass_on(ended, &printed, writer)
+    }
+}
+
+/// The mark of a step.
+fn mark_of(
+    alloc: Global,
     number: u32,
     place: Option<usize>,
-    step: &NamedStep,
+    step: &Step,
+) -> Result<String, AllocError>
+    ensures { IfOk result (λ mark. string_bytes mark ≡ began_line number place (step_name step.now)) }
+{
+    let began = Happening::Began {
+        step: number,
+        line: place,
+        name: step.name(),
+    };
+    line_of(alloc, &began)
+}
+
+/// Writes a step's mark, and a line for each thing that happened.
+fn write_told<O: Write>(
+    alloc: Global,
+    mark: &str,
+    happened: &[Happening],
     writer: &mut O,
-) -> Result<Played, RunFault> {
-    let mut text = String::new(alloc);
-    tracer.clear();
-    tracer.begin(number, place, step.step.name())?;
-    let ended = runner.run(number, step, None, tracer, &mut text);
-    for happening in tracer.happened() {
-        write_text(writer, &line_of(alloc, happening)?)?;
+) -> Result<(), RunFault>
+    ensures whole { OnOk result (Appends (O.contents writer.old) (O.contents writer.new) (mark.now ++ flat_map happening_line happened.now)) }
+    ensures early { IfErr result (TellsSome mark.now happened.now (O.contents writer.old) (O.contents writer.new)) }
+{
+    if let Err(fault) = write_text(writer, mark) {
+        return Err(fault);
     }
-    write_text(writer, &text)?;
-    ended
+    for happening in happened {
+        let line = line_of(alloc, happening)?;
+        if let Err(fault) = write_text(writer, &line) {
+            return Err(fault);
+        }
+    }
+    Ok(())
+}
+
+/// Writes what a step printed into memory. How it ended.
+fn pass_on<O: Write>(
+    ended: Result<Played, RunFault>,
+    printed: &[u8],
+    writer: &mut O,
+) -> Result<Played, RunFault>
+    ensures { PassesOn ended printed.now (O.contents writer.old) (O.contents writer.new) result }
+{
+    match write_bytes(writer, printed) {
+        Ok(()) => ended,
+        Err(fault) => Err(fault),
+    }
 }

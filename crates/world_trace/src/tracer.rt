@@ -1,15 +1,15 @@
 //! A watcher that notes what happens.
 
+use crate::cause::cause_in;
 use crate::evidence::Evidence;
 use crate::refusal::faulty_part;
-use crate::watcher::Watcher;
 use host_types::{Config, ReplicaId};
-use script_text::{Kind, Node};
+use script_text::{Kind, Node, Step};
 use seal::{SealFault, open};
 use std::alloc::{AllocError, Global};
 use std::sync::Arc;
-use world_chart::{Cause, Happening, Standing, changes, saying_in};
-use world_script::{Done, Letter, Row, Stage, Status};
+use world_chart::{Happening, Standing, changes, saying_in};
+use world_script::{Done, Letter, Row, Stage, Status, Watcher};
 
 /// Notes what happens, in order.
 #[derive(Drop)]
@@ -126,7 +126,7 @@ impl Tracer {
             self.happened.push(happening)?;
         }
         self.evidence.add(row)?;
-        for (one, other) in self.evidence.news()? {
+        for (one, other) in self.evidence.news() {
             self.happened.push(Happening::Blamed { one, other })?;
         }
         Ok(())
@@ -181,11 +181,6 @@ impl Watcher for Tracer {
         Ok(())
     }
 
-    fn queued_nothing(&mut self, cause: Cause) -> Result<(), AllocError> {
-        self.happened.push(Happening::Unqueued(cause))?;
-        Ok(())
-    }
-
     fn about_timeout(&mut self, stage: &Stage, at: ReplicaId) -> Result<(), AllocError> {
         self.before = stage.world().status(at);
         self.happened.push(Happening::TimedOut { at })?;
@@ -199,5 +194,15 @@ impl Watcher for Tracer {
         row: Option<Row>,
     ) -> Result<(), AllocError> {
         self.note_event(stage, at, row)
+    }
+
+    fn printed(&mut self, stage: &Stage, step: &Step, text: &str) -> Result<(), AllocError> {
+        if text.is_empty() {
+            return Ok(());
+        }
+        if let Some(cause) = cause_in(stage, step) {
+            self.happened.push(Happening::Unqueued(cause))?;
+        }
+        Ok(())
     }
 }

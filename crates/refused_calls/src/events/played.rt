@@ -1,19 +1,15 @@
 //! The events that happen to the replicas of a script when it is played.
 
-ghost use Rattle.std.specs.Prelude.{◌<◌, ◌≡◌};
-ghost use Rattle.world_tests.specs.Letters.{meant_count};
+ghost use Rattle.std.specs.Prelude.{◌≡◌};
 ghost use Rattle.world_tests.specs.Keys.{keys_of};
 
 use anyhow::{Result, anyhow};
 use host_types::{Bytes, Config, ReplicaId, ReplicaSet};
 use lms_tree::Signer;
-use script_text::{Filter, Head, Node, Script, Step};
+use script_text::{Head, NamedStep, Node, Script, Step};
 use std::alloc::{AllocError, Global};
 use std::sync::Arc;
-use world_tests::{Event, KeySources, Keys, Stage};
-
-/// More deliveries than a script's step has.
-const MOST: u32 = 10_000;
+use world_tests::{Event, KeySources, Keys, Letter, Row, Stage, Unwatched, Watcher, run_step};
 
 /// The correct replicas of a script before their first signatures.
 #[derive(Drop)]
@@ -73,81 +69,96 @@ fn correct(
 pub(crate) fn events_of(alloc: Global, script: &Script, sources: &KeySources) -> Result<Vec<Event>>
     requires { sources.now ≡ keys_of script.now.head }
 {
+    let mut stage = Stage::with_keys(alloc, &script.head, sources)?;
     let mut recorder = Recorder {
         alloc,
-        stage: Stage::with_keys(alloc, &script.head, sources)?,
         events: Vec::new(alloc),
     };
-    recorder.record(script)?;
+    let mut unread = String::new(alloc);
+    let mut number: u32 = 0;
+    for step in script.steps.as_slice() {
+        number = number.saturating_add(1);
+        play_step(alloc, &mut stage, &mut unread, number, step, &mut recorder)?;
+    }
     Ok(recorder.into_events())
 }
 
-/// A script that is played, and the events so far.
+/// Runs a step. What it prints is passed over.
+fn play_step(
+    alloc: Global,
+    stage: &mut Stage,
+    unread: &mut String,
+    number: u32,
+    step: &NamedStep,
+    recorder: &mut Recorder,
+) -> Result<()> {
+    let mut printed: Vec<u8> = Vec::new(alloc);
+    let ended = run_step(
+        stage,
+        unread,
+        number,
+        step,
+        &mut printed,
+        &mut Unwatched,
+        recorder,
+    );
+    match ended {
+        Ok(_) => Ok(()),
+        Err(_) => Err(anyhow!("a step can't be run")),
+    }
+}
+
+/// The events that happen to replicas while a script is played.
 #[derive(Drop)]
 struct Recorder {
     alloc: Global,
-    stage: Stage,
     events: Vec<Event>,
 }
 
 impl Recorder {
-    fn record(&mut self, script: &Script) -> Result<()> {
-        for named in script.steps.as_slice() {
-            self.step(&named.step)?;
-        }
-        Ok(())
-    }
-
     fn into_events(self) -> Vec<Event> {
         self.events
     }
+}
 
-    fn step(&mut self, step: &Step) -> Result<()> {
-        match step {
-            Step::Deliver { filter, .. } => self.deliver(filter),
-            Step::Timeout(at) => Ok(self.time_out(at.as_slice())?),
-            _ => self.run(step),
-        }
-    }
-
-    /// Runs a step that lets nothing happen to a replica. What it prints is passed over.
-    fn run(&mut self, step: &Step) -> Result<()> {
-        let mut sink = Vec::new(self.alloc);
-        match self.stage.run(step, &mut sink) {
-            Ok(_) => Ok(()),
-            Err(_) => Err(anyhow!("a step can't be run")),
-        }
-    }
-
-    fn time_out(&mut self, at: &[ReplicaId]) -> Result<(), AllocError> {
-        for id in at {
-            self.events.push(Event::Timeout { at: *id })?;
-            self.stage.time_out_at(*id)?;
+impl Watcher for Recorder {
+    fn about(&mut self, _stage: &Stage, letter: &Letter) -> Result<(), AllocError> {
+        if let Node::Replica(to) = letter.to() {
+            let bytes = Bytes::from_vec(Vec::from_slice(self.alloc, letter.bytes())?);
+            self.events.push(Event::Deliver { to, bytes })?;
         }
         Ok(())
     }
 
-    /// Delivers the oldest letter that is meant, until none is.
-    fn deliver(&mut self, filter: &Filter) -> Result<()> {
-        for _ in 0..MOST {
-            if self.stage.count_meant(filter) == 0 {
-                return Ok(());
-            }
-            self.deliver_first(filter)?;
-        }
-        Err(anyhow!("the deliveries do not end"))
+    fn handed(
+        &mut self,
+        _stage: &Stage,
+        _to: Node,
+        _line: &str,
+        _row: Option<Row>,
+    ) -> Result<(), AllocError> {
+        Ok(())
     }
 
-    fn deliver_first(&mut self, filter: &Filter) -> Result<(), AllocError>
-        requires { 0 < meant_count filter.now self.old.stage.queue }
-    {
-        if let Some(letter) = self.stage.letter_meant(filter, 0) {
-            if let Node::Replica(to) = letter.to() {
-                let bytes = Bytes::from_vec(letter.bytes().to_vec(self.alloc)?);
-                self.events.push(Event::Deliver { to, bytes })?;
-            }
-        }
-        self.stage.deliver_at(filter, 0)?;
+    fn losing(&mut self, _letter: &Letter) -> Result<(), AllocError> {
+        Ok(())
+    }
+
+    fn about_timeout(&mut self, _stage: &Stage, at: ReplicaId) -> Result<(), AllocError> {
+        self.events.push(Event::Timeout { at })?;
+        Ok(())
+    }
+
+    fn timed_out(
+        &mut self,
+        _stage: &Stage,
+        _at: ReplicaId,
+        _row: Option<Row>,
+    ) -> Result<(), AllocError> {
+        Ok(())
+    }
+
+    fn printed(&mut self, _stage: &Stage, _step: &Step, _text: &str) -> Result<(), AllocError> {
         Ok(())
     }
 }

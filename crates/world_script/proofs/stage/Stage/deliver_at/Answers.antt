@@ -8,13 +8,13 @@ use Rattle.world_script.proofs.Delivering.{delivered_at}
 use Rattle.world_script.proofs.stage.Stage.deliver_at.Goals as goal
 
 pub take_meant-requires : goal.take_meant-requires
-take_meant-requires c =
+take_meant-requires g c =
     let kept : StageFacts = record { world = c.self.inside.world; forgers = c.self.inside.forgers.items; sessions = c.self.inside.sessions.sessions.items; made = c.self.inside.made.items; named = c.self.inside.named.items; queue = c.self.inside.queue } in
     let view : kept ≡ c.args.self.now = c.self.view_is in
     subst (λ (s : StageFacts). c.args.passed < meant_count c.args.filter.now s.queue) (sym view) c.requires
 
 pub returns : goal.returns
-returns c =
+returns g c =
     let kept : StageFacts = record { world = c.self.inside.world; forgers = c.self.inside.forgers.items; sessions = c.self.inside.sessions.sessions.items; made = c.self.inside.made.items; named = c.self.inside.named.items; queue = c.self.inside.queue } in
     let view : kept ≡ c.args.self.now = c.self.view_is in
     IfOk-weaker c.hand_over.result _ _

@@ -9,7 +9,7 @@ use Rattle.world_script.proofs.Delivering.{delivered, restored}
 use Rattle.world_script.proofs.stage.Stage.deliver_next.Goals as goal
 
 pub returns-in_default : goal.returns-in_default
-returns-in_default c =
+returns-in_default g c =
     let kept : StageFacts = record { world = c.self.inside.world; forgers = c.self.inside.forgers.items; sessions = c.self.inside.sessions.sessions.items; made = c.self.inside.made.items; named = c.self.inside.named.items; queue = c.self.inside.queue } in
     let view : kept ≡ c.args.self.now = c.self.view_is in
     let m = c.in_ok-letter.ensures in
@@ -17,7 +17,7 @@ returns-in_default c =
     (restored c.args.filter.now kept c.args.others.now c.next_meant.new.others c.next_meant.new.self c.swap.new.x c.in_ok-letter.field-0 (ap is_some c.in_default.is) m.found m.rest m.emptied c.swap.ensures.x_after)
 
 pub returns : goal.returns
-returns c =
+returns g c =
     let kept : StageFacts = record { world = c.self.inside.world; forgers = c.self.inside.forgers.items; sessions = c.self.inside.sessions.sessions.items; made = c.self.inside.made.items; named = c.self.inside.named.items; queue = c.self.inside.queue } in
     let view : kept ≡ c.args.self.now = c.self.view_is in
     let m = c.in_ok-letter.ensures in (

@@ -1,0 +1,2 @@
+pub use Rattle.world_lines.specs.Lines
+pub use Rattle.world_lines.specs.declared.happening.Happening

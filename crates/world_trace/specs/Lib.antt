@@ -1,0 +1,4 @@
+pub mod Exploring
+pub mod Searching
+pub mod Telling
+pub mod Traces
