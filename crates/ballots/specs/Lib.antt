@@ -1,2 +1,12 @@
 pub mod Ballots
 pub mod ByKey
+pub use Rattle.pbft_model.specs.Acts
+pub use Rattle.pbft_model.specs.Certificates
+pub use Rattle.pbft_model.specs.Core
+pub use Rattle.pbft_model.specs.Duties
+pub use Rattle.pbft_model.specs.Histories
+pub use Rattle.pbft_model.specs.Rules
+pub use Rattle.pbft_model.specs.Setup
+pub use Rattle.pbft_model.specs.Tables
+pub use Rattle.pbft_model.specs.Validity
+pub use Rattle.pbft_model.specs.Words

@@ -2,7 +2,7 @@
 
 use anyhow::Result;
 use host_types::{ClientEntry, ClientId, Config, TenantId};
-use lms_tree::{Height, Signer};
+use lms_tree::{Height, KeySource, Signer};
 use std::alloc::{AllocError, Global};
 use std::sync::Arc;
 
@@ -30,6 +30,30 @@ pub fn signers_of_levels(alloc: Global, count: u8) -> Result<Vec<Signer>, AllocE
     for id in 0..count {
         let signer = Signer::from_seed2(alloc, Height::H5, Height::H5, [id; 16], [2; 32])?;
         signers.push(signer)?;
+    }
+    Ok(signers)
+}
+
+/// The sources of the keys with the ids from `first` on, with a top tree of height 5 and these bottom trees.
+pub fn sources(
+    alloc: Global,
+    bottom: Option<Height>,
+    first: u8,
+    count: u8,
+) -> Result<Vec<KeySource>, AllocError> {
+    let mut sources = Vec::new(alloc);
+    for index in 0..count {
+        let id = first.saturating_add(index);
+        sources.push(KeySource::from_seed(alloc, Height::H5, bottom, [id; 16], [2; 32])?)?;
+    }
+    Ok(sources)
+}
+
+/// A signer of each source, none of whose leaves was used.
+pub fn signers_from(alloc: Global, sources: &[KeySource]) -> Result<Vec<Signer>, AllocError> {
+    let mut signers = Vec::new(alloc);
+    for source in sources {
+        signers.push(source.signer(alloc)?)?;
     }
     Ok(signers)
 }

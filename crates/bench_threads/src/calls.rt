@@ -4,10 +4,10 @@ ghost use Rattle.std.specs.Prelude.{◌≡◌, IfOk};
 ghost use Rattle.std.specs.List.{All};
 
 use anyhow::{Result, anyhow};
-use bench_common::members::{FIRST_CLIENT, config, signers, signers_of_levels};
+use bench_common::members::{FIRST_CLIENT, config, signers};
 use bench_common::operations::{PUT, call as call_of, installation, large_code, put};
 use bench_common::{Measures, NoGate};
-use host_client::{Host, Row, Session, call, call_or_idle};
+use host_client::{Host, Row, Session, audit, call, call_or_idle};
 use host_types::{Bytes, ClientId, Config, ReplicaId};
 use lms_tree::{Height, Signer};
 use std::alloc::Global;
@@ -177,7 +177,8 @@ fn start<R: Threads + Wait + Copy + Send + Sync + Drop + 'static>(
     setup: Setup,
 ) -> Result<(Arc<Host>, Vec<Caller>)> {
     let replicas = signers(alloc, setup.height, 0, REPLICAS)?;
-    start_with(rt, alloc, setup, replicas)
+    let clients = signers(alloc, setup.height, FIRST_CLIENT, setup.clients)?;
+    start_with(rt, alloc, setup, replicas, clients)
 }
 
 /// Starts a host of replicas with these signers and its clients, likewise.
@@ -186,8 +187,8 @@ fn start_with<R: Threads + Wait + Copy + Send + Sync + Drop + 'static>(
     alloc: Global,
     setup: Setup,
     replicas: Vec<Signer>,
+    clients: Vec<Signer>,
 ) -> Result<(Arc<Host>, Vec<Caller>)> {
-    let clients = signers(alloc, setup.height, FIRST_CLIENT, setup.clients)?;
     let tenants = u32::from(setup.tenants);
     let config = config(alloc, 1, setup.interval, &replicas, &clients, tenants)?;
     let host = start_host(rt, alloc, &config, replicas, setup.openers)?;
@@ -241,14 +242,12 @@ pub(crate) fn measure<R: Measures + Threads + Wait + Copy + Send + Sync + Drop +
     })
 }
 
-/// Whether all calls of a host are answered, whose replicas' keys are of two levels and whose clients call at the same time;
-/// and its journals.
+/// Whether all calls of a host with these signers are answered, whose clients call at the same time, and its journals agree.
 pub(crate) fn goes_on<
     R: Clock + AllocGlobal + Threads + Wait + Copy + Send + Sync + Drop + 'static,
->(rt: &R, setup: Setup) -> Result<(bool, Vec<(ReplicaId, Vec<Row>)>)> {
+>(rt: &R, setup: Setup, replicas: Vec<Signer>, clients: Vec<Signer>) -> Result<bool> {
     let alloc = rt.alloc();
-    let replicas = signers_of_levels(alloc, REPLICAS)?;
-    let (host, callers) = start_with(rt, alloc, setup, replicas)?;
+    let (host, callers) = start_with(rt, alloc, setup, replicas, clients)?;
     let mut crew = Vec::new(alloc);
     for caller in callers {
         let rt = *rt;
@@ -262,5 +261,5 @@ pub(crate) fn goes_on<
     while let Some(thread) = crew.pop() {
         all = thread.join(rt) && all;
     }
-    Ok((all, host.close(rt)?))
+    Ok(audit(alloc, &host.close(rt)?).is_ok() && all)
 }

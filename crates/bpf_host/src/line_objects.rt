@@ -8,8 +8,8 @@ use script_meaning::{Outcome, meaning_of};
 use std::alloc::{AllocError, Global};
 use std::io::{self, ErrorKind, Write};
 
-/// The objects of lines, but for those of replies: how many words a line has, how it begins, and its object, in which `@a` stands
-/// for its first word. Of two that fit the first counts.
+/// The objects of lines, but for those of replies: how many words a line has, how it begins, where `*` stands for a word, and its
+/// object, in which `@a` stands for its first word. Of two that fit the first counts.
 const FORMS: &str = r#"3|refused |{"fault":"@c","of":"message","replica":@b}
 2|refused |{"fault":"@b","of":"state"}
 2|nothing |{"queued":false}
@@ -29,11 +29,20 @@ const FORMS: &str = r#"3|refused |{"fault":"@c","of":"message","replica":@b}
 5|unanswered |{"client":@c,"time":"@e","answered":false}
 3|explored |{"explored":"@b"}
 9|blame |{"blame":@b,"kind":"@c","view":@e,"number":"@g","digests":["@h","@i"]}
-7|blame |{"blame":@b,"kind":"@c","@d":"@e","digests":["@f","@g"]}
+8|blame |{"blame":@b,"kind":"@c","view":@e,"hides":"@g","digest":"@h"}
+7|blame * checkpoint |{"blame":@b,"kind":"@c","@d":"@e","digests":["@f","@g"]}
+7|blame |{"blame":@b,"kind":"@c","view":@e,"digests":["@f","@g"]}
+6|blame * leaf |{"blame":@b,"leaf":"@d","digests":["@e","@f"]}
+6|blame |{"blame":@b,"kind":"@c","view":@e,"valid":false}
 "#;
 
 /// How a line begins that says what is found under a seed.
 const SEED: &str = "seed ";
+
+/// How a line of choices begins, and what stands before its list.
+const STEP: &str = "# step ";
+
+const CHOICES: &str = ": choose = ";
 
 /// How the line of a script's fault begins: the failure of the command has an object of its own.
 const FAULT: &str = "script fault ";
@@ -149,20 +158,42 @@ fn plain_object(alloc: Global, script: &Script, line: &str) -> Result<String, Al
             return filled(alloc, object, line);
         }
     }
+    if let Some((step, choices)) = choices_in(line) {
+        return format!(in alloc; "{{\"step\":{step},\"choose\":{choices}}}");
+    }
     let mut object = String::from_str(alloc, "{\"line\":")?;
     push_json(&mut object, line)?;
     object.push('}')?;
     Ok(object)
 }
 
+/// The step and the list of a line of choices, `# step 4: choose = [0, 2]`; none of another line.
+fn choices_in(line: &str) -> Option<(&str, &str)> {
+    line.strip_prefix(STEP)?.split_once(CHOICES)
+}
+
 /// The object of a form, where a line of so many words has it.
 fn object_by<'a>(form: &'a str, count: usize, line: &str) -> Option<&'a str> {
     let (many, rest) = form.split_once('|')?;
     let (front, object) = rest.split_once('|')?;
-    if many.parse::<usize>() == Ok(count) && line.starts_with(front) {
+    if many.parse::<usize>() == Ok(count) && begins(line, front) {
         Some(object)
     } else {
         None
+    }
+}
+
+/// Whether a line begins so, where `*` stands for a word.
+fn begins(line: &str, front: &str) -> bool {
+    let Some((start, rest)) = front.split_once("* ") else {
+        return line.starts_with(front);
+    };
+    match line
+        .strip_prefix(start)
+        .and_then(|behind| behind.split_once(' '))
+    {
+        Some((_, behind)) => behind.starts_with(rest),
+        None => false,
     }
 }
 

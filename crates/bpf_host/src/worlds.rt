@@ -81,12 +81,19 @@ pub(crate) fn explore_command<'a>(alloc: Global) -> Result<Command<'a>, AllocErr
         .long("answered")
         .action(ArgAction::SetTrue)
         .help("a request of a client that is open behind the last step ends the search, too");
+    let shrink = Arg::new(alloc, "shrink")
+        .long("shrink")
+        .action(ArgAction::SetTrue)
+        .help(
+            "behind what ends the search few choices for each deliver step that come to the same",
+        );
     Command::new(alloc, "explore")
         .about("Runs a script under many orders of its deliveries and audits each")
         .arg(file_argument(alloc, "the script [default: standard input]"))?
         .arg(seeds)?
         .arg(workers)?
         .arg(answered)?
+        .arg(shrink)?
         .arg(json_option(alloc))
 }
 
@@ -155,6 +162,7 @@ pub(crate) fn explore<R: Files + AllocGlobal + Threads + Sync, I: Read, O: Write
     let search = Search {
         seeds: seeds_of(options)?,
         wanted: wanted_of(options),
+        shrinks: options.get_flag("shrink"),
     };
     let workers = usize::from(options.get_one::<u8>("workers").unwrap_or(1));
     let beside = place.beside(file_of(options));

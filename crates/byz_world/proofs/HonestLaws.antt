@@ -175,7 +175,7 @@ strictly a i low differ = either (cases_lt a i) where
   either (inl less) = less
   either (inr more) = absurd (eqb-false a i differ (omega (arith, low, more)))
 
-among : (p : ℕ → Bool) (i a n : ℕ) → a ≤ i → i < a + n → p i ≡ true → IsIn i (filter p (range_with_len a n))
+pub among : (p : ℕ → Bool) (i a n : ℕ) → a ≤ i → i < a + n → p i ≡ true → IsIn i (filter p (range_with_len a n))
 among p i a zero low high is = absurd (omega (arith, low, high))
 among p i a (suc n) low high is = either (eqb a i) refl (λ less. among p i (a + 1) n (omega (arith, less)) (omega (arith, high)) is) where
   later : (b : Bool) → IsIn i (filter p (range_with_len (a + 1) n)) → IsIn i (cond b (a ∷ filter p (range_with_len (a + 1) n)) (filter p (range_with_len (a + 1) n)))
@@ -203,7 +203,7 @@ listed_in c (id ∷ ids) (signer ∷ signers) j i listed signed (inl here) =
 listed_in c (id ∷ ids) (signer ∷ signers) j i listed signed (inr later) = listed_in c ids signers j i listed.1 signed.1 later
 
 -- the member of an id, and its rows in the report
-found_rows : (ms : List MemberFacts) (id : ℕ) (m : MemberFacts) → find (λ x. eqb x.replica.me id) ms ≡ Some m → (m.replica.me ≡ id) × (rows_in (map outcome_of ms) id ≡ m.rows)
+pub found_rows : (ms : List MemberFacts) (id : ℕ) (m : MemberFacts) → find (λ x. eqb x.replica.me id) ms ≡ Some m → (m.replica.me ≡ id) × (rows_in (map outcome_of ms) id ≡ m.rows)
 found_rows [] id m is = absurd (false≢true (ap is_some is))
 found_rows (x ∷ ms) id m is = either (eqb x.replica.me id) refl is (λ later. found_rows ms id m later) where
   either : (b : Bool) → eqb x.replica.me id ≡ b → cond b (Some x) (find (λ y. eqb y.replica.me id) ms) ≡ Some m

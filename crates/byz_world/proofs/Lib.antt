@@ -9,6 +9,7 @@ mod FirstLaws
 mod ProcedureLaws
 mod RecordLaws
 mod JournalLaws
+mod WorldAudits
 pub mod RunLaws
 pub use Rattle.pbft_codec.proofs.MessageLaws
 pub use Rattle.pbft_model.proofs.Found

@@ -47,12 +47,12 @@ in_last : {X : Type 0} (x : X) (xs ys : List X) → IsIn x ys → IsIn x (xs ++ 
 in_last x [] ys at = at
 in_last x (y ∷ xs) ys at = inr (in_last x xs ys at)
 
-in_mapped : {X Y : Type 0} (f : X → Y) (x : X) (xs : List X) → IsIn x xs → IsIn (f x) (map f xs)
+pub in_mapped : {X Y : Type 0} (f : X → Y) (x : X) (xs : List X) → IsIn x xs → IsIn (f x) (map f xs)
 in_mapped f x [] at = absurd at
 in_mapped f x (y ∷ xs) (inl here) = inl (ap f here)
 in_mapped f x (y ∷ xs) (inr later) = inr (in_mapped f x xs later)
 
-mapped_in : {X Y : Type 0} (f : X → Y) (y : Y) (xs : List X) → IsIn y (map f xs) → (x : X) × IsIn x xs × (f x ≡ y)
+pub mapped_in : {X Y : Type 0} (f : X → Y) (y : Y) (xs : List X) → IsIn y (map f xs) → (x : X) × IsIn x xs × (f x ≡ y)
 mapped_in f y [] at = absurd at
 mapped_in f y (x ∷ xs) (inl here) = (x, inl refl, sym here)
 mapped_in f y (x ∷ xs) (inr later) = let w = mapped_in f y xs later in (w.0, inr w.1, w.2)

@@ -26,6 +26,7 @@ use Rattle.byz_world.specs.Procedures.{StaysSafe}
 use Rattle.byz_world.specs.Leading.{AreJournalsOf, IsSoundWorld, IsToldOf, LeadsTo, LeadsToSoundWorlds}
 use Rattle.byz_world.proofs.HonestLaws.{at_kept, world_agrees, world_family, world_lawful, world_told}
 use Rattle.byz_world.proofs.ProcedureLaws.{lawful_safe}
+use Rattle.byz_world.proofs.WorldAudits.{world_alike, world_audited}
 
 runs_more : (w : WorldFacts) (es : List Event) (e : Event) (u v : WorldFacts) (row : Option RowFacts) → Runs w es u → Gives u e (Ok row) v → Runs w (es ++ e ∷ []) v
 runs_more w [] e u v row runs gives = (row, v, subst (λ (x : WorldFacts). Gives x e (Ok row) v) runs gives, refl)
@@ -96,14 +97,11 @@ pub sound_worlds : (c : Configuration) (faulty : ℕ → Bool) (signers : List S
 sound_worlds c faulty signers legal listed = λ es t leads. record {
   family = λ j of honest. world_family c faulty signers es t leads j of legal listed honest;
   agrees = λ j of honest. world_agrees c faulty signers es t leads j of legal listed honest;
+  audited = λ j of honest. world_audited c faulty signers es t leads j of legal listed honest;
+  alike = λ j of honest. world_alike c faulty signers es t leads j of legal listed honest;
   safe = λ j of. lawful_safe (setup_of c) j legal (λ i correct. world_lawful c faulty signers es t leads j of i);
   told = λ j of id m is. world_told c faulty signers es t leads j of id m is;
 }
-
-pub told_state : (c : Configuration) (j : Journals) (id : ℕ) (m : MemberFacts) (s : Core) (entries : List (Option (Signed RequestBody))) → IsToldOf c j id m → m.replica.core ≡ Some s
-    → IsCorrect (setup_of c) j.faulty id → AgreesOver (setup_of c) j entries → HoldsState (setup_of c) entries s
-told_state c j id m s entries told is correct over =
-    over.states id correct s (record { rows = j.rows id; rest = []; splits = sym (append-nil (j.rows id)); core = told.last; comes = told.comes; there = inl (told.core_is s is) })
 
 -- ---- what a run reports
 

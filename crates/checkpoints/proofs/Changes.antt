@@ -11,7 +11,7 @@ use Rattle.std.proofs.lemmas.Bool.{cases_eq, eq-eqb, ne_eqb}
 use Rattle.host_types.specs.Configuration.{Configuration, IsConfiguration}
 use Rattle.host_types.specs.declared.Digest.{Digest}
 use Rattle.host_types.specs.declared.SeqNo.{SeqNo}
-use Rattle.pbft_model.specs.Tables.{Key, with_entry, number_key}
+use Rattle.ballots.specs.Tables.{Key, with_entry, number_key}
 use Rattle.ballots.specs.Ballots.{Ballot}
 use Rattle.ballots.specs.ByKey.{table_by}
 use Rattle.checkpoints.specs.Kept.{IsGreatestStable, KeptCheckpoints, NoneStableAbove, start}

@@ -3,14 +3,14 @@ use Rattle.std.proofs.Common.{◌≡◌, ℕ, ◌<◌, ◌≤◌, Bool, true, fa
 use Rattle.std.specs.Prelude.{nat_lt, IsSome}
 use Rattle.std.proofs.lemmas.Bool.{and_from, cases_lt, and_parts, cond-true, cond-false, lt-ltb, ltb-true, ltb-false, false≢true}
 use Rattle.host_types.specs.declared.Digest.{Digest}
-use Rattle.pbft_model.specs.Certificates.{is_stable}
-use Rattle.pbft_model.specs.Core.{Core, proof_of}
-use Rattle.pbft_model.specs.Duties.{greatest_stable, is_stable_entry}
-use Rattle.pbft_model.specs.Histories.{IsIn}
-use Rattle.pbft_model.specs.Setup.{Setup, setup_of}
-use Rattle.pbft_model.specs.Tables.{Table, at, checkpoint_key, entries_in}
-use Rattle.pbft_model.specs.Words.{Signed, Checkpoint}
-use Rattle.pbft_model.proofs.Calm.{at_in}
+use Rattle.ballots.specs.Certificates.{is_stable}
+use Rattle.ballots.specs.Core.{Core, proof_of}
+use Rattle.ballots.specs.Duties.{greatest_stable, is_stable_entry}
+use Rattle.ballots.specs.Histories.{IsIn}
+use Rattle.ballots.specs.Setup.{Setup, setup_of}
+use Rattle.ballots.specs.Tables.{Table, at, checkpoint_key, entries_in}
+use Rattle.ballots.specs.Words.{Signed, Checkpoint}
+use Rattle.ballots.proofs.Calm.{at_in}
 use Rattle.checkpoints.specs.Kept.{HasCheckpointsOf, IsGreatestStable, KeptCheckpoints, NoneStableAbove, proof_for, stable_at, stable_digest}
 use Rattle.checkpoints.proofs.Proving.{above_mark}
 use Rattle.checkpoints.proofs.Stable.{is_stable_one, some_signer, stable_is}

@@ -7,9 +7,9 @@ use Rattle.std.specs.BTreeMap as tree
 use Rattle.std.proofs.lemmas.Bool.{cases_lt, lt-ltb, le-ltb, le-leb, lt-leb, cond-true, cond-false}
 use Rattle.host_types.specs.Configuration.{Configuration, IsConfiguration}
 use Rattle.host_types.specs.declared.SeqNo.{SeqNo}
-use Rattle.pbft_model.specs.Core.{if_passes}
-use Rattle.pbft_model.specs.Tables.{Key, keep, first_in, is_above}
-use Rattle.pbft_model.specs.Words.{Signed, Checkpoint}
+use Rattle.ballots.specs.Core.{if_passes}
+use Rattle.ballots.specs.Tables.{Key, keep, first_in, is_above}
+use Rattle.ballots.specs.Words.{Signed, Checkpoint}
 use Rattle.ballots.specs.Ballots.{Ballot}
 use Rattle.ballots.proofs.Tables.{kept_table}
 use Rattle.checkpoints.specs.Kept.{KeptCheckpoints, discarded, proof_at}

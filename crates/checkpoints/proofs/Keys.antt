@@ -11,7 +11,7 @@ use Rattle.std.specs.BTreeMap as tree
 use Rattle.std.proofs.lemmas.Bool.{cases_Bool, cases_eq, cases_lt, le-ltb}
 use Rattle.std.proofs.lemmas.Map.Entries.{lookup-filter-keys}
 use Rattle.std.proofs.lemmas.Map.Text.{is_eq-slice_cmp}
-use Rattle.pbft_model.specs.Tables.{Key, at, with_entry}
+use Rattle.ballots.specs.Tables.{Key, at, with_entry}
 use Rattle.ballots.specs.Ballots.{Ballot}
 use Rattle.ballots.specs.ByKey.{is_among, table_by, Covers}
 use Rattle.ballots.proofs.Tables.{among_append, ties, is_equal, is_read_off, sorted_by, found}

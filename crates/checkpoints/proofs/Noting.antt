@@ -13,9 +13,9 @@ use Rattle.host_types.specs.declared.Digest.{Digest}
 use Rattle.host_types.specs.declared.SeqNo.{SeqNo}
 use Rattle.pbft_codec.specs.declared.body.Body.{Body}
 use Rattle.pbft_codec.specs.declared.body.Body.TheVariants as bodies
-use Rattle.pbft_model.specs.Acts.{with_body}
-use Rattle.pbft_model.specs.Tables.{Key, at, add_if, checkpoint_key}
-use Rattle.pbft_model.specs.Words.{Signed, Checkpoint}
+use Rattle.ballots.specs.Acts.{with_body}
+use Rattle.ballots.specs.Tables.{Key, at, add_if, checkpoint_key}
+use Rattle.ballots.specs.Words.{Signed, Checkpoint}
 use Rattle.seal.specs.Opening.{CheckedMessage}
 use Rattle.ballots.specs.Ballots.{Ballot, digest_in, is_digest, vote_at, is_for_other, with_first}
 use Rattle.ballots.proofs.Tables.{added_table, same_table}

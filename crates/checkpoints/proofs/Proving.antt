@@ -9,8 +9,8 @@ use Rattle.host_types.specs.Configuration.{Configuration}
 use Rattle.host_types.specs.declared.Digest.{Digest}
 use Rattle.host_types.specs.declared.SeqNo.{SeqNo}
 use Rattle.pbft_codec.specs.declared.body.Body.TheVariants as bodies
-use Rattle.pbft_model.specs.Certificates.{is_stable}
-use Rattle.pbft_model.specs.Setup.{quorum}
+use Rattle.ballots.specs.Certificates.{is_stable}
+use Rattle.ballots.specs.Setup.{quorum}
 use Rattle.seal.specs.Lists.{CheckedMessages}
 use Rattle.seal.specs.Parts.{as_message}
 use Rattle.ballots.specs.Ballots.{Ballot, is_digest, least_votes}

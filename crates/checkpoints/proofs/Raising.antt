@@ -16,13 +16,13 @@ use Rattle.std.proofs.lemmas.Slice.Eq.{bytes_eq-Decides}
 use Rattle.sha2.specs.Sha256.{sha256}
 use Rattle.host_types.specs.declared.Digest.{Digest}
 use Rattle.host_types.specs.declared.SeqNo.{SeqNo}
-use Rattle.pbft_model.specs.Acts.{Rise}
-use Rattle.pbft_model.specs.Certificates.{is_stable}
-use Rattle.pbft_model.specs.Core.{Core}
-use Rattle.pbft_model.specs.Duties.{Do, Duty, may_rise, or_else, rise_among, rise_with}
-use Rattle.pbft_model.specs.Setup.{Setup, setup_of}
-use Rattle.pbft_model.specs.Tables.{Key, Table, at, first_in, number_key}
-use Rattle.pbft_model.specs.Words.{Signed, Checkpoint}
+use Rattle.ballots.specs.Acts.{Rise}
+use Rattle.ballots.specs.Certificates.{is_stable}
+use Rattle.ballots.specs.Core.{Core}
+use Rattle.ballots.specs.Duties.{Do, Duty, may_rise, or_else, rise_among, rise_with}
+use Rattle.ballots.specs.Setup.{Setup, setup_of}
+use Rattle.ballots.specs.Tables.{Key, Table, at, first_in, number_key}
+use Rattle.ballots.specs.Words.{Signed, Checkpoint}
 use Rattle.ballots.specs.Ballots.{is_digest}
 use Rattle.ballots.proofs.Tables.{by, is_equal, same_key}
 use Rattle.checkpoints.specs.Kept.{HasTablesOf, IsRaised, KeptCheckpoints, stable_at, stable_digest}

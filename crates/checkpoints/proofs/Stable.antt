@@ -8,16 +8,16 @@ use Rattle.std.proofs.lemmas.Option.{same_Some}
 use Rattle.std.proofs.lemmas.Slice.Eq.{bytes_eq-Decides}
 use Rattle.host_types.specs.declared.Digest.{Digest}
 use Rattle.host_types.specs.Configuration.{Configuration}
-use Rattle.pbft_model.specs.Words.{Signed, Checkpoint}
-use Rattle.pbft_model.specs.Histories.{IsIn}
-use Rattle.pbft_model.specs.Core.{if_passes}
-use Rattle.pbft_model.specs.Certificates.{has_quorum, is_checkpoint_of, is_stable, some_by}
-use Rattle.pbft_model.specs.Setup.{count, is_least, is_replica, numbers_from, quorum, replicas}
-use Rattle.pbft_model.specs.Tables.{Table, at, checkpoint_key}
-use Rattle.pbft_model.proofs.Counting.{quorums_meet, quorum_has}
-use Rattle.pbft_model.proofs.Found.{from_gathered, passed}
-use Rattle.pbft_model.proofs.Gathering.{count_least, length_gathered}
-use Rattle.pbft_model.proofs.Stages.{in_numbers}
+use Rattle.ballots.specs.Words.{Signed, Checkpoint}
+use Rattle.ballots.specs.Histories.{IsIn}
+use Rattle.ballots.specs.Core.{if_passes}
+use Rattle.ballots.specs.Certificates.{has_quorum, is_checkpoint_of, is_stable, some_by}
+use Rattle.ballots.specs.Setup.{count, is_least, is_replica, numbers_from, quorum, replicas}
+use Rattle.ballots.specs.Tables.{Table, at, checkpoint_key}
+use Rattle.ballots.proofs.Counting.{quorums_meet, quorum_has}
+use Rattle.ballots.proofs.Found.{from_gathered, passed}
+use Rattle.ballots.proofs.Gathering.{count_least, length_gathered}
+use Rattle.ballots.proofs.Stages.{in_numbers}
 use Rattle.checkpoints.specs.Kept.{digest_of_proof, stable_digest}
 use Rattle.checkpoints.specs.Reading.{said, digest_said, quorum_by, quorum_digest, quorum_proof}
 

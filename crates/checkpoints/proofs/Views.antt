@@ -8,8 +8,8 @@ use Rattle.std.proofs.lemmas.Bool.{cases_eq, cases_lt, lt-ltb, le-ltb, le-leb, l
 use Rattle.host_types.specs.Configuration.{Configuration, IsConfiguration}
 use Rattle.host_types.specs.declared.Digest.{Digest}
 use Rattle.host_types.specs.declared.SeqNo.{SeqNo}
-use Rattle.pbft_model.specs.Tables.{at, checkpoint_key}
-use Rattle.pbft_model.specs.Words.{Signed, Checkpoint}
+use Rattle.ballots.specs.Tables.{at, checkpoint_key}
+use Rattle.ballots.specs.Words.{Signed, Checkpoint}
 use Rattle.ballots.specs.Ballots.{Ballot}
 use Rattle.checkpoints.specs.Kept.{KeptCheckpoints, digest_of_proof, proof_at, proof_for, stable_at, stable_digest}
 use Rattle.checkpoints.specs.Reading.{AreKept, IsBallotAt, as_checkpoint, ballot_in, checkpoints_in, kept_in, no_votes, proof_now, quorum_digest, quorum_proof, said_by, stable_now}

@@ -13,12 +13,12 @@ use Rattle.pbft_codec.specs.declared.body.Body.{Body}
 use Rattle.pbft_codec.specs.declared.body.Body.TheVariants as bodies
 use Rattle.pbft_codec.specs.declared.signed.Role.{Role}
 use Rattle.pbft_codec.specs.declared.signed.Role.TheVariants.{Replica, Client}
-use Rattle.pbft_model.specs.Words.{Signed, Checkpoint}
-use Rattle.pbft_model.specs.Acts.{with_body}
-use Rattle.pbft_model.specs.Core.{if_passes}
-use Rattle.pbft_model.specs.Certificates.{has_quorum, is_checkpoint_of, some_by}
-use Rattle.pbft_model.specs.Setup.{gathered, is_least, is_replica, numbers_from, quorum}
-use Rattle.pbft_model.proofs.Gathering.{numbers_last, filter_append}
+use Rattle.ballots.specs.Words.{Signed, Checkpoint}
+use Rattle.ballots.specs.Acts.{with_body}
+use Rattle.ballots.specs.Core.{if_passes}
+use Rattle.ballots.specs.Certificates.{has_quorum, is_checkpoint_of, some_by}
+use Rattle.ballots.specs.Setup.{gathered, is_least, is_replica, numbers_from, quorum}
+use Rattle.ballots.proofs.Gathering.{numbers_last, filter_append}
 use Rattle.seal.specs.Opening.{CheckedMessage, IsChecked}
 use Rattle.seal.specs.Parts.{as_message}
 use Rattle.seal.specs.Signers.{key_of, may_sign}

@@ -8,13 +8,13 @@ use Rattle.host_types.specs.Configuration.{Configuration}
 use Rattle.host_types.specs.declared.Digest.{Digest}
 use Rattle.pbft_codec.specs.declared.body.Body.{Body}
 use Rattle.pbft_codec.specs.declared.body.Body.TheVariants as bodies
-use Rattle.pbft_model.specs.Words.{Signed, Checkpoint}
-use Rattle.pbft_model.specs.Acts.{add_checkpoint, with_body}
-use Rattle.pbft_model.specs.Certificates.{checkpointed, is_stable}
-use Rattle.pbft_model.specs.Core.{Core}
-use Rattle.pbft_model.specs.Duties.{Duty, due_rise, greatest_stable}
-use Rattle.pbft_model.specs.Setup.{gathered, is_least, numbers_from, quorum, replicas, setup_of}
-use Rattle.pbft_model.specs.Tables.{Table, at, entries_in, with_entry, keep, checkpoint_key, number_key, first_in, is_above}
+use Rattle.ballots.specs.Words.{Signed, Checkpoint}
+use Rattle.ballots.specs.Acts.{add_checkpoint, with_body}
+use Rattle.ballots.specs.Certificates.{checkpointed, is_stable}
+use Rattle.ballots.specs.Core.{Core}
+use Rattle.ballots.specs.Duties.{Duty, due_rise, greatest_stable}
+use Rattle.ballots.specs.Setup.{gathered, is_least, numbers_from, quorum, replicas, setup_of}
+use Rattle.ballots.specs.Tables.{Table, at, entries_in, with_entry, keep, checkpoint_key, number_key, first_in, is_above}
 use Rattle.seal.specs.Lists.{CheckedMessages}
 use Rattle.seal.specs.Parts.{as_message}
 use Rattle.checkpoints.specs.declared.fault.CheckpointFault.{CheckpointFault}

@@ -12,11 +12,11 @@ use Rattle.host_types.specs.Configuration.{Configuration, IsConfiguration, repli
 use Rattle.host_types.specs.declared.Digest.{Digest}
 use Rattle.host_types.specs.declared.SeqNo.{SeqNo}
 use Rattle.pbft_codec.specs.declared.body.Body.TheVariants as bodies
-use Rattle.pbft_model.specs.Words.{Signed, Checkpoint, Replica}
-use Rattle.pbft_model.specs.Certificates.{has_quorum, is_checkpoint_of, some_by}
-use Rattle.pbft_model.specs.Core.{if_passes}
-use Rattle.pbft_model.specs.Setup.{gathered, is_least, numbers_from, quorum, replicas}
-use Rattle.pbft_model.specs.Tables.{Key, Table, at, number_key}
+use Rattle.ballots.specs.Words.{Signed, Checkpoint, Replica}
+use Rattle.ballots.specs.Certificates.{has_quorum, is_checkpoint_of, some_by}
+use Rattle.ballots.specs.Core.{if_passes}
+use Rattle.ballots.specs.Setup.{gathered, is_least, numbers_from, quorum, replicas}
+use Rattle.ballots.specs.Tables.{Key, Table, at, number_key}
 use Rattle.seal.specs.Opening.{CheckedMessage}
 use Rattle.ballots.specs.Ballots.{Ballot, is_digest, vote_at}
 use Rattle.ballots.specs.ByKey.{table_by}

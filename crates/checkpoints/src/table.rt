@@ -2,11 +2,11 @@
 
 ghost use Rattle.std.specs.Prelude.{◌≡◌, IfOk, IfErr, IfSome, OnOk, OnErr, IsSome, IsNone, MatchOption, Some, cond, nat_le};
 ghost use Rattle.std.specs.Option.{option_copied, option_map, option_map_or};
-ghost use Rattle.pbft_model.specs.Acts.{Rise};
-ghost use Rattle.pbft_model.specs.Duties.{Do};
+ghost use Rattle.ballots.specs.Acts.{Rise};
+ghost use Rattle.ballots.specs.Duties.{Do};
 ghost use Rattle.sha2.specs.Sha256.{sha256};
-ghost use Rattle.pbft_model.specs.Tables.{at, number_key, with_entry};
-ghost use Rattle.pbft_model.specs.Core.{if_passes};
+ghost use Rattle.ballots.specs.Tables.{at, number_key, with_entry};
+ghost use Rattle.ballots.specs.Core.{if_passes};
 ghost use Rattle.ballots.specs.Ballots.{is_digest};
 ghost use Rattle.checkpoints.specs.Faults.{Reports};
 ghost use Rattle.checkpoints.specs.Kept.{IsFetched, IsGreatestStable, IsRaised, IsStableExactly, NoneStableAbove, checkpoint_of, discarded, note_fault, noted, offer_fault, proof_list, stable_at, start, with_snapshot};

@@ -1,2 +1,5 @@
+pub mod Blames
 pub mod Claims
 pub mod Gathering
+pub mod Leaves
+pub mod Views

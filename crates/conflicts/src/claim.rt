@@ -20,19 +20,32 @@ pub enum Topic {
     Checkpoint {
         number: SeqNo,
     },
+    /// The `ViewChange` for a view.
+    ViewChange {
+        view: View,
+    },
+    /// The `NewView` of a view.
+    NewView {
+        view: View,
+    },
+    /// What a leaf of the signer's key signs, by its number.
+    Leaf {
+        leaf: u64,
+    },
 }
 
-/// What a replica says of a digest, in a vote or a Checkpoint.
+/// What a message says once of a digest: a vote or a Checkpoint of the one that it names, a ViewChange, a NewView and whatever
+/// a leaf signs of its own.
 #[derive(Clone, Copy, Debug, PartialEq, Eq)]
 pub struct Claim {
-    /// The replica's index.
+    /// The replica's index; of a leaf also a client's id.
     pub signer: u32,
     pub topic: Topic,
     pub digest: Digest,
 }
 
 impl Claim {
-    /// Whether one replica says two things of one topic.
+    /// Whether one signer says two things of one topic.
     pub fn contradicts(&self, other: &Claim) -> bool
         ensures { IsTrue result ↔ Contradict self.now other.now }
     {

@@ -7,8 +7,14 @@
 //!     }
 #![tactic(auto)]
 
+mod blame;
 mod claim;
+mod leaf;
 mod pairs;
+mod views;
 
+pub use blame::Blame;
 pub use claim::{Claim, Topic, claim_of};
+pub use leaf::leaf_claim_of;
 pub use pairs::conflicts;
+pub use views::{Leaving, Reported, view_claim_of};

@@ -8,8 +8,10 @@ pub use Rattle.byz_world.specs.Faults
 pub use Rattle.byz_world.specs.Halt
 pub use Rattle.byz_world.specs.Halts
 pub use Rattle.byz_world.specs.Input
+pub use Rattle.byz_world.specs.Journals
 pub use Rattle.byz_world.specs.Leading
 pub use Rattle.byz_world.specs.Output
+pub use Rattle.byz_world.specs.Setup
 pub use Rattle.byz_world.specs.Status
 pub use Rattle.byz_world.specs.Worlds
 pub use Rattle.byz_world.specs.declared.audit_fault.AuditFault

@@ -7,7 +7,7 @@ use seal::Checked;
 use std::alloc::{AllocError, Global};
 
 /// What a primary gave out: a number, and the digest of the request that it is for.
-#[derive(Clone, Copy, Debug, PartialEq, Eq)]
+#[derive(Clone, Copy)]
 pub(crate) struct Proposal {
     pub number: SeqNo,
     pub digest: Digest,

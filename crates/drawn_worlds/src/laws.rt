@@ -6,7 +6,7 @@ use anyhow::Result;
 use host_types::View;
 
 /// A statement of the laws. The names are those of their functions, and of the clauses.
-#[derive(Clone, Copy, Debug, PartialEq, Eq)]
+#[derive(Clone, Copy)]
 pub(crate) enum Law {
     MissNothing,
     Spreads,
@@ -44,7 +44,7 @@ pub(crate) const LAWS: [Law; 15] = [
 ];
 
 /// What a world says of a law.
-#[derive(Clone, Copy, Debug, PartialEq, Eq)]
+#[derive(Clone, Copy, PartialEq, Eq)]
 pub(crate) enum Verdict {
     /// A premise doesn't hold, that each message has come left aside.
     Unmet,

@@ -5,7 +5,7 @@ use seal::Checked;
 use std::alloc::AllocError;
 
 /// Where a message goes.
-#[derive(Clone, Copy, Debug, PartialEq, Eq)]
+#[derive(Clone, Copy)]
 pub(crate) enum Place {
     Replica(ReplicaId),
     /// The client with this index.

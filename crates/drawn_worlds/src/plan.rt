@@ -9,7 +9,7 @@ use host_types::ReplicaId;
 pub(crate) const MOST: usize = 7;
 
 /// What a replica does.
-#[derive(Clone, Copy, Debug, PartialEq, Eq)]
+#[derive(Clone, Copy, PartialEq, Eq)]
 pub(crate) enum Conduct {
     Correct,
     /// It says nothing.
@@ -19,7 +19,7 @@ pub(crate) enum Conduct {
 }
 
 /// Which messages may be lost for good.
-#[derive(Clone, Copy, Debug, PartialEq, Eq)]
+#[derive(Clone, Copy)]
 pub(crate) enum Loss {
     None,
     /// Those of clients and of faulty replicas, and those to them.

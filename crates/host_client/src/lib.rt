@@ -13,4 +13,5 @@ pub use fault::CallFault;
 pub use law::calls_are_answered;
 pub use replica_threads::{
     Closed, Dest, Halt, Host, HostFault, Input, Named, Replica, Row, Seat, Station, Status, Ticker,
+    audit,
 };

@@ -41,14 +41,16 @@ kind (topics.Vote votes.PrePrepare view number) = 0
 kind (topics.Vote votes.Prepare view number) = 1
 kind (topics.Vote votes.Commit view number) = 2
 kind (topics.Checkpoint number) = 3
+kind _ = 4
 
 abbrev view_in : Topic → ℕ
 view_in (topics.Vote k view number) = view.0
-view_in (topics.Checkpoint number) = 0
+view_in _ = 0
 
 abbrev number_in : Topic → ℕ
 number_in (topics.Vote k view number) = number.0
 number_in (topics.Checkpoint number) = number.0
+number_in _ = 0
 
 other_kind : {P : Type 0} (a b : Claim) (m n : ℕ) → a.topic ≡ b.topic → kind a.topic ≡ m → kind b.topic ≡ n → (m ≡ n → ⊥) → P
 other_kind a b m n same k l apart = absurd (apart (sym k ∙ (ap kind same ∙ l)))

@@ -4,3 +4,4 @@ mod Committed
 mod Checked
 mod Claimed
 mod Viewed
+mod Named

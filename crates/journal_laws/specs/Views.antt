@@ -1,6 +1,5 @@
 -- Statement: what a replica is blamed for that it signed as it changed views (Castro and Liskov, section 4.4).
-use Rattle.std.specs.Prelude.{◌≡◌, ◌≢◌, ℕ, ◌≤◌, Bool, true, false, ◌==◌, ◌&&◌, not, nat_lt, nat_le}
-use Rattle.std.specs.List.{list_any}
+use Rattle.std.specs.Prelude.{◌≡◌, ◌≢◌, ℕ, ◌≤◌, true, false}
 use Rattle.pbft_codec.specs.declared.body.Body.TheVariants as bodies
 use Rattle.pbft_model.specs.Words.{Signed, Body, Commit, Certificate, ViewChange, NewView}
 use Rattle.pbft_model.specs.Setup.{Setup}
@@ -8,18 +7,11 @@ use Rattle.pbft_model.specs.Validity.{is_valid, is_valid_new_view}
 use Rattle.pbft_model.specs.Histories.{IsIn}
 use Rattle.pbft_agreement.specs.Journals.{Journals}
 use Rattle.journal_laws.specs.Blame.{IsHeard}
+pub use Rattle.conflicts.specs.Views.{hides, shows, view_claim_of}
 
 -- The ViewChange carries a certificate for the Commit's number, of its view or a later one.
 abbrev pub Reports : ViewChange → Commit → Type 0
 Reports v b = (x : Certificate) × IsIn x v.certificates × (x.pre_prepare.body.number ≡ b.number) × (b.view.0 ≤ x.pre_prepare.body.view.0)
-
--- the certificate is for the Commit's number, of its view or a later one
-abbrev pub shows : Commit → Certificate → Bool
-shows b x = x.pre_prepare.body.number.0 == b.number.0 && nat_le b.view.0 x.pre_prepare.body.view.0
-
--- The Commit is of a lower view and above the low mark, and no certificate of the ViewChange shows it.
-abbrev pub hides : ViewChange → Commit → Bool
-hides v b = nat_lt b.view.0 v.view.0 && (nat_lt v.low.0 b.number.0 && not (list_any (shows b) v.certificates))
 
 -- another ViewChange, and another NewView, of the same view
 abbrev pub DiffersFromChange : ViewChange → Body → Type 0

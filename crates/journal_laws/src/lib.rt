@@ -5,7 +5,8 @@
 #![tactic(auto)]
 
 ghost use Rattle.std.specs.Prelude.{◌≡◌, ◌<◌, ◌≤◌, ◌+◌, ◌++◌, ℕ, true, List, Some};
-ghost use Rattle.conflicts.specs.Claims.{claim_in};
+ghost use Rattle.conflicts.specs.Claims.{Contradict, claim_in};
+ghost use Rattle.conflicts.specs.Leaves.{leaf_named};
 ghost use Rattle.conflicts.specs.declared.claim.Claim.{Claim};
 ghost use Rattle.pbft_agreement.specs.Journals.{IsHonestFamily, Journals};
 ghost use Rattle.pbft_model.specs.Core.{Core, start_of};
@@ -16,7 +17,8 @@ ghost use Rattle.pbft_model.specs.Validity.{is_valid, is_valid_new_view};
 ghost use Rattle.pbft_model.specs.Words.{Body, Commit, NewView, Signed, SigningState, ViewChange};
 ghost use Rattle.journal_laws.specs.Blame.{HasSigned, IsBlamed, IsBlamedByLeaf, IsRealFamily, IsSentFamily};
 ghost use Rattle.journal_laws.specs.Replay.{GoesOn, WasSigned, inputs_of, leaf_of};
-ghost use Rattle.journal_laws.specs.Views.{HasHidden, HasInvalid, HasTwo, Reports};
+ghost use Rattle.journal_laws.specs.Views.{Differ, HasHidden, HasInvalid, HasTwo, Reports, view_claim_of};
+ghost use Rattle.seal.specs.Keys.{public_key_of_signer, signature_number, signature_of};
 
 /// A replica that takes again what it took, in the same order, gives the same rows: outputs, their signatures and leaves
 /// among them, and comes to the same core; and where it then takes more, it goes on from there. So a replica that notes each
@@ -98,4 +100,18 @@ pub fn who_changes_views_wrongly_is_faulty()
     ensures two { (c : Setup) (journals : Journals) → IsRealFamily c journals → (id : ℕ) → HasTwo c journals id → IsCorrect c journals.faulty id → ⊥ }
     ensures hidden { (c : Setup) (journals : Journals) → IsRealFamily c journals → (id : ℕ) → HasHidden c journals id → IsCorrect c journals.faulty id → ⊥ }
     ensures invalid { (c : Setup) (journals : Journals) → IsRealFamily c journals → (id : ℕ) → HasInvalid c journals id → IsCorrect c journals.faulty id → ⊥ }
+{}
+
+/// Two messages of one role whose claims of a view contradict each other (`conflicts::view_claim_of`) are two ViewChanges, or two
+/// NewViews, of one view that differ.
+pub fn claims_of_a_view_that_contradict_differ()
+    ensures { (m n : Signed Body) (one other : Claim) → m.role ≡ n.role → view_claim_of m ≡ Some one → view_claim_of n ≡ Some other
+        → Contradict one other → Differ m.body n.body }
+{}
+
+/// The leaf that is read of a signature by the signer's public key (`conflicts::leaf_claim_of`) is the one that it names, by
+/// the heights of the signer's trees, where the signer made it.
+pub fn a_leaf_is_read_by_the_public_key()
+    ensures { (s : SigningState) (text : List ℕ)
+        → leaf_named (public_key_of_signer s) (signature_of s text) ≡ Some (signature_number s (signature_of s text)) }
 {}

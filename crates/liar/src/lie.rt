@@ -19,7 +19,7 @@ const NUMBERS: u64 = 2 * INTERVAL as u64;
 const LAST: u64 = (1 << 48) - 1;
 
 /// Which message of a place it is.
-#[derive(Clone, Copy, Debug, PartialEq, Eq)]
+#[derive(Clone, Copy, PartialEq, Eq)]
 enum Turn {
     First,
     /// The same with another digest.

@@ -25,7 +25,7 @@ pub(crate) const CLIENT: ClientId = ClientId(FIRST_CLIENT as u32);
 pub(crate) const INTERVAL: u8 = 8;
 
 /// How many messages the keys sign.
-#[derive(Clone, Copy, Debug, PartialEq, Eq)]
+#[derive(Clone, Copy, PartialEq, Eq)]
 pub(crate) enum Keys {
     /// One tree each: 32.
     Few,

@@ -9,6 +9,7 @@
 
 pub use fault::SigFault;
 pub use height::Height;
+pub use lms_ots::{TYPECODE, hasher, ots_public, ots_publics, ots_sign, put, u32str};
 pub use nodes::{inner_node, leaf_node};
 pub use validity::{Verifier, key_height, verify, word_at};
 

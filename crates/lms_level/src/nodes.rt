@@ -1,29 +1,16 @@
 //! The hashes of a tree's nodes (RFC 8554, section 5.3).
 
-ghost use Rattle.std.specs.Prelude.{◌≡◌, ◌++◌};
+ghost use Rattle.std.specs.Prelude.{◌≡◌};
 ghost use Rattle.lms_level.specs.Tree.{inner_node, leaf_node, parent};
-ghost use Rattle.lms_ots.specs.Ots.{u16str, u32str};
-ghost use Rattle.sha2.specs.Hashers.{Holds256};
 
-use sha2::{Digest, Sha256};
+use lms_ots::hasher;
+use sha2::Digest;
 
 // D_LEAF of RFC 8554, section 5.3.
 const LEAF_TAG: u16 = 0x8282;
 
 // D_INTR of RFC 8554, section 5.3.
 const INNER_TAG: u16 = 0x8383;
-
-// A hasher that holds the identifier, a node's number and a tag.
-#[tactic(auto, unfolding(lms_ots::specs::Ots::u32str, lms_ots::specs::Ots::u16str))]
-fn hasher(id: &[u8; 16], node: u32, tag: u16) -> Sha256
-    ensures { Holds256 result (id.now ++ u32str node ++ u16str tag) }
-{
-    let mut hasher = Sha256::new();
-    hasher.update(id);
-    hasher.update(node.to_be_bytes());
-    hasher.update(tag.to_be_bytes());
-    hasher
-}
 
 /// The node `node` over a leaf's public value. It takes no memory.
 pub fn leaf_node(id: &[u8; 16], node: u32, value: &[u8; 32]) -> [u8; 32]

@@ -6,19 +6,19 @@ ghost use Rattle.sha2.specs.Hashers.{Holds256};
 
 use sha2::{Digest, Sha256};
 
-// Copies `bytes` into `buffer`, from offset `at` on.
+/// Copies `bytes` into `buffer`, from offset `at` on.
 #[inline(always)]
-pub(crate) fn put(buffer: &mut [u8], at: usize, bytes: &[u8])
+pub fn put(buffer: &mut [u8], at: usize, bytes: &[u8])
     requires { at + length bytes.now ≤ length buffer.old }
     ensures { take (at + length bytes.now) buffer.new ≡ take at buffer.old ++ bytes.now }
 {
     buffer[at..at + bytes.len()].copy_from_slice(bytes);
 }
 
-// The bytes of a number, high first (RFC 8554, section 3.1.1).
+/// The bytes of a number, high first (RFC 8554, section 3.1.1).
 #[inline(always)]
 #[tactic(auto, unfolding(crate::specs::Ots::u32str))]
-pub(crate) fn u32str(number: u32) -> [u8; 4]
+pub fn u32str(number: u32) -> [u8; 4]
     ensures { result ≡ u32str number }
 {
     number.to_be_bytes()
@@ -54,8 +54,8 @@ pub(crate) fn block_hash(
     Sha256::digest(&input)
 }
 
-// A hasher that holds the identifier, `number` and `tag`.
-pub(crate) fn hasher(id: &[u8; 16], number: u32, tag: u16) -> Sha256
+/// A hasher that holds the identifier, `number` and `tag`, with which each hash of RFC 8554 begins.
+pub fn hasher(id: &[u8; 16], number: u32, tag: u16) -> Sha256
     ensures { Holds256 result (id.now ++ u32str number ++ u16str tag) }
 {
     let mut hasher = Sha256::new();

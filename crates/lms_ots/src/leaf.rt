@@ -114,25 +114,25 @@ impl LeafChains<'_> {
         }
     }
 
-    // The chains by how many steps they have, so that those that run side by side end together. It is advice: no contract rests
-    // on the order.
+    // The chains by how many steps they have, most first: those that run side by side so end together, and the last group, of
+    // three chains alone, is the shortest. It is advice: no contract rests on the order.
     fn by_steps(&self) -> [u8; 67] {
         let mut places = [0u8; 17];
         for count in self.counts {
-            let next = usize::from((*count).min(15)) + 1;
+            let next = 16 - usize::from((*count).min(15));
             places[next] = places[next].wrapping_add(1);
         }
-        for steps in 1..17 {
-            places[steps] = places[steps].wrapping_add(places[steps - 1]);
+        for lacking in 1..17 {
+            places[lacking] = places[lacking].wrapping_add(places[lacking - 1]);
         }
         let mut order = [0u8; CHAIN_COUNT];
         for i in 0..CHAIN_COUNT {
-            let steps = usize::from(self.counts[i].min(15));
-            let place = usize::from(places[steps]);
+            let lacking = 15 - usize::from(self.counts[i].min(15));
+            let place = usize::from(places[lacking]);
             if place < CHAIN_COUNT {
                 order[place] = i as u8;
             }
-            places[steps] = places[steps].wrapping_add(1);
+            places[lacking] = places[lacking].wrapping_add(1);
         }
         order
     }

@@ -15,7 +15,8 @@ ghost use Rattle.lms_ots.specs.Words.{bytes_of};
 ghost use Rattle.sha2.specs.Hashers.{Holds256};
 
 pub use eight::ots_publics;
-use hash::{block_hash, hasher, put, u16str, u32str};
+use hash::{block_hash, u16str};
+pub use hash::{hasher, put, u32str};
 use leaf::LeafChains;
 use sha2::{Digest, Sha256};
 use words::{bytes_of, words_of};

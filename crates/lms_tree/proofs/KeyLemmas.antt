@@ -1,8 +1,8 @@
 -- What holds of each signer's keys and signatures.
 use Rattle.std.proofs.Common.{◌≡◌, ℕ, ◌+◌, ◌*◌, ◌/◌, ◌%◌, ◌^◌, ◌<◌, ◌≤◌, List, [], ◌++◌, length, Option, Some, None, sym, ◌∙◌, ap, arith}
 use Rattle.std.proofs.lemmas.List.{append_assoc, append-nil}
-use Rattle.lms_ots.specs.Ots.{concatenation, signature_of, u32str}
-use Rattle.lms_ots.proofs.Chains.{length-u32str}
+use Rattle.lms_level.specs.Ots.{concatenation, signature_of, u32str}
+use Rattle.lms_level.proofs.Chains.{length-u32str}
 use Rattle.lms_level.specs.declared.height.Height.{Height}
 use Rattle.lms_level.specs.declared.height.Height.TheVariants.{H5, H10}
 use Rattle.lms_level.specs.Signature.{levels_of, signature_at, typecode_of, word_at}

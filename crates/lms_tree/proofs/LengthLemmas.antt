@@ -1,9 +1,9 @@
 -- The lengths of keys and signatures.
 use Rattle.std.proofs.Common.{◌≡◌, ℕ, ◌+◌, ◌/◌, ◌%◌, ◌^◌, List, ◌∷◌, ◌++◌, length, arith, length-append}
 use Rattle.std.proofs.lemmas.List.{length-take-le}
-use Rattle.lms_ots.specs.Ots.{concatenation, signature_of, tagged_hash, u32str}
-use Rattle.lms_ots.proofs.Chains.{length-tagged_hash, length-u32str}
-use Rattle.lms_ots.proofs.Concatenation.{length-concatenation}
+use Rattle.lms_level.specs.Ots.{concatenation, signature_of, tagged_hash, u32str}
+use Rattle.lms_level.proofs.Chains.{length-tagged_hash, length-u32str}
+use Rattle.lms_level.proofs.Concatenation.{length-concatenation}
 use Rattle.lms_level.specs.declared.height.Height.{Height}
 use Rattle.lms_level.specs.Signature.{levels_of, public_key_of, signature_at, typecode_of}
 use Rattle.lms_level.specs.Tree.{path_node, tree_node}

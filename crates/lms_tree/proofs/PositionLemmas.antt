@@ -1,8 +1,8 @@
 -- Where the parts of a key and of a signature of two levels lie, and that the signature is valid.
 use Rattle.std.proofs.Common.{◌≡◌, ℕ, ◌+◌, ◌/◌, ◌%◌, ◌^◌, ◌<◌, List, [], ◌++◌, length, take, drop, Some, None, refl, ◌∙◌, ap, arith}
 use Rattle.std.proofs.lemmas.List.{append_assoc, drop_at, take_at}
-use Rattle.lms_ots.specs.Ots.{u32str}
-use Rattle.lms_ots.proofs.Chains.{length-u32str}
+use Rattle.lms_level.specs.Ots.{u32str}
+use Rattle.lms_level.proofs.Chains.{length-u32str}
 use Rattle.lms_level.specs.declared.height.Height.{Height}
 use Rattle.lms_level.specs.declared.height.Height.TheVariants.{H5, H10}
 use Rattle.lms_level.specs.Signature.{key_height, levels_of, public_key_of, signature_at, word_at, signature_fault as lms_fault}

@@ -1,7 +1,7 @@
 -- Statement: keys of two levels, which are HSS of RFC 8554, section 6, with L = 2, as functions on numbers and lists
 -- of bytes. The top tree signs the keys of bottom trees, its leaf t that of bottom tree t; their leaves sign messages.
 use Rattle.std.specs.Prelude.{ℕ, ◌/◌, ◌%◌, ◌^◌, List, ◌∷◌, ◌++◌, take}
-use Rattle.lms_ots.specs.Ots.{tagged_hash, u32str}
+use Rattle.lms_level.specs.Ots.{tagged_hash, u32str}
 use Rattle.lms_level.specs.Signature.{levels_of, public_key_of, signature_at}
 use Rattle.lms_level.specs.declared.height.Height.{Height}
 

@@ -2,16 +2,15 @@
 
 ghost use Rattle.std.specs.Prelude.{◌≡◌, ◌^◌, ◌<◌, ◌++◌, IfOk};
 ghost use Rattle.lms_level.specs.Signature.{levels_of, signature_at};
-ghost use Rattle.lms_ots.specs.Ots.{u32str};
+ghost use Rattle.lms_level.specs.Ots.{u32str};
 ghost use Rattle.lms_tree.specs.Levels.{signed_key};
 ghost use Rattle.lms_tree.specs.Below.{IsBelow, IsComing};
 ghost use Rattle.lms_tree.specs.Trees.{TreeState};
 ghost use Rattle.lms_level.specs.declared.height.Height.{Height};
 
-use crate::bytes::u32str;
 use crate::nodes::{bottom_id, bottom_secret};
 use crate::tree::{GrowingTree, Tree};
-use lms_level::Height;
+use lms_level::{Height, u32str};
 use std::alloc::{AllocError, Global};
 
 /// The number of keys that a signature of two levels carries (RFC 8554, section 6.2).

@@ -21,7 +21,6 @@ pub use source::KeySource;
 pub use validity::{Verifier, verify};
 
 mod bottom;
-mod bytes;
 mod fault;
 mod laws;
 mod nodes;

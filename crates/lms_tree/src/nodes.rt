@@ -1,11 +1,11 @@
 //! The hashes that bottom trees come from.
 
 ghost use Rattle.std.specs.Prelude.{◌≡◌, ◌∷◌, ◌++◌, take};
-ghost use Rattle.lms_ots.specs.Ots.{tagged_hash, u16str, u32str};
+ghost use Rattle.lms_level.specs.Ots.{tagged_hash};
 ghost use Rattle.lms_tree.specs.Levels.{bottom_id, bottom_secret};
-ghost use Rattle.sha2.specs.Hashers.{Holds256};
 
-use sha2::{Digest, Sha256};
+use lms_level::hasher;
+use sha2::Digest;
 
 // In place of a chain's number where a bottom tree's identifier is drawn from the top tree's seed.
 const IDENTIFIER_TAG: u16 = 0xffff;
@@ -15,18 +15,6 @@ const SEED_TAG: u16 = 0xfffe;
 
 // In place of a step's number where a value is drawn from a seed (RFC 8554, appendix A).
 const SEED_STEP: u8 = 0xff;
-
-// A hasher that holds the identifier, `number` and `tag`.
-#[tactic(auto, unfolding(lms_ots::specs::Ots::u32str, lms_ots::specs::Ots::u16str))]
-fn hasher(id: &[u8; 16], number: u32, tag: u16) -> Sha256
-    ensures { Holds256 result (id.now ++ u32str number ++ u16str tag) }
-{
-    let mut hasher = Sha256::new();
-    hasher.update(id);
-    hasher.update(number.to_be_bytes());
-    hasher.update(tag.to_be_bytes());
-    hasher
-}
 
 // The hash of the identifier, `number`, `tag` and two strings.
 fn hash_of_two(id: &[u8; 16], number: u32, tag: u16, first: &[u8], second: &[u8]) -> [u8; 32]

@@ -1,7 +1,7 @@
 //! Signers: key pairs that use each leaf once.
 
 ghost use Rattle.std.specs.Prelude.{◌≡◌, ℕ, ◌+◌, ◌^◌, ◌<◌, ◌≤◌, ◌↔◌, ◌++◌, IfOk, IfSome, IsErrOf, None, Some, length};
-ghost use Rattle.lms_ots.specs.Ots.{u32str};
+ghost use Rattle.lms_level.specs.Ots.{u32str};
 ghost use Rattle.lms_level.specs.Signature.{levels_of};
 ghost use Rattle.lms_level.specs.declared.height.Height.{Height};
 ghost use Rattle.lms_tree.specs.Keys.{after_signing, leaf_count, public_key_of_signer, signature_by, signature_number, signature_of, signature_length, signer_at};
@@ -10,11 +10,10 @@ ghost use Rattle.lms_tree.specs.Signature.{signature_fault};
 ghost use Rattle.lms_tree.specs.Below.{IsBelow, IsComing};
 
 use crate::bottom::{Bottom, Coming};
-use crate::bytes::{put, u32str};
 use crate::fault::SignFault;
 use crate::tree::Tree;
 use host_types::PublicKey;
-use lms_level::Height;
+use lms_level::{Height, put, u32str};
 use std::alloc::{AllocError, Global};
 use std::marker::Model;
 

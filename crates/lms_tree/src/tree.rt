@@ -3,12 +3,12 @@
 ghost use Rattle.std.specs.Prelude.{◌≡◌, ◌==◌, ℕ, ◌+◌, ◌*◌, ◌^◌, ◌<◌, ◌≤◌, ◌-◌, ◌++◌, List, [], IfOk, OnOk, length, slice_index_or};
 ghost use Rattle.lms_level.specs.Signature.{levels_of, public_key_of, signature_at};
 ghost use Rattle.lms_level.specs.Tree.{path_node, sibling, tree_node};
-ghost use Rattle.lms_ots.specs.Ots.{concatenation};
+ghost use Rattle.lms_level.specs.Ots.{concatenation};
 ghost use Rattle.lms_tree.specs.Trees.{TreeState, GrowingState, HoldsNodesFrom};
 
-use crate::bytes::{put, u32str};
-use lms_level::{Height, inner_node, leaf_node};
-use lms_ots::{ots_public, ots_publics, ots_sign};
+use lms_level::{
+    Height, TYPECODE, inner_node, leaf_node, ots_public, ots_publics, ots_sign, put, u32str,
+};
 use std::alloc::{AllocError, Global};
 use std::marker::Model;
 
@@ -217,7 +217,7 @@ impl Tree {
     {
         let mut key = [0u8; 56];
         put(&mut key, 0, &u32str(self.height.typecode()));
-        put(&mut key, 4, &u32str(lms_ots::TYPECODE));
+        put(&mut key, 4, &u32str(TYPECODE));
         put(&mut key, 8, &self.id);
         put(&mut key, 24, &self.nodes[1]);
         key

@@ -6,8 +6,8 @@ use Rattle.std.specs.Cmp.Lexicographic.{slice_cmp}
 use Rattle.std.proofs.lemmas.Bool.{cases_Bool, cases_eq, cases_lt, lt-ltb, le-ltb, eq-eqb}
 use Rattle.std.proofs.lemmas.Bool.Decides.{eqb_tells}
 use Rattle.pbft_codec.specs.declared.body.Body.{Body}
-use Rattle.pbft_model.specs.Words.{Signed}
-use Rattle.pbft_model.specs.Tables.{Key, vote_key, add_if}
+use Rattle.ballots.specs.Words.{Signed}
+use Rattle.ballots.specs.Tables.{Key, vote_key, add_if}
 use Rattle.seal.specs.Opening.{CheckedMessage}
 use Rattle.seal.specs.declared.vote.VoteKind.{VoteKind}
 use Rattle.quorum_log.specs.declared.view_slots.ViewSlots.{ViewSlots}

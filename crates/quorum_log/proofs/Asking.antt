@@ -11,12 +11,12 @@ use Rattle.pbft_codec.specs.declared.body.Body.{Body}
 use Rattle.pbft_codec.specs.declared.body.Body.TheVariants as bodies
 use Rattle.pbft_codec.specs.declared.signed.Role.{Role}
 use Rattle.pbft_codec.specs.declared.signed.Role.TheVariants.{Replica}
-use Rattle.pbft_model.specs.Words.{Signed, PrePrepare}
-use Rattle.pbft_model.specs.Acts.{with_body}
-use Rattle.pbft_model.specs.Certificates.{Fields, of_pre_prepare, of_prepare, of_commit, same_fields, is_by, some_by, voted, certified, has_quorum}
-use Rattle.pbft_model.specs.Core.{if_passes, has_position}
-use Rattle.pbft_model.specs.Setup.{count, is_replica}
-use Rattle.pbft_model.specs.Tables.{at}
+use Rattle.ballots.specs.Words.{Signed, PrePrepare}
+use Rattle.ballots.specs.Acts.{with_body}
+use Rattle.ballots.specs.Certificates.{Fields, of_pre_prepare, of_prepare, of_commit, same_fields, is_by, some_by, voted, certified, has_quorum}
+use Rattle.ballots.specs.Core.{if_passes, has_position}
+use Rattle.ballots.specs.Setup.{count, is_replica}
+use Rattle.ballots.specs.Tables.{at}
 use Rattle.seal.specs.Opening.{CheckedMessage}
 use Rattle.seal.specs.Votes.{vote_in}
 use Rattle.seal.specs.declared.vote.Vote.{Vote}

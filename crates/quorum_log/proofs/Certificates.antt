@@ -7,11 +7,11 @@ use Rattle.std.proofs.lemmas.Bool.{cases_eq, ne_eqb, eq-eqb}
 use Rattle.host_types.specs.Configuration.{Configuration, IsConfiguration, replicas_for}
 use Rattle.pbft_codec.specs.declared.body.Body.{Body}
 use Rattle.pbft_codec.specs.declared.body.Body.TheVariants as bodies
-use Rattle.pbft_model.specs.Words.{Signed, PrePrepare}
-use Rattle.pbft_model.specs.Acts.{with_body}
-use Rattle.pbft_model.specs.Certificates.{of_pre_prepare, of_prepare, voted}
-use Rattle.pbft_model.specs.Setup.{count, gathered, is_least}
-use Rattle.pbft_model.specs.Tables.{at, vote_key}
+use Rattle.ballots.specs.Words.{Signed, PrePrepare}
+use Rattle.ballots.specs.Acts.{with_body}
+use Rattle.ballots.specs.Certificates.{of_pre_prepare, of_prepare, voted}
+use Rattle.ballots.specs.Setup.{count, gathered, is_least}
+use Rattle.ballots.specs.Tables.{at, vote_key}
 use Rattle.seal.specs.Opening.{CheckedMessage}
 use Rattle.seal.specs.Parts.{as_message}
 use Rattle.seal.specs.declared.vote.VoteKind.TheVariants as kinds

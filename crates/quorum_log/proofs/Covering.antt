@@ -8,7 +8,7 @@ use Rattle.std.specs.BTreeMap as tree
 use Rattle.std.proofs.lemmas.Bool.{cases_Bool, cases_eq, cases_lt, lt-ltb, le-ltb}
 use Rattle.seal.specs.declared.vote.VoteKind.{VoteKind}
 use Rattle.seal.specs.declared.vote.VoteKind.TheVariants.{PrePrepare, Prepare, Commit}
-use Rattle.pbft_model.specs.Tables.{Key}
+use Rattle.ballots.specs.Tables.{Key}
 use Rattle.quorum_log.specs.declared.view_slots.ViewSlots.{ViewSlots}
 use Rattle.quorum_log.specs.declared.slot.Slot.{Slot}
 use Rattle.quorum_log.specs.Slots.{empty_slot, IsSlotAt}
@@ -21,7 +21,7 @@ use Rattle.quorum_log.specs.Log.{start}
 use Rattle.quorum_log.specs.Reading.{read_by, table_of, log_in, AreKept, as_pre_prepare, as_prepare, as_commit}
 use Rattle.host_types.specs.Configuration.{Configuration}
 use Rattle.pbft_codec.specs.declared.body.Body.{Body}
-use Rattle.pbft_model.specs.Words.{Signed}
+use Rattle.ballots.specs.Words.{Signed}
 use Rattle.seal.specs.Opening.{CheckedMessage}
 use Rattle.std.specs.Map.{keys_of, lookup}
 use Rattle.std.specs.FinMap.{nat_cmp-IsAntisymmetric}

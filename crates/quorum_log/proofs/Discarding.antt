@@ -5,8 +5,8 @@ use Rattle.std.proofs.lemmas.Bool.{cases_lt, lt-ltb, le-ltb}
 use Rattle.host_types.specs.Configuration.{Configuration}
 use Rattle.host_types.specs.declared.SeqNo.{SeqNo}
 use Rattle.pbft_codec.specs.declared.body.Body.{Body}
-use Rattle.pbft_model.specs.Words.{Signed}
-use Rattle.pbft_model.specs.Tables.{Key, keep, is_above}
+use Rattle.ballots.specs.Words.{Signed}
+use Rattle.ballots.specs.Tables.{Key, keep, is_above}
 use Rattle.seal.specs.declared.vote.VoteKind.{VoteKind}
 use Rattle.seal.specs.declared.vote.VoteKind.TheVariants.{PrePrepare, Prepare, Commit}
 use Rattle.quorum_log.specs.declared.view_slots.ViewSlots.{ViewSlots}

@@ -9,9 +9,9 @@ use Rattle.std.proofs.lemmas.Option.{slice_get-map}
 use Rattle.host_types.specs.Configuration.{Configuration, IsConfiguration}
 use Rattle.host_types.specs.declared.SeqNo.{SeqNo}
 use Rattle.pbft_codec.specs.declared.body.Body.{Body}
-use Rattle.pbft_model.specs.Words.{Signed, PrePrepare}
-use Rattle.pbft_model.specs.Acts.{is_of_entered, with_body}
-use Rattle.pbft_model.specs.Tables.{Key, Table, add_if, at, vote_key}
+use Rattle.ballots.specs.Words.{Signed, PrePrepare}
+use Rattle.ballots.specs.Acts.{is_of_entered, with_body}
+use Rattle.ballots.specs.Tables.{Key, Table, add_if, at, vote_key}
 use Rattle.seal.specs.Lists.{under}
 use Rattle.seal.specs.declared.vote.VoteKind.TheVariants as kinds
 use Rattle.quorum_log.specs.declared.view_slots.ViewSlots.{ViewSlots}

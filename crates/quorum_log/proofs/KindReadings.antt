@@ -7,8 +7,8 @@ use Rattle.std.proofs.lemmas.Bool.Decides.{eqb_tells}
 use Rattle.host_types.specs.Configuration.{Configuration, IsConfiguration, replicas_for}
 use Rattle.pbft_codec.specs.declared.body.Body.{Body}
 use Rattle.pbft_codec.specs.declared.body.Body.TheVariants as bodies
-use Rattle.pbft_model.specs.Words.{Signed}
-use Rattle.pbft_model.specs.Certificates.{of_pre_prepare, of_prepare, of_commit}
+use Rattle.ballots.specs.Words.{Signed}
+use Rattle.ballots.specs.Certificates.{of_pre_prepare, of_prepare, of_commit}
 use Rattle.seal.specs.Opening.{CheckedMessage}
 use Rattle.seal.specs.Parts.{as_message}
 use Rattle.seal.specs.Signers.{primary_of}

@@ -14,5 +14,9 @@ pub mod EnteringLog
 pub mod EnteringTable
 pub mod Naming
 pub mod Standing
+pub use Rattle.ballots.proofs.Found
+pub use Rattle.ballots.proofs.Gathering
 pub use Rattle.ballots.proofs.Least
+pub use Rattle.ballots.proofs.Made
+pub use Rattle.ballots.proofs.Stages
 pub use Rattle.ballots.proofs.Tables

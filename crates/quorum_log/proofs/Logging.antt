@@ -6,10 +6,10 @@ use Rattle.host_types.specs.Configuration.{Configuration}
 use Rattle.host_types.specs.declared.SeqNo.{SeqNo}
 use Rattle.pbft_codec.specs.declared.body.Body.{Body}
 use Rattle.pbft_codec.specs.declared.body.Body.TheVariants as bodies
-use Rattle.pbft_model.specs.Words.{Signed, PrePrepare, Prepare, Commit}
-use Rattle.pbft_model.specs.Acts.{with_body}
-use Rattle.pbft_model.specs.Tables.{at, vote_key}
-use Rattle.pbft_model.specs.Certificates.{of_pre_prepare, of_prepare, of_commit}
+use Rattle.ballots.specs.Words.{Signed, PrePrepare, Prepare, Commit}
+use Rattle.ballots.specs.Acts.{with_body}
+use Rattle.ballots.specs.Tables.{at, vote_key}
+use Rattle.ballots.specs.Certificates.{of_pre_prepare, of_prepare, of_commit}
 use Rattle.seal.specs.Opening.{CheckedMessage}
 use Rattle.seal.specs.Votes.{IsVoteOf, vote_in, vote_of}
 use Rattle.seal.specs.declared.vote.Vote.{Vote}

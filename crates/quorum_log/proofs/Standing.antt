@@ -12,10 +12,10 @@ use Rattle.std.proofs.lemmas.Bool.{cases_Bool, cases_lt, eq-eqb, eqb-true, le-lt
 use Rattle.host_types.specs.Configuration.{Configuration, IsConfiguration}
 use Rattle.host_types.specs.declared.SeqNo.{SeqNo}
 use Rattle.pbft_codec.specs.declared.body.Body.{Body}
-use Rattle.pbft_model.specs.Words.{Signed, PrePrepare}
-use Rattle.pbft_model.specs.Tables.{Key, Table, at, entries_in, first_in, vote_key}
-use Rattle.pbft_model.specs.Core.{names, of_view}
-use Rattle.pbft_model.specs.Validity.{greatest_of}
+use Rattle.ballots.specs.Words.{Signed, PrePrepare}
+use Rattle.ballots.specs.Tables.{Key, Table, at, entries_in, first_in, vote_key}
+use Rattle.ballots.specs.Core.{names, of_view}
+use Rattle.ballots.specs.Validity.{greatest_of}
 use Rattle.seal.specs.Opening.{CheckedMessage}
 use Rattle.seal.specs.declared.vote.VoteKind.{VoteKind}
 use Rattle.seal.specs.declared.vote.VoteKind.TheVariants as kinds

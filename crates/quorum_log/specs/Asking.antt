@@ -1,7 +1,7 @@
 -- Internal: the slot of a number in a view, as the log has it.
 use Rattle.std.specs.Prelude.{◌≡◌, ℕ, ◌<◌}
 use Rattle.host_types.specs.Configuration.{Configuration}
-use Rattle.pbft_model.specs.Tables.{at, vote_key}
+use Rattle.ballots.specs.Tables.{at, vote_key}
 use Rattle.seal.specs.declared.vote.VoteKind.TheVariants as kinds
 use Rattle.quorum_log.specs.declared.slot.Slot.{Slot}
 use Rattle.quorum_log.specs.Log.{Log}

@@ -5,3 +5,11 @@ pub mod Windows
 pub mod Reading
 pub mod Asking
 pub mod Entering
+pub use Rattle.ballots.specs.Certificates
+pub use Rattle.ballots.specs.Core
+pub use Rattle.ballots.specs.Histories
+pub use Rattle.ballots.specs.Rules
+pub use Rattle.ballots.specs.Setup
+pub use Rattle.ballots.specs.Tables
+pub use Rattle.ballots.specs.Validity
+pub use Rattle.ballots.specs.Words

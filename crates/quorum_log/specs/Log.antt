@@ -3,12 +3,12 @@ use Rattle.std.specs.Prelude.{◌≡◌, ℕ, ◌+◌, ◌*◌, ◌==◌, ◌<�
 use Rattle.host_types.specs.Configuration.{Configuration}
 use Rattle.pbft_codec.specs.declared.body.Body.{Body}
 use Rattle.pbft_codec.specs.declared.body.Body.TheVariants as bodies
-use Rattle.pbft_model.specs.Words.{Signed, PrePrepare, Prepare, Commit, Certificate}
-use Rattle.pbft_model.specs.Acts.{is_of_entered, with_body}
-use Rattle.pbft_model.specs.Certificates.{certified, has_quorum, is_by, voted, Fields, of_pre_prepare, of_prepare, of_commit}
-use Rattle.pbft_model.specs.Core.{Core, floor_in, if_passes, has_position}
-use Rattle.pbft_model.specs.Setup.{gathered, is_least, primary, replicas}
-use Rattle.pbft_model.specs.Tables.{Key, Table, at, add_if, keep, vote_key, first_in, is_above}
+use Rattle.ballots.specs.Words.{Signed, PrePrepare, Prepare, Commit, Certificate}
+use Rattle.ballots.specs.Acts.{is_of_entered, with_body}
+use Rattle.ballots.specs.Certificates.{certified, has_quorum, is_by, voted, Fields, of_pre_prepare, of_prepare, of_commit}
+use Rattle.ballots.specs.Core.{Core, floor_in, if_passes, has_position}
+use Rattle.ballots.specs.Setup.{gathered, is_least, primary, replicas}
+use Rattle.ballots.specs.Tables.{Key, Table, at, add_if, keep, vote_key, first_in, is_above}
 use Rattle.std.specs.Option.{option_map}
 use Rattle.std.specs.List.{filter_map}
 use Rattle.seal.specs.Parts.{as_message}

@@ -5,9 +5,9 @@ use Rattle.host_types.specs.Configuration.{Configuration}
 use Rattle.host_types.specs.declared.SeqNo.{SeqNo}
 use Rattle.pbft_codec.specs.declared.body.Body.{Body}
 use Rattle.pbft_codec.specs.declared.body.Body.TheVariants as bodies
-use Rattle.pbft_model.specs.Words.{Signed, Prepare, Commit}
-use Rattle.pbft_model.specs.Acts.{with_body}
-use Rattle.pbft_model.specs.Tables.{Table}
+use Rattle.ballots.specs.Words.{Signed, Prepare, Commit}
+use Rattle.ballots.specs.Acts.{with_body}
+use Rattle.ballots.specs.Tables.{Table}
 use Rattle.seal.specs.Opening.{CheckedMessage}
 use Rattle.seal.specs.declared.vote.VoteKind.{VoteKind}
 use Rattle.seal.specs.declared.vote.VoteKind.TheVariants as kinds

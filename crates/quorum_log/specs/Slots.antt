@@ -14,7 +14,7 @@ use Rattle.quorum_log.specs.declared.fault.LogFault.TheVariants.{OutsideMarks, O
 use Rattle.quorum_log.specs.declared.slot.Slot.{Slot}
 use Rattle.host_types.specs.declared.Digest.{Digest}
 use Rattle.host_types.specs.declared.SeqNo.{SeqNo}
-use Rattle.pbft_model.specs.Certificates.{certified, has_quorum}
+use Rattle.ballots.specs.Certificates.{certified, has_quorum}
 use Rattle.quorum_log.specs.declared.certificate.CheckedCertificate.{CheckedCertificate}
 use Rattle.ballots.specs.Ballots.{Ballot, vote_at, is_digest, digest_in, first_of, voted_for, least_votes, with_first}
 

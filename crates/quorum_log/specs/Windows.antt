@@ -6,7 +6,7 @@ use Rattle.seal.specs.Opening.{CheckedMessage}
 use Rattle.seal.specs.declared.vote.VoteKind.{VoteKind}
 use Rattle.seal.specs.declared.vote.VoteKind.TheVariants.{PrePrepare, Prepare, Commit}
 use Rattle.ballots.specs.Ballots.{vote_at}
-use Rattle.pbft_model.specs.Tables.{Key}
+use Rattle.ballots.specs.Tables.{Key}
 use Rattle.quorum_log.specs.declared.view_slots.ViewSlots.{ViewSlots}
 use Rattle.quorum_log.specs.declared.slot.Slot.{Slot}
 use Rattle.host_types.specs.declared.SeqNo.{SeqNo}

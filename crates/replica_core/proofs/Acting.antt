@@ -18,8 +18,8 @@ use Rattle.pbft_model.specs.Sequential.{IsSound, Service, last_reply_of}
 use Rattle.pbft_model.specs.Setup.{number_limit}
 use Rattle.pbft_model.specs.Tables.{at, number_key}
 use Rattle.pbft_model.specs.Words.{Reply}
-use Rattle.view_change.proofs.Sealing.{reply_is_sealable}
-use Rattle.view_change.specs.Sealable.{IsSealable}
+use Rattle.replica_stores.proofs.Sealing.{reply_is_sealable}
+use Rattle.replica_stores.specs.Sealable.{IsSealable}
 use Rattle.replica_core.specs.Doing.{Fulfilled, Says, SendsOwed, act_done}
 use Rattle.replica_core.specs.Replicas.{KeptReplica}
 use Rattle.replica_core.proofs.Said.{given, says_reply, says_snapshot}

@@ -20,9 +20,9 @@ use Rattle.pbft_model.specs.Acts.{add_checkpoint, recorded, with_body}
 use Rattle.checkpoints.specs.declared.fault.CheckpointFault.{CheckpointFault}
 use Rattle.checkpoints.specs.declared.fault.CheckpointFault.TheVariants.{Old, DigestDiffers}
 use Rattle.checkpoints.specs.Kept.{KeptCheckpoints, checkpoint_in, has_other_digest, note_fault}
-use Rattle.view_change.specs.LogFault.{LogFault}
-use Rattle.view_change.specs.LogFault.TheVariants.{OutsideMarks, OtherDigest, WrongView, Memory}
-use Rattle.view_change.specs.Log.{IsRefusedFor, KeptLog, Log, accepted, added, fault_in, is_other, is_under_floor, is_within, log_of, vote_fault}
+use Rattle.replica_stores.specs.LogFault.{LogFault}
+use Rattle.replica_stores.specs.LogFault.TheVariants.{OutsideMarks, OtherDigest, WrongView, Memory}
+use Rattle.replica_stores.specs.Log.{IsRefusedFor, KeptLog, Log, accepted, added, fault_in, is_other, is_under_floor, is_within, log_of, vote_fault}
 
 -- ---- what is admitted
 

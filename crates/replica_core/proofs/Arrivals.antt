@@ -23,7 +23,7 @@ use Rattle.pbft_model.specs.Validity.{are_for_view, first_fault, have_certificat
 use Rattle.seal.specs.Opening.{CheckedMessage, IsChecked}
 use Rattle.seal.specs.Signers.{key_of as listed_key, may_sign}
 use Rattle.checkpoints.specs.Kept.{IsStableExactly}
-use Rattle.view_change.specs.Faults.{answer}
+use Rattle.replica_stores.specs.Faults.{answer}
 use Rattle.replica_core.specs.Replicas.{AreOne, KeptReplica, Parts, core_in, kept_in}
 
 -- ---- a Fetch

@@ -25,7 +25,7 @@ use Rattle.pbft_model.specs.Histories.{core_after}
 use Rattle.pbft_model.proofs.Stages.{by_is}
 use Rattle.pbft_model.proofs.Made.{view_change_made}
 use Rattle.pbft_model.proofs.Sound.{IsSoundCore, sound_at}
-use Rattle.view_change.specs.Sealable.{HasShortList, HasShortLists}
+use Rattle.replica_stores.specs.Sealable.{HasShortList, HasShortLists}
 use Rattle.replica_core.specs.Replicas.{AreOne, KeptReplica, Parts, kept_in}
 use Rattle.replica_core.specs.Settling.{IsReached}
 

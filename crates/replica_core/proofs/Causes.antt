@@ -17,7 +17,7 @@ use Rattle.pbft_model.specs.Acts.{All}
 use Rattle.pbft_model.specs.Duties as model
 use Rattle.pbft_model.specs.Duties.{agree, among, ask_for, is_lacking, prepare_for, say}
 use Rattle.pbft_model.specs.Tables.{at, vote_key}
-use Rattle.view_change.specs.Log.{proposal_in}
+use Rattle.replica_stores.specs.Log.{proposal_in}
 use Rattle.replica_core.specs.Meanings.{Means}
 use Rattle.replica_core.specs.Replicas.{AreOne, KeptReplica, Parts, kept_in}
 use Rattle.replica_core.specs.declared.duties.Duty.TheVariants as duties

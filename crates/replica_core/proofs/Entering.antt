@@ -16,8 +16,8 @@ use Rattle.pbft_model.specs.Validity.{are_for_view, are_given, bodies_in, floor_
 use Rattle.pbft_model.specs.Core.{Core, is_admitted}
 use Rattle.pbft_model.specs.Acts.{add_pre_prepares, entered, is_of_entered, left_for, left_if_above, opened_by, with_list}
 use Rattle.pbft_model.proofs.Stages.{by_is}
-use Rattle.view_change.specs.Log as logs
-use Rattle.view_change.specs.Log.{AreProposals, KeptLog, Log, is_within, log_of, opened, pre_prepares_in, with_all}
+use Rattle.replica_stores.specs.Log as logs
+use Rattle.replica_stores.specs.Log.{AreProposals, KeptLog, Log, is_within, log_of, opened, pre_prepares_in, with_all}
 use Rattle.seal.specs.Opening.{CheckedMessage}
 use Rattle.seal.specs.Parts.{as_message}
 use Rattle.replica_core.specs.Replicas.{AreOne, KeptReplica, Parts, basis_in, changes_in, core_in, kept_in}

@@ -11,8 +11,8 @@ use Rattle.pbft_model.specs.Certificates.{of_pre_prepare}
 use Rattle.pbft_model.specs.Core.{Core, certificate_of, if_passes, is_certified, is_known, kept_on_leaving, is_prepared, pre_prepare_at, prepared_at, with_certificate, with_certificates}
 use Rattle.pbft_model.specs.Tables.{first_in, keep, number_key, with_entry}
 use Rattle.pbft_model.specs.Acts.{left_for}
-use Rattle.view_change.specs.CheckedCertificate.{CheckedCertificate}
-use Rattle.view_change.specs.Log.{KeptLog, checked_certificate, left, as_checked}
+use Rattle.replica_stores.specs.CheckedCertificate.{CheckedCertificate}
+use Rattle.replica_stores.specs.Log.{KeptLog, checked_certificate, left, as_checked}
 use Rattle.replica_core.specs.Replicas.{AreOne, KeptReplica, Parts, core_in, kept_in}
 use Rattle.replica_stores.specs.Stores.{KeptCertificates, KeptChanges, KeptSent, only_states_asked}
 

@@ -13,8 +13,8 @@ use Rattle.checkpoints.specs.Kept.{KeptCheckpoints, discarded, proof_at, proof_f
 use Rattle.checkpoints.proofs.Cores.{proof_is}
 use Rattle.checkpoints.proofs.Proving.{above_mark}
 use Rattle.checkpoints.proofs.Stable.{is_stable_one}
-use Rattle.view_change.specs.Made.{IsStableBy}
-use Rattle.view_change.proofs.StableProofs.{stable_proof}
+use Rattle.replica_stores.specs.Made.{IsStableBy}
+use Rattle.replica_stores.proofs.StableProofs.{stable_proof}
 
 -- a core with these Checkpoints
 abbrev core_with : KeptCheckpoints → Core

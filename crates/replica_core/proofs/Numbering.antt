@@ -12,7 +12,7 @@ use Rattle.pbft_model.specs.Core.{floor_in}
 use Rattle.pbft_model.specs.Setup.{number_limit}
 use Rattle.pbft_model.specs.Validity.{floor_of, greatest_of}
 use Rattle.pbft_model.specs.Words.{Signed, ViewChange}
-use Rattle.view_change.specs.Log.{IsBetweenMarks, KeptLog}
+use Rattle.replica_stores.specs.Log.{IsBetweenMarks, KeptLog}
 use Rattle.replica_core.specs.Replicas.{AreOne, KeptReplica, Parts, basis_in, kept_in}
 
 -- the later of two numbers is below what both are below

@@ -27,10 +27,10 @@ use Rattle.seal.specs.Opening.{CheckedMessage, IsChecked, sealed_message}
 use Rattle.seal.specs.Parts.{as_message}
 use Rattle.seal.specs.Signers.{may_sign}
 use Rattle.seal.proofs.Authenticity.{all_join}
-use Rattle.view_change.specs.declared.opening.Opening.{Opening}
-use Rattle.view_change.specs.Opening.{IsOpeningOf}
-use Rattle.view_change.specs.Made.{IsNewViewOf}
-use Rattle.view_change.specs.Sealable.{HasFewMessages, IsSealable}
+use Rattle.replica_stores.specs.Openings.{Opening}
+use Rattle.replica_stores.specs.Opening.{IsOpeningOf}
+use Rattle.replica_stores.specs.Made.{IsNewViewOf}
+use Rattle.replica_stores.specs.Sealable.{HasFewMessages, IsSealable}
 use Rattle.replica_core.specs.Doing.{Says}
 use Rattle.replica_core.specs.Opens.{AreGiven, IsProposal, IsToOpen, after_leaves, chosen_by, given_to, opening_message, opening_of, signed_by_all, with_opening}
 use Rattle.replica_core.specs.Replicas.{AreOne, KeptReplica, Parts, core_in, kept_in}

@@ -9,7 +9,7 @@ use Rattle.pbft_model.specs.Words.{Signed, PrePrepare}
 use Rattle.pbft_model.specs.Setup.{Setup, setup_of}
 use Rattle.pbft_model.specs.Certificates.{of_pre_prepare, has_quorum, voted, of_commit}
 use Rattle.pbft_model.specs.Core.{Core, if_passes, is_certified, is_committed, is_known, is_prepared, pre_prepare_at, prepared_at}
-use Rattle.view_change.specs.Log.{certified_at, is_committed_at, is_committed_by, log_of, proposal_in}
+use Rattle.replica_stores.specs.Log.{certified_at, is_committed_at, is_committed_by, log_of, proposal_in}
 use Rattle.replica_core.specs.Replicas.{AreOne, KeptReplica, Parts, core_in, kept_in}
 
 abbrev Pre : Type 0

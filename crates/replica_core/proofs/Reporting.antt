@@ -9,12 +9,12 @@ use Rattle.pbft_codec.specs.declared.body.Body.TheVariants as bodies
 use Rattle.pbft_model.specs.Words.{Certificate, Checkpoint, Signed}
 use Rattle.pbft_model.specs.Tables.{entries_in}
 use Rattle.checkpoints.specs.Kept.{proof_at, proof_for, proof_list, stable_digest}
-use Rattle.view_change.specs.CheckedCertificate.{CheckedCertificate}
-use Rattle.view_change.specs.Log.{as_checked}
+use Rattle.replica_stores.specs.CheckedCertificate.{CheckedCertificate}
+use Rattle.replica_stores.specs.Log.{as_checked}
 use Rattle.seal.specs.Lists.{CheckedMessages}
 use Rattle.seal.specs.Parts.{as_message}
-use Rattle.view_change.specs.Made.{IsCertificateOf, IsMadeOf, OneForOne}
-use Rattle.view_change.specs.Sealable.{AreUnder}
+use Rattle.replica_stores.specs.Made.{IsCertificateOf, IsMadeOf, OneForOne}
+use Rattle.replica_stores.specs.Sealable.{AreUnder}
 use Rattle.replica_core.specs.Replicas.{AreOne, KeptReplica, Parts, kept_in}
 use Rattle.replica_core.specs.OwnViewChange.{own_view_change}
 

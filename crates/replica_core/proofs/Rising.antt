@@ -14,7 +14,7 @@ use Rattle.pbft_model.specs.Validity.{floor_of}
 use Rattle.pbft_model.specs.Words.{Checkpoint, Signed}
 use Rattle.checkpoints.specs.Kept.{KeptCheckpoints, discarded as table_discarded, proof_at, proof_for, stable_digest}
 use Rattle.checkpoints.proofs.Stable.{stable_is}
-use Rattle.view_change.specs.Log.{KeptLog, Log, discarded as log_discarded}
+use Rattle.replica_stores.specs.Log.{KeptLog, Log, discarded as log_discarded}
 use Rattle.replica_core.specs.Replicas.{AreOne, KeptReplica, Parts, basis_in, core_in, kept_in}
 use Rattle.replica_stores.specs.Stores.{KeptCertificates, KeptRequests, KeptSent, sent_above}
 

@@ -14,9 +14,9 @@ use Rattle.pbft_model.specs.Validity.{first_fault, has_view, has_proof, has_cert
 use Rattle.pbft_model.specs.Acts.{add_checkpoints, is_awaited, recorded, with_body}
 use Rattle.seal.specs.Parts.{as_message, checkpoints_of}
 use Rattle.checkpoints.specs.Kept.{KeptCheckpoints}
-use Rattle.view_change.specs.Faults.{answer}
-use Rattle.view_change.specs.declared.fault.ViewFault.{ViewFault}
-use Rattle.view_change.specs.Messages.{IsViewChange, IsNewView}
+use Rattle.replica_stores.specs.Faults.{answer}
+use Rattle.replica_stores.specs.ViewFault.{ViewFault}
+use Rattle.replica_stores.specs.Messages.{IsViewChange, IsNewView}
 use Rattle.replica_stores.specs.Stores.{KeptChanges}
 use Rattle.replica_core.specs.Replicas.{AreOne, KeptReplica, Parts, core_in, kept_in}
 

@@ -1,7 +1,7 @@
 -- Statement: the number and the name of each halt, and the halt of each fault of a signer.
 use Rattle.std.specs.Prelude.{ℕ, List, codes, Result, Ok, Err}
-use Rattle.view_change.specs.LogFault.{LogFault}
-use Rattle.view_change.specs.LogFault.TheVariants as refusals
+use Rattle.replica_stores.specs.LogFault.{LogFault}
+use Rattle.replica_stores.specs.LogFault.TheVariants as refusals
 use Rattle.lms_tree.specs.declared.fault.SignFault.{SignFault}
 use Rattle.lms_tree.specs.declared.fault.SignFault.TheVariants as faults
 use Rattle.replica_core.specs.declared.halt.Halt.{Halt}

@@ -17,7 +17,7 @@ use Rattle.std.specs.List.{AllByRecursion}
 use Rattle.pbft_model.specs.Rows.{Output, Done}
 use Rattle.seal.specs.Opening.{CheckedMessage}
 use Rattle.seal.specs.Signers.{key_of}
-use Rattle.view_change.specs.Log.{KeptLog}
+use Rattle.replica_stores.specs.Log.{KeptLog}
 use Rattle.checkpoints.specs.Kept.{KeptCheckpoints}
 use Rattle.replica_core.specs.declared.step.Step.{Step}
 use Rattle.replica_core.specs.Facts.{done_of, output_of}

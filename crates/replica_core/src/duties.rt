@@ -11,8 +11,8 @@ use crate::kept::{Core, digest_of};
 use host_types::limits::SEQUENCE_NUMBER_LIMIT;
 use host_types::{ClientId, Digest, ReplicaId, SeqNo, View};
 use pbft_codec::{Body, Fetch};
+use replica_stores::valid_new_view;
 use seal::Checked;
-use view_change::valid_new_view;
 
 /// There is no view of this number or above.
 const VIEW_LIMIT: u64 = 4_294_967_296;

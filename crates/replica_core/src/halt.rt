@@ -5,10 +5,10 @@ ghost use Rattle.replica_core.specs.Halts.{unless_memory};
 ghost use Rattle.replica_core.specs.declared.halt.Halt.TheVariants.{Memory};
 
 use lms_tree::SignFault;
+use replica_stores::LogFault;
 use std::alloc::{AllocError, AllocFailed};
 use std::error::Error;
 use std::fmt::{self, Display, Formatter};
-use view_change::LogFault;
 
 /// Why a replica has stopped for good. What it did for the message or the timeout by which it stopped is
 /// not given.

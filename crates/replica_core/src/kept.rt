@@ -17,14 +17,13 @@ use crate::step::Step;
 use checkpoints::Checkpoints;
 use host_types::{Config, Digest, ReplicaId, SeqNo, View};
 use lms_tree::Signer;
-use replica_stores::{Certificates, Changes, Requests, Sent};
+use replica_stores::{Certificates, Changes, QuorumLog, Requests, Sent};
 use seal::Checked;
 use sha2::Sha256;
 use std::alloc::{AllocError, Global};
 use std::marker::Model;
 use std::sync::Arc;
 use tenant_lanes::State;
-use view_change::QuorumLog;
 
 /// What a replica keeps.
 #[derive(Drop)]

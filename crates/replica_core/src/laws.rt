@@ -3,7 +3,7 @@
 ghost use Rattle.std.specs.Prelude.{◌≡◌, ◌<◌, ℕ, Some};
 ghost use Rattle.checkpoints.specs.Kept.{KeptCheckpoints, discarded, proof_list, stable_at};
 ghost use Rattle.host_types.specs.declared.Digest.{Digest};
-ghost use Rattle.view_change.specs.Made.{IsStableBy};
+ghost use Rattle.replica_stores.specs.Made.{IsStableBy};
 
 /// What `Checkpoints::proof` gives at a stable number above the low mark proves it: Checkpoints of 2f + 1
 /// replicas at the number with one digest, ids ascending, as `make` wants of a ViewChange's valid parts. Once

@@ -11,17 +11,17 @@ ghost use Rattle.checkpoints.specs.Kept.{checkpoint_of};
 ghost use Rattle.replica_stores.specs.Stores.{IsRequest};
 ghost use Rattle.replica_core.specs.declared.halt.Halt.TheVariants.{Memory};
 ghost use Rattle.pbft_model.specs.Setup.{setup_of};
-ghost use Rattle.view_change.specs.Messages.{IsNewView, IsViewChange};
+ghost use Rattle.replica_stores.specs.Messages.{IsNewView, IsViewChange};
 
 use crate::halt::{Halt, unless_memory};
 use crate::kept::Core;
 use checkpoints::{CheckpointFault, Checkpoints};
 use host_types::{SeqNo, View};
 use pbft_codec::{Body, Snapshot};
+use replica_stores::{valid, valid_new_view};
 use seal::{Checked, CheckedList, nested_checkpoints};
 use std::sync::Arc;
 use tenant_lanes::{State, StateFault};
-use view_change::{valid, valid_new_view};
 
 impl Core {
     /// Records a message. Own messages are recorded as they are sent.

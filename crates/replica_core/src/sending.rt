@@ -5,7 +5,7 @@ ghost use Rattle.lms_tree.specs.Keys.{after_signing, leaf_count};
 ghost use Rattle.pbft_codec.specs.declared.signed.Role.TheVariants as roles;
 ghost use Rattle.seal.specs.Opening.{sealed_message};
 ghost use Rattle.seal.specs.Signers.{may_sign};
-ghost use Rattle.view_change.specs.Sealable.{IsSealable};
+ghost use Rattle.replica_stores.specs.Sealable.{IsSealable};
 ghost use Rattle.replica_core.specs.declared.halt.Halt.TheVariants.{Memory};
 ghost use Rattle.replica_core.specs.Doing.{IsShortOf};
 ghost use Rattle.replica_core.specs.Facts.{destination_of};

@@ -11,7 +11,7 @@ ghost use Rattle.pbft_model.specs.Rules.{new_view_of, view_change_of};
 ghost use Rattle.pbft_model.specs.Validity.{is_valid_new_view};
 ghost use Rattle.pbft_model.specs.Words.{NewView};
 ghost use Rattle.seal.specs.Opening.{sealed_message};
-ghost use Rattle.view_change.specs.Sealable.{HasShortLists, IsSealable};
+ghost use Rattle.replica_stores.specs.Sealable.{HasShortLists, IsSealable};
 ghost use Rattle.pbft_model.specs.Setup.{setup_of};
 ghost use Rattle.replica_core.specs.declared.halt.Halt.TheVariants.{Memory};
 ghost use Rattle.replica_core.specs.Doing.{Fulfilled, IsShortOf, Says};
@@ -24,8 +24,8 @@ use crate::kept::Core;
 use crate::row::Dest;
 use host_types::{SeqNo, View};
 use pbft_codec::{Body, PrePrepare};
+use replica_stores::{floor_of, make, make_new_view, new_view};
 use seal::{Checked, CheckedList, nested_pre_prepares};
-use view_change::{floor_of, make, make_new_view, new_view};
 
 impl Core {
     // ---- leaving

@@ -7,3 +7,5 @@ pub mod Changing
 pub mod Choosing
 pub mod Joining
 pub mod Holding
+pub use Rattle.view_change.proofs.Sealing
+pub use Rattle.view_change.proofs.StableProofs

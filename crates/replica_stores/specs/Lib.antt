@@ -4,3 +4,13 @@ pub mod Sent
 pub mod Certificates
 pub mod Changes
 pub mod Requests
+pub mod Openings
+pub use Rattle.view_change.specs.CheckedCertificate
+pub use Rattle.view_change.specs.Faults
+pub use Rattle.view_change.specs.Log
+pub use Rattle.view_change.specs.LogFault
+pub use Rattle.view_change.specs.Made
+pub use Rattle.view_change.specs.Messages
+pub use Rattle.view_change.specs.Opening
+pub use Rattle.view_change.specs.Sealable
+pub use Rattle.view_change.specs.declared.fault.ViewFault

@@ -20,3 +20,6 @@ pub use changes::Changes;
 pub use owed::Owed;
 pub use requests::Requests;
 pub use sent::{Proposal, Sent};
+pub use view_change::{
+    LogFault, QuorumLog, floor_of, make, make_new_view, new_view, valid, valid_new_view,
+};

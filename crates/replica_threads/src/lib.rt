@@ -29,7 +29,7 @@ mod station;
 mod ticker;
 mod waiting;
 
-pub use byz_world::{Dest, Halt, Input, Replica, Row, Status};
+pub use byz_world::{Dest, Halt, Input, Replica, Row, Status, audit};
 pub use fault::HostFault;
 pub use host::{Closed, Host};
 pub use law::a_stations_signer_has_used_its_rows_leaves;

@@ -7,6 +7,8 @@ use Rattle.script_values.specs.declared.said.Client.{Client}
 use Rattle.script_values.specs.declared.fault.TableFault.TheVariants.{WrongValue}
 use Rattle.script_text.specs.declared.script.Damage.{Damage}
 use Rattle.script_text.specs.declared.script.Damage.TheVariants.{Cut, Flip}
+use Rattle.script_text.specs.declared.script.DeliveryOrder.{DeliveryOrder}
+use Rattle.script_text.specs.declared.script.DeliveryOrder.TheVariants as orders
 use Rattle.script_text.specs.declared.script.Filter.{Filter}
 use Rattle.script_text.specs.declared.script.ForgedMessage.{ForgedMessage}
 use Rattle.script_text.specs.declared.script.ForgedMessage.TheVariants.{Vote, Checkpoint, ViewChange}
@@ -36,7 +38,7 @@ use Rattle.script_values.specs.declared.kind.Kind.{Kind}
 use Rattle.script_text.specs.Files.{file_code}
 use Rattle.script_text.specs.Naming.{given_name, new_name}
 use Rattle.script_text.specs.declared.files.NamedFile.{NamedFile}
-use Rattle.script_values.specs.Forms.{assembler_text, pair_of, client_name, faulty_index, hex_bytes, digest, forged_kind, is_one_of, kind_name, lines, list_of, needed_key, numbers, only_keys, optional_key, node, profile, replica, sequence_number, up_to, yes}
+use Rattle.script_values.specs.Forms.{assembler_text, pair_of, choices, client_name, faulty_index, hex_bytes, digest, forged_kind, is_one_of, kind_name, lines, list_of, needed_key, numbers, only_keys, optional_key, node, profile, replica, sequence_number, up_to, yes}
 
 -- what a reading says, put into a step
 abbrev pub as_step : {A : Type 0} → (A → Step) → Result A TableFault → Result Step TableFault
@@ -70,16 +72,42 @@ filter_keys = codes "do" ∷ codes "from" ∷ codes "to" ∷ codes "kinds" ∷ [
 abbrev pub named_filter_keys : List (List ℕ)
 named_filter_keys = codes "do" ∷ codes "from" ∷ codes "to" ∷ codes "kinds" ∷ codes "as" ∷ []
 
--- what is delivered, and the seed of a drawn order
-abbrev pub deliver_from : Result (Option ℕ × Selection) TableFault → Result Step TableFault
+-- ---- deliveries
+
+-- what is delivered, and in which order
+abbrev pub deliver_from : Result (DeliveryOrder × Selection) TableFault → Result Step TableFault
 deliver_from (Ok r) = Ok (steps.Deliver (filter_of r.1) r.0)
 deliver_from (Err fault) = Err fault
 
+abbrev pub deliver_with : Result DeliveryOrder TableFault → List (List ℕ) → ℕ → List Client → Members → Result Step TableFault
+deliver_with order keys count clients members =
+    deliver_from (only_keys (pair_of order (selection_in count clients members)) keys members)
+
+-- the order that a list chooses
+abbrev pub chosen_from : Result (List ℕ) TableFault → Result DeliveryOrder TableFault
+chosen_from (Ok numbers) = Ok (orders.Chosen numbers)
+chosen_from (Err fault) = Err fault
+
+abbrev pub chosen_in : Members → Result DeliveryOrder TableFault
+chosen_in members = chosen_from (needed_key choices (codes "choose") members)
+
+-- the order that a seed draws, or the oldest first
+abbrev pub drawn_from : Result (Option ℕ) TableFault → Result DeliveryOrder TableFault
+drawn_from (Ok (Some seed)) = Ok (orders.Drawn seed)
+drawn_from (Ok None) = Ok orders.Oldest
+drawn_from (Err fault) = Err fault
+
+abbrev pub drawn_in : Members → Result DeliveryOrder TableFault
+drawn_in members = drawn_from (optional_key (up_to 9223372036854775807) (codes "order") members)
+
+-- The order is chosen where there is such a key, else perhaps drawn.
 abbrev pub deliver_in : ℕ → List Client → Members → Result Step TableFault
 deliver_in count clients members =
-    deliver_from (only_keys
-    (pair_of (optional_key (up_to 9223372036854775807) (codes "order") members) (selection_in count clients members))
-    (codes "do" ∷ codes "from" ∷ codes "to" ∷ codes "kinds" ∷ codes "order" ∷ []) members)
+    if is_some (get_member (codes "choose") members)
+    then deliver_with (chosen_in members) (codes "do" ∷ codes "from" ∷ codes "to" ∷ codes "kinds" ∷ codes "choose" ∷ []) count clients members
+    else deliver_with (drawn_in members) (codes "do" ∷ codes "from" ∷ codes "to" ∷ codes "kinds" ∷ codes "order" ∷ []) count clients members
+
+-- ---- what becomes of the queue
 
 -- which messages are lost, which are queued once more, and which are printed
 abbrev pub drop_in : ℕ → List Client → Members → Result Step TableFault

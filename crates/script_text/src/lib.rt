@@ -26,8 +26,8 @@ pub use files::{FileName, MAX_FILE, NamedFile, is_code_name};
 pub use head::{CLIENT_HINTS, HEAD_HINTS, Head};
 pub use place::lines_of_steps;
 pub use script::{
-    Damage, Filter, ForgedMessage, ForgedVote, Forgery, NamedStep, Order, Payload, Printout,
-    QueueEdit, Script, Step,
+    Damage, DeliveryOrder, Filter, ForgedMessage, ForgedVote, Forgery, NamedStep, Order, Payload,
+    Printout, QueueEdit, Script, Step,
 };
 pub use script_values::{
     Client, KEY_LIST_HINTS, KeyShape, Kind, MessageName, Node, Number, Operation, ScriptBytes,

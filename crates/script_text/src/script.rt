@@ -41,6 +41,18 @@ pub struct Filter {
     pub kinds: Option<Sequence<Kind>>,
 }
 
+/// Which of the messages that a `deliver` means is delivered each time.
+#[derive(Drop)]
+pub enum DeliveryOrder {
+    /// The oldest.
+    Oldest,
+    /// The one that this seed draws.
+    Drawn(u64),
+    /// The one of the number that stands here for this delivery, the oldest being 0, modulo how many there are; the oldest behind the
+    /// last of these numbers.
+    Chosen(Sequence<u64>),
+}
+
 /// A message that a faulty replica signs, and for whom it is queued.
 #[derive(Drop)]
 pub struct Forgery {
@@ -116,8 +128,7 @@ pub enum Step {
     /// Delivers each message that is meant, and what comes of it where that is meant too.
     Deliver {
         filter: Filter,
-        /// The seed of an order that is drawn; the oldest message first where it is left out.
-        order: Option<u64>,
+        order: DeliveryOrder,
     },
     /// Timeouts at these replicas, in this order.
     Timeout(Sequence<ReplicaId>),
@@ -141,7 +152,7 @@ impl Step {
         ensures { self.new ≡ ordered_step seed self.old }
     {
         if let Step::Deliver { order, .. } = self {
-            *order = Some(seed);
+            *order = DeliveryOrder::Drawn(seed);
         }
     }
 

@@ -7,10 +7,11 @@ ghost use Rattle.toml.specs.View.{table_view, view};
 ghost use Rattle.script_values.specs.declared.fault.TableFault.{TableFault};
 ghost use Rattle.script_text.specs.declared.script.Damage.{Damage as DamageSaid};
 ghost use Rattle.script_text.specs.declared.script.Damage.TheVariants as damages;
+ghost use Rattle.script_text.specs.declared.script.DeliveryOrder.{DeliveryOrder as OrderSaid};
 ghost use Rattle.script_text.specs.declared.script.Step.{Step as StepSaid};
 ghost use Rattle.script_values.specs.Faults.{IsUnlessMemory};
 ghost use Rattle.script_text.specs.Naming.{named};
-ghost use Rattle.script_text.specs.Steps.{Selection as SelectionSaid, arguments_of, asm_in, bare, call_in, damage_at, deliver_in, drop_in, expect_in, file_in, filter_in, filter_of, install_in, installing, mangle_from, mangle_in, mangle_with, name_in, numbered_call_in, order_in, order_with, profile_in, queue_in, repeat_in, selection_in, state_in, step_named, timeout_in, upgrade_in};
+ghost use Rattle.script_text.specs.Steps.{Selection as SelectionSaid, arguments_of, asm_in, bare, call_in, chosen_in, damage_at, deliver_from, deliver_in, deliver_with, drawn_in, drop_in, expect_in, file_in, filter_in, filter_of, install_in, installing, mangle_from, mangle_in, mangle_with, name_in, numbered_call_in, order_in, order_with, profile_in, queue_in, repeat_in, selection_in, state_in, step_named, timeout_in, upgrade_in};
 ghost use Rattle.script_text.specs.Dialects.{step, step_named_for, thread_step};
 
 use crate::dialect::Dialect;
@@ -19,15 +20,15 @@ use crate::forgery_keys::read_forgery;
 use crate::head::Head;
 use crate::naming::NewName;
 use crate::raw_keys::read_raw;
-use crate::script::{Damage, Filter, NamedStep, Order, Printout, QueueEdit, Step};
+use crate::script::{Damage, DeliveryOrder, Filter, NamedStep, Order, Printout, QueueEdit, Step};
 use host_types::operation::{CALL, INSTALL, INSTALL2};
 use host_types::{Bytes, ReplicaId};
 use pbft_codec::Sequence;
 use script_values::{
-    AssemblerText, Client, ClientName, HexBytes, InstallProfile, Kind, KindName, Lines, ListOf,
-    MAX_INTEGER, MessageName, Node, NodeName, Numbers, Operation, ProfileNumber, ReplicaIndex,
-    ScriptBytes, TableFault, UpTo, Word, is_among, needed, optional, pair, table_of, unknown_where,
-    value_at, with_only, wrong_where,
+    AssemblerText, Choices, Client, ClientName, HexBytes, InstallProfile, Kind, KindName, Lines,
+    ListOf, MAX_INTEGER, MessageName, Node, NodeName, Numbers, Operation, ProfileNumber,
+    ReplicaIndex, ScriptBytes, TableFault, UpTo, Word, is_among, needed, optional, pair, table_of,
+    unknown_where, value_at, with_only, wrong_where,
 };
 use std::alloc::{AllocError, Global};
 use toml::{Table, Value};
@@ -46,7 +47,9 @@ const FILTER_KEYS: [&str; 4] = ["do", "from", "to", "kinds"];
 
 const NAMED_FILTER_KEYS: [&str; 5] = ["do", "from", "to", "kinds", "as"];
 
-const DELIVER_KEYS: [&str; 5] = ["do", "from", "to", "kinds", "order"];
+const DRAWN_KEYS: [&str; 5] = ["do", "from", "to", "kinds", "order"];
+
+const CHOSEN_KEYS: [&str; 5] = ["do", "from", "to", "kinds", "choose"];
 
 const TIMEOUT_KEYS: [&str; 2] = ["do", "at"];
 
@@ -66,7 +69,7 @@ const EXPECT_KEYS: [&str; 2] = ["do", "lines"];
 pub const STEP_FORMS: &str =
     r#"  do = "request"   client; install = hex, or asm = text, or file = a name, each with profile = 1 or 2, or
                    call = a procedure with args = hex, or numbers = a list; to
-  do = "deliver"   from, to, kinds, order = a seed
+  do = "deliver"   from, to, kinds; order = a seed, or choose = a list of numbers
   do = "drop"      from, to, kinds
   do = "repeat"    from, to, kinds
   do = "queue"     from, to, kinds
@@ -100,6 +103,7 @@ step | from | [] | a list of ids of replicas and clients
 step | to | [] | a list of ids of replicas and clients
 step | kinds | [] | a list of kinds of messages: request, pre-prepare, prepare, commit, reply, checkpoint, view-change, new-view, fetch, snapshot
 step | order | 0 | a number from 0 to 9,223,372,036,854,775,807
+step | choose | [] | a list of at most 65,536 numbers from 0 to 9,223,372,036,854,775,807
 step | cut | 0 | a number from 0 to 9,223,372,036,854,775,807
 step | flip | 0 | a number from 0 to 9,223,372,036,854,775,807
 state | at | 0 | the id of a replica
@@ -441,15 +445,57 @@ fn bare_call(alloc: Global, procedure: u32) -> Result<Vec<u8>, AllocError>
 fn read_deliver(alloc: Global, names: &Names<'_>, table: &Table) -> Result<Step, TableFault>
     ensures { IsUnlessMemory result (deliver_in names.now.count names.now.clients.now (table_view table.now)) }
 {
-    let named = pair(
-        optional(alloc, table, "order", &UpTo(MAX_INTEGER)),
-        read_selection(alloc, names, table),
-    );
-    let (order, selection) = with_only(named, table, &DELIVER_KEYS)?;
-    Ok(Step::Deliver {
-        filter: filter_of(selection),
-        order,
-    })
+    if value_at(table, "choose").is_some() {
+        let chosen = read_chosen(alloc, table);
+        read_deliver_in(alloc, names, table, chosen, &CHOSEN_KEYS)
+    } else {
+        let drawn = read_drawn(alloc, table);
+        read_deliver_in(alloc, names, table, drawn, &DRAWN_KEYS)
+    }
+}
+
+/// Deliveries in this order, in a table of these keys.
+fn read_deliver_in(
+    alloc: Global,
+    names: &Names<'_>,
+    table: &Table,
+    order: Result<DeliveryOrder, TableFault>,
+    keys: &[&str],
+) -> Result<Step, TableFault>
+    ensures { (o : Result OrderSaid TableFault) → IsUnlessMemory order o → IsUnlessMemory result (deliver_with o (map (λ k. k.now) keys.now) names.now.count names.now.clients.now (table_view table.now)) }
+{
+    let named = pair(order, read_selection(alloc, names, table));
+    as_deliver(with_only(named, table, keys))
+}
+
+/// What was read of deliveries, as a step.
+fn as_deliver(read: Result<(DeliveryOrder, Selection), TableFault>) -> Result<Step, TableFault>
+    ensures { (r : Result (OrderSaid × SelectionSaid) TableFault) → IsUnlessMemory read r → IsUnlessMemory result (deliver_from r) }
+{
+    match read {
+        Ok((order, selection)) => Ok(Step::Deliver {
+            filter: filter_of(selection),
+            order,
+        }),
+        Err(fault) => Err(fault),
+    }
+}
+
+/// The order of a list of choices.
+fn read_chosen(alloc: Global, table: &Table) -> Result<DeliveryOrder, TableFault>
+    ensures { IsUnlessMemory result (chosen_in (table_view table.now)) }
+{
+    Ok(DeliveryOrder::Chosen(needed(alloc, table, "choose", &Choices)?))
+}
+
+/// The order that a seed draws; the oldest first where there is none.
+fn read_drawn(alloc: Global, table: &Table) -> Result<DeliveryOrder, TableFault>
+    ensures { IsUnlessMemory result (drawn_in (table_view table.now)) }
+{
+    match optional(alloc, table, "order", &UpTo(MAX_INTEGER))? {
+        Some(seed) => Ok(DeliveryOrder::Drawn(seed)),
+        None => Ok(DeliveryOrder::Oldest),
+    }
 }
 
 /// Which messages are lost.

@@ -298,6 +298,14 @@ packed_from (Err fault) = Err fault
 abbrev pub numbers : Data → Result (List ℕ) TableFault
 numbers d = packed_from (list_of (up_to 9223372036854775807) d)
 
+-- at most 65,536 numbers
+abbrev pub choices_from : Result (List ℕ) TableFault → Result (List ℕ) TableFault
+choices_from (Ok ns) = if nat_le (length ns) 65536 then Ok ns else Err WrongValue
+choices_from (Err fault) = Err fault
+
+abbrev pub choices : Data → Result (List ℕ) TableFault
+choices d = choices_from (list_of (up_to 9223372036854775807) d)
+
 abbrev pub any_table : Data → Result (Unit {0}) TableFault
 any_table d = if_found (λ members. Ok tt) (as_table d)
 

@@ -25,7 +25,7 @@ pub use form::{
 };
 pub use kind::Kind;
 pub use lines::Lines;
-pub use numbers::Numbers;
+pub use numbers::{Choices, Numbers};
 pub use replica_keys::{KEY_LIST_HINTS, KEY_LISTS, KeyShape, ReplicaKeys, read_keys};
 pub use said::{
     Client, InstallProfile, MessageName, Node, Number, Operation, ScriptBytes, Secret, node_text,

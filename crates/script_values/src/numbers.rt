@@ -1,4 +1,4 @@
-//! Numbers as the bytes that a procedure reads them from.
+//! Lists of numbers: as the bytes that a procedure reads them from, and as choices.
 
 ghost use Rattle.std.specs.Prelude.{◌≡◌, IfOk};
 ghost use Rattle.script_values.specs.Forms.{packed};
@@ -8,6 +8,7 @@ use crate::form::Form;
 use crate::said::ScriptBytes;
 use crate::values::{ListOf, MAX_HEX_BYTES, MAX_INTEGER, UpTo};
 use host_types::Bytes;
+use pbft_codec::Sequence;
 use std::alloc::{AllocError, Global};
 use toml::Value;
 
@@ -28,6 +29,30 @@ impl Form for Numbers {
         let bytes = packed(alloc, numbers.as_slice())?;
         if bytes.len() <= MAX_HEX_BYTES {
             Ok(ScriptBytes::new(Bytes::from_vec(bytes)))
+        } else {
+            Err(TableFault::WrongValue)
+        }
+    }
+}
+
+/// The most choices of a list.
+const MAX_CHOICES: usize = 65_536;
+
+/// A list of at most 65,536 numbers from 0 to 2^63 - 1.
+#[derive(Clone, Copy)]
+pub struct Choices;
+
+impl Form for Choices {
+    ghost use Rattle.script_values.specs.Forms.{choices};
+
+    ghost reads = { λ _ d. choices d };
+
+    type Says = Sequence<u64>;
+
+    fn read(&self, alloc: Global, value: &Value) -> Result<Sequence<u64>, TableFault> {
+        let numbers = ListOf(UpTo(MAX_INTEGER)).read(alloc, value)?;
+        if numbers.as_slice().len() <= MAX_CHOICES {
+            Ok(numbers)
         } else {
             Err(TableFault::WrongValue)
         }

@@ -4,10 +4,10 @@ use Rattle.std.specs.Prelude.{nat_le}
 use Rattle.std.specs.List.{AllByRecursion, list_all, list_any}
 use Rattle.std.proofs.lemmas.Bool.{cases_eq, eqb-true, eq-eqb, ne_eqb, le-leb, leb-true, false_from_ne_true, false≢true}
 use Rattle.pbft_codec.specs.Limits.{AscendFrom}
-use Rattle.pbft_model.specs.Words.{Signed, Role, Replica}
-use Rattle.pbft_model.specs.Setup.{count, is_replica}
-use Rattle.pbft_model.specs.Certificates.{is_by}
-use Rattle.pbft_model.proofs.Stages.{by_is}
+use Rattle.quorum_log.specs.Words.{Signed, Role, Replica}
+use Rattle.quorum_log.specs.Setup.{count, is_replica}
+use Rattle.quorum_log.specs.Certificates.{is_by}
+use Rattle.quorum_log.proofs.Stages.{by_is}
 
 -- one of so many replicas signed it
 pub record IsReplicas {B : Type 0} (n : ℕ) (m : Signed B) : Type 0 where

@@ -5,12 +5,12 @@ use Rattle.std.specs.List.{AllByRecursion, list_all}
 use Rattle.std.proofs.lemmas.Bool.{and_parts, and_from, eq-eqb, leb-true}
 use Rattle.host_types.specs.Configuration.{Configuration, IsConfiguration, replicas_for}
 use Rattle.pbft_codec.specs.declared.body.Body.TheVariants as bodies
-use Rattle.pbft_model.specs.Words.{Signed, Body, Role, PrePrepare, Certificate, ViewChange, NewView}
-use Rattle.pbft_model.specs.Setup.{Setup, primary, quorum, span, is_replica, setup_of}
-use Rattle.pbft_model.specs.Certificates.{Fields, of_pre_prepare, same_fields, is_by, has_quorum}
-use Rattle.pbft_model.specs.Rules.{pre_prepare_of}
-use Rattle.pbft_model.specs.Validity.{first_fault, greatest_of, floor_of, certificates_in, ascend_within, has_view, has_proof, has_certificates, has_order, view_change_fault, new_view_fault, bodies_in, changed_by, are_for_view, have_proofs, have_certificates, have_order, given, are_given}
-use Rattle.pbft_model.proofs.Made.{same_self}
+use Rattle.quorum_log.specs.Words.{Signed, Body, Role, PrePrepare, Certificate, ViewChange, NewView}
+use Rattle.quorum_log.specs.Setup.{Setup, primary, quorum, span, is_replica, setup_of}
+use Rattle.quorum_log.specs.Certificates.{Fields, of_pre_prepare, same_fields, is_by, has_quorum}
+use Rattle.quorum_log.specs.Rules.{pre_prepare_of}
+use Rattle.quorum_log.specs.Validity.{first_fault, greatest_of, floor_of, certificates_in, ascend_within, has_view, has_proof, has_certificates, has_order, view_change_fault, new_view_fault, bodies_in, changed_by, are_for_view, have_proofs, have_certificates, have_order, given, are_given}
+use Rattle.quorum_log.proofs.Made.{same_self}
 use Rattle.seal.specs.Lists.{CheckedMessages, AreChecked, under}
 use Rattle.seal.specs.Opening.{IsChecked}
 use Rattle.seal.specs.Parts.{as_message}

@@ -3,7 +3,7 @@ use Rattle.std.proofs.Common.{◌≡◌, List, Option, Some, sym, ap, ◌∙◌}
 use Rattle.std.proofs.lemmas.Option.{same_Some}
 use Rattle.host_types.specs.declared.SeqNo.{SeqNo}
 use Rattle.host_types.specs.declared.View.{View}
-use Rattle.pbft_model.specs.Words.{Signed, PrePrepare, Prepare, Checkpoint, Certificate, NewView, ViewChange}
+use Rattle.quorum_log.specs.Words.{Signed, PrePrepare, Prepare, Checkpoint, Certificate, NewView, ViewChange}
 
 same_certificate : (p : Signed PrePrepare) (ps : List (Signed Prepare)) (x : Certificate) → p ≡ x.pre_prepare → ps ≡ x.prepares → record { pre_prepare = p; prepares = ps } ≡ x
 same_certificate p ps x e f = λ i. record { pre_prepare = e i; prepares = f i }

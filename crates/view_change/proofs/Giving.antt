@@ -3,11 +3,11 @@ use Rattle.std.proofs.Common.{◌≡◌, ℕ, zero, suc, ◌+◌, ◌-◌, ◌<�
 use Rattle.std.specs.Prelude.{map}
 use Rattle.std.proofs.Math.ListN.{drop_of_length-le}
 use Rattle.std.proofs.lemmas.Bool.{eq-eqb, ne_eqb}
-use Rattle.pbft_model.specs.Words.{Signed, PrePrepare, ViewChange}
-use Rattle.pbft_model.specs.Setup.{Setup, numbers_from}
-use Rattle.pbft_model.specs.Certificates.{Fields, of_pre_prepare, same_fields, is_by}
-use Rattle.pbft_model.specs.Rules.{pre_prepare_of}
-use Rattle.pbft_model.specs.Validity.{are_given, given_digest}
+use Rattle.quorum_log.specs.Words.{Signed, PrePrepare, ViewChange}
+use Rattle.quorum_log.specs.Setup.{Setup, numbers_from}
+use Rattle.quorum_log.specs.Certificates.{Fields, of_pre_prepare, same_fields, is_by}
+use Rattle.quorum_log.specs.Rules.{pre_prepare_of}
+use Rattle.quorum_log.specs.Validity.{are_given, given_digest}
 use Rattle.view_change.specs.Proposals.{proposal_at, left_from}
 use Rattle.view_change.proofs.Walking.{rest_at}
 

@@ -9,15 +9,15 @@ use Rattle.std.proofs.lemmas.Option.{same_Some}
 use Rattle.host_types.specs.Configuration.{Configuration}
 use Rattle.pbft_codec.specs.declared.body.Body.TheVariants as bodies
 use Rattle.pbft_codec.specs.Limits.{AscendFrom}
-use Rattle.pbft_model.proofs.Found.{from_gathered, passed}
-use Rattle.pbft_model.proofs.Gathering.{count_least, length_gathered}
-use Rattle.pbft_model.proofs.Stages.{by_is, fields_are, voted_is}
-use Rattle.pbft_model.specs.Certificates.{is_by, of_pre_prepare, of_prepare, same_fields, voted}
-use Rattle.pbft_model.specs.Core.{has_position}
-use Rattle.pbft_model.specs.Histories.{IsIn}
-use Rattle.pbft_model.specs.Setup.{count, is_least, numbers_from, primary, replicas}
-use Rattle.pbft_model.specs.Tables.{at, vote_key}
-use Rattle.pbft_model.specs.Words.{PrePrepare, Prepare, Signed}
+use Rattle.quorum_log.proofs.Found.{from_gathered, passed}
+use Rattle.quorum_log.proofs.Gathering.{count_least, length_gathered}
+use Rattle.quorum_log.proofs.Stages.{by_is, fields_are, voted_is}
+use Rattle.quorum_log.specs.Certificates.{is_by, of_pre_prepare, of_prepare, same_fields, voted}
+use Rattle.quorum_log.specs.Core.{has_position}
+use Rattle.quorum_log.specs.Histories.{IsIn}
+use Rattle.quorum_log.specs.Setup.{count, is_least, numbers_from, primary, replicas}
+use Rattle.quorum_log.specs.Tables.{at, vote_key}
+use Rattle.quorum_log.specs.Words.{PrePrepare, Prepare, Signed}
 use Rattle.quorum_log.specs.Log.{Log, as_checked, backing, certificate_in, certified_at, checked_certificate, is_certified_in, proposal_in}
 use Rattle.quorum_log.specs.declared.certificate.CheckedCertificate.{CheckedCertificate}
 use Rattle.seal.specs.Parts.{as_message}

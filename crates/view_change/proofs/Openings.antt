@@ -7,12 +7,12 @@ use Rattle.host_types.specs.Configuration.{Configuration, IsConfiguration, repli
 use Rattle.pbft_codec.specs.declared.body.Body.TheVariants as bodies
 use Rattle.pbft_codec.specs.Bodies.{BodyWellFormed}
 use Rattle.pbft_codec.specs.Limits.{CertificateWellFormed, ViewChangeWellFormed, NewViewWellFormed}
-use Rattle.pbft_model.specs.Words.{Signed, Body, Role, PrePrepare, Prepare, Certificate, ViewChange, NewView}
-use Rattle.pbft_model.specs.Setup.{primary, count, is_replica, setup_of}
-use Rattle.pbft_model.specs.Certificates.{Fields, of_pre_prepare, of_prepare, same_fields, is_by, voted_among, is_certificate, is_checkpoint_of}
-use Rattle.pbft_model.specs.Validity.{digest_in, has_view, has_proof, has_certificates, has_order, first_fault, view_change_fault, new_view_fault, bodies_in, are_for_view, have_proofs, have_certificates, are_given, given}
-use Rattle.pbft_model.proofs.Made.{same_self}
-use Rattle.pbft_model.proofs.Stages.{by_is, fields_are}
+use Rattle.quorum_log.specs.Words.{Signed, Body, Role, PrePrepare, Prepare, Certificate, ViewChange, NewView}
+use Rattle.quorum_log.specs.Setup.{primary, count, is_replica, setup_of}
+use Rattle.quorum_log.specs.Certificates.{Fields, of_pre_prepare, of_prepare, same_fields, is_by, voted_among, is_certificate, is_checkpoint_of}
+use Rattle.quorum_log.specs.Validity.{digest_in, has_view, has_proof, has_certificates, has_order, first_fault, view_change_fault, new_view_fault, bodies_in, are_for_view, have_proofs, have_certificates, are_given, given}
+use Rattle.quorum_log.proofs.Made.{same_self}
+use Rattle.quorum_log.proofs.Stages.{by_is, fields_are}
 use Rattle.seal.specs.Opening.{CheckedMessage, IsChecked}
 use Rattle.seal.specs.Parts.{as_message, in_certificate, nested_in, with_nested}
 use Rattle.seal.specs.Signers.{IsAuthentic, primary_of}

@@ -4,8 +4,8 @@ use Rattle.std.specs.Prelude.{map}
 use Rattle.std.specs.List.{flat_map}
 use Rattle.host_types.specs.Configuration.{Configuration}
 use Rattle.pbft_codec.specs.declared.body.Body.TheVariants as bodies
-use Rattle.pbft_model.specs.Words.{Signed, Body, Certificate, ViewChange}
-use Rattle.pbft_model.specs.Validity.{certificates_in}
+use Rattle.quorum_log.specs.Words.{Signed, Body, Certificate, ViewChange}
+use Rattle.quorum_log.specs.Validity.{certificates_in}
 use Rattle.seal.specs.Lists.{messages_of, under}
 use Rattle.seal.specs.Opening.{CheckedMessage}
 use Rattle.seal.specs.Parts.{as_message}

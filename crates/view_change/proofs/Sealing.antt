@@ -19,7 +19,7 @@ use Rattle.pbft_codec.specs.Lengths.{certificate_length, fetch_length, new_view_
 use Rattle.pbft_codec.specs.Limits.{CertificateFieldsInRange, CertificateWellFormed, CheckpointFieldsInRange, EachBody, FetchFieldsInRange, FetchWellFormed, IsDigest, IsSequenceNumber, NewViewFieldsInRange, NewViewWellFormed, PrePrepareFieldsInRange, PrepareFieldsInRange, SignedFieldsInRange, ViewChangeFieldsInRange, ViewChangeWellFormed}
 use Rattle.pbft_codec.proofs.LengthLaws.{length_body}
 use Rattle.pbft_codec.proofs.Widths.{length_length_prefixed}
-use Rattle.pbft_model.specs.Words.{Body, Certificate, Checkpoint, Commit, Fetch, NewView, PrePrepare, Prepare, ReplyBody, Signed, Snapshot, ViewChange}
+use Rattle.quorum_log.specs.Words.{Body, Certificate, Checkpoint, Commit, Fetch, NewView, PrePrepare, Prepare, ReplyBody, Signed, Snapshot, ViewChange}
 use Rattle.quorum_log.specs.declared.certificate.CheckedCertificate.{CheckedCertificate}
 use Rattle.seal.specs.Lists.{AreChecked, CheckedMessages, under}
 use Rattle.seal.specs.Opening.{CheckedMessage, IsChecked, around_body}

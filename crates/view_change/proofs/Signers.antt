@@ -8,7 +8,7 @@ use Rattle.host_types.specs.declared.key.PublicKey.{PublicKey}
 use Rattle.pbft_codec.specs.declared.sender.Sender.{Sender}
 use Rattle.pbft_codec.specs.declared.body.Body.TheVariants as bodies
 use Rattle.pbft_codec.specs.Bodies.{sender_of}
-use Rattle.pbft_model.specs.Words.{Signed, Body, Role, Replica, Client, Prepare, Checkpoint, ViewChange}
+use Rattle.quorum_log.specs.Words.{Signed, Body, Role, Replica, Client, Prepare, Checkpoint, ViewChange}
 use Rattle.seal.specs.Parts.{as_message}
 use Rattle.seal.specs.Signers.{IsAuthentic, key_of, may_sign, client_may_send, replica_may_send, primary_of}
 use Rattle.view_change.proofs.Counts.{IsReplicas}

@@ -8,15 +8,15 @@ use Rattle.std.proofs.lemmas.Option.{same_Some}
 use Rattle.std.proofs.lemmas.Slice.Eq.{bytes_eq-Decides}
 use Rattle.pbft_codec.specs.declared.body.Body.TheVariants as bodies
 use Rattle.pbft_codec.specs.Limits.{AscendFrom}
-use Rattle.pbft_model.proofs.Found.{from_gathered}
-use Rattle.pbft_model.proofs.Gathering.{count_least, length_gathered}
-use Rattle.pbft_model.proofs.Stages.{by_is}
-use Rattle.pbft_model.specs.Certificates.{checkpointed, is_checkpoint_of, is_stable, some_by}
-use Rattle.pbft_model.specs.Core.{Core, proof_of}
-use Rattle.pbft_model.specs.Histories.{IsIn}
-use Rattle.pbft_model.specs.Setup.{Setup, count, is_least, quorum, replicas}
-use Rattle.pbft_model.specs.Tables.{at, checkpoint_key}
-use Rattle.pbft_model.specs.Words.{Checkpoint, Signed}
+use Rattle.quorum_log.proofs.Found.{from_gathered}
+use Rattle.quorum_log.proofs.Gathering.{count_least, length_gathered}
+use Rattle.quorum_log.proofs.Stages.{by_is}
+use Rattle.quorum_log.specs.Certificates.{checkpointed, is_checkpoint_of, is_stable, some_by}
+use Rattle.quorum_log.specs.Core.{Core, proof_of}
+use Rattle.quorum_log.specs.Histories.{IsIn}
+use Rattle.quorum_log.specs.Setup.{Setup, count, is_least, quorum, replicas}
+use Rattle.quorum_log.specs.Tables.{at, checkpoint_key}
+use Rattle.quorum_log.specs.Words.{Checkpoint, Signed}
 use Rattle.seal.specs.Parts.{as_message}
 use Rattle.view_change.specs.Made.{IsCheckpointAt, IsStableBy}
 use Rattle.view_change.proofs.LogCertificates.{as_ascend, filtered_ascends, taken_if}

@@ -11,11 +11,11 @@ use Rattle.host_types.specs.declared.View.{View}
 use Rattle.pbft_codec.specs.declared.body.Body.{Body}
 use Rattle.pbft_codec.specs.declared.body.Body.TheVariants as bodies
 use Rattle.pbft_codec.specs.Limits.{AscendFrom}
-use Rattle.pbft_model.proofs.Made.{same_self}
-use Rattle.pbft_model.specs.Certificates.{Fields, is_checkpoint_of, of_pre_prepare, of_prepare, same_fields}
-use Rattle.pbft_model.specs.Setup.{Setup, span, setup_of}
-use Rattle.pbft_model.specs.Validity.{ascend_within, digest_in, first_fault, has_certificates, has_view, is_proof, view_change_fault}
-use Rattle.pbft_model.specs.Words.{Certificate, Checkpoint, PrePrepare, Prepare, Signed, ViewChange}
+use Rattle.quorum_log.proofs.Made.{same_self}
+use Rattle.quorum_log.specs.Certificates.{Fields, is_checkpoint_of, of_pre_prepare, of_prepare, same_fields}
+use Rattle.quorum_log.specs.Setup.{Setup, span, setup_of}
+use Rattle.quorum_log.specs.Validity.{ascend_within, digest_in, first_fault, has_certificates, has_view, is_proof, view_change_fault}
+use Rattle.quorum_log.specs.Words.{Certificate, Checkpoint, PrePrepare, Prepare, Signed, ViewChange}
 use Rattle.quorum_log.specs.declared.certificate.CheckedCertificate.{CheckedCertificate}
 use Rattle.seal.specs.Lists.{AreChecked, CheckedMessages}
 use Rattle.seal.specs.Parts.{as_message}

@@ -1,6 +1,6 @@
 -- Statement: the number of each fault, and what a call answers.
 use Rattle.std.specs.Prelude.{ℕ, Option, Some, None, Result, Ok, Err}
-use Rattle.pbft_model.specs.Validity as rules
+use Rattle.quorum_log.specs.Validity as rules
 use Rattle.view_change.specs.declared.fault.ViewFault.{ViewFault}
 use Rattle.view_change.specs.declared.fault.ViewFault.TheVariants.{Proof, Certificate, View, Order, Memory}
 

@@ -7,10 +7,10 @@ use Rattle.host_types.specs.declared.View.{View}
 use Rattle.pbft_codec.specs.declared.body.Body.{Body}
 use Rattle.pbft_codec.specs.declared.body.Body.TheVariants as bodies
 use Rattle.pbft_codec.specs.Limits.{AscendFrom}
-use Rattle.pbft_model.specs.Certificates.{of_pre_prepare, of_prepare}
-use Rattle.pbft_model.specs.Words.{Certificate, Checkpoint, NewView, PrePrepare, Prepare, Signed, ViewChange}
-use Rattle.pbft_model.specs.Setup.{Setup, span, setup_of}
-use Rattle.pbft_model.specs.Validity.{has_view, has_proof, has_certificates, has_order, view_change_fault}
+use Rattle.quorum_log.specs.Certificates.{of_pre_prepare, of_prepare}
+use Rattle.quorum_log.specs.Words.{Certificate, Checkpoint, NewView, PrePrepare, Prepare, Signed, ViewChange}
+use Rattle.quorum_log.specs.Setup.{Setup, span, setup_of}
+use Rattle.quorum_log.specs.Validity.{has_view, has_proof, has_certificates, has_order, view_change_fault}
 use Rattle.quorum_log.specs.declared.certificate.CheckedCertificate.{CheckedCertificate}
 use Rattle.seal.specs.Lists.{CheckedMessages}
 use Rattle.seal.specs.Parts.{as_message}

@@ -4,10 +4,10 @@ use Rattle.std.specs.Prelude.{ℕ, ◌+◌, ◌*◌, ◌==◌, Bool, ◌&&◌, �
 use Rattle.std.specs.List.{AllByRecursion, list_all}
 use Rattle.host_types.specs.Configuration.{Configuration}
 use Rattle.pbft_codec.specs.Limits.{ViewChangeWellFormed}
-use Rattle.pbft_model.specs.Words.{Signed, Checkpoint, Certificate, ViewChange, NewView}
-use Rattle.pbft_model.specs.Setup.{primary, setup_of}
-use Rattle.pbft_model.specs.Certificates.{of_pre_prepare, of_prepare, same_fields, is_checkpoint_of}
-use Rattle.pbft_model.specs.Validity.{ViewFault, digest_in, has_view, has_order, first_fault, given, are_given}
+use Rattle.quorum_log.specs.Words.{Signed, Checkpoint, Certificate, ViewChange, NewView}
+use Rattle.quorum_log.specs.Setup.{primary, setup_of}
+use Rattle.quorum_log.specs.Certificates.{of_pre_prepare, of_prepare, same_fields, is_checkpoint_of}
+use Rattle.quorum_log.specs.Validity.{ViewFault, digest_in, has_view, has_order, first_fault, given, are_given}
 use Rattle.seal.specs.Parts.{in_view_change}
 use Rattle.seal.specs.Signers.{IsAuthentic}
 

@@ -2,10 +2,10 @@
 use Rattle.std.specs.Prelude.{◌≡◌, ℕ, List, None, map, length}
 use Rattle.std.specs.List.{AllByRecursion}
 use Rattle.pbft_codec.specs.Limits.{AscendFrom}
-use Rattle.pbft_model.specs.Words.{Signed, PrePrepare, ViewChange, NewView, Replica}
-use Rattle.pbft_model.specs.Setup.{Setup, primary, quorum}
-use Rattle.pbft_model.specs.Rules.{pre_prepare_of}
-use Rattle.pbft_model.specs.Validity.{floor_of, top_of, given, bodies_in, view_change_fault}
+use Rattle.quorum_log.specs.Words.{Signed, PrePrepare, ViewChange, NewView, Replica}
+use Rattle.quorum_log.specs.Setup.{Setup, primary, quorum}
+use Rattle.quorum_log.specs.Rules.{pre_prepare_of}
+use Rattle.quorum_log.specs.Validity.{floor_of, top_of, given, bodies_in, view_change_fault}
 use Rattle.view_change.specs.declared.opening.Opening.{Opening}
 
 -- The floor, the top and the proposals that the ViewChanges give for this view.

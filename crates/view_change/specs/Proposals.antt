@@ -1,10 +1,10 @@
 -- Internal: the proposal of the highest certificate at a number, as a loop finds it, and those of the
 -- numbers that are left.
 use Rattle.std.specs.Prelude.{ℕ, ◌+◌, ◌-◌, map, ◌==◌, Bool, ◌&&◌, nat_lt, nat_le, List, Option, Some, None, if◌then◌else◌}
-use Rattle.pbft_model.specs.Words.{Signed, Certificate, PrePrepare, ViewChange}
-use Rattle.pbft_model.specs.Setup.{Setup, numbers_from}
-use Rattle.pbft_model.specs.Certificates.{Fields}
-use Rattle.pbft_model.specs.Validity.{given_digest}
+use Rattle.quorum_log.specs.Words.{Signed, Certificate, PrePrepare, ViewChange}
+use Rattle.quorum_log.specs.Setup.{Setup, numbers_from}
+use Rattle.quorum_log.specs.Certificates.{Fields}
+use Rattle.quorum_log.specs.Validity.{given_digest}
 
 -- the proposal of the higher of one found and a later one: the first of those of one view
 abbrev pub or_later : Option PrePrepare → Option Certificate → Option PrePrepare

@@ -1,7 +1,7 @@
 -- Internal: what a body reports: a ViewChange its low mark and certificates, another body nothing.
 use Rattle.std.specs.Prelude.{ℕ, List, []}
 use Rattle.pbft_codec.specs.Bodies.{Contents, Nothing, InViewChange, InNewView, contents_of}
-use Rattle.pbft_model.specs.Words.{Body, Certificate}
+use Rattle.quorum_log.specs.Words.{Body, Certificate}
 
 abbrev pub low_in : Contents → ℕ
 low_in Nothing = 0

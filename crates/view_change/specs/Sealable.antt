@@ -6,7 +6,7 @@ use Rattle.seal.specs.SigningState.{SigningState}
 use Rattle.pbft_codec.specs.Bodies.{BodyWellFormed}
 use Rattle.pbft_codec.specs.Encoding.{body as encoded_body, max_bytes}
 use Rattle.pbft_codec.specs.Limits.{AscendFrom, IsSequenceNumber}
-use Rattle.pbft_model.specs.Words.{Body, Certificate, NewView, ViewChange}
+use Rattle.quorum_log.specs.Words.{Body, Certificate, NewView, ViewChange}
 use Rattle.quorum_log.specs.declared.certificate.CheckedCertificate.{CheckedCertificate}
 use Rattle.seal.specs.Lists.{AreChecked}
 use Rattle.seal.specs.Opening.{IsChecked, around_body}

@@ -2,7 +2,7 @@
 
 ghost use Rattle.std.specs.Prelude.{◌≡◌, ◌+◌, ◌*◌};
 ghost use Rattle.std.specs.List.{list_all};
-ghost use Rattle.pbft_model.specs.Certificates.{of_pre_prepare, of_prepare, same_fields, is_checkpoint_of};
+ghost use Rattle.quorum_log.specs.Certificates.{of_pre_prepare, of_prepare, same_fields, is_checkpoint_of};
 ghost use Rattle.view_change.specs.Opened.{is_full_certificate, is_full_proof};
 
 use host_types::{Config, Digest, SeqNo};

@@ -5,9 +5,9 @@ ghost use Rattle.std.specs.Prelude.{◌≡◌, ◌++◌, [], max, map, List};
 ghost use Rattle.std.specs.List.{flat_map};
 ghost use Rattle.sha2.specs.Sha256.{sha256};
 ghost use Rattle.pbft_codec.specs.declared.body.certificate.Certificate.{Certificate};
-ghost use Rattle.pbft_model.specs.Validity.{digest_or_null, floor_of, greatest_of, highest};
+ghost use Rattle.quorum_log.specs.Validity.{digest_or_null, floor_of, greatest_of, highest};
 ghost use Rattle.host_types.specs.Configuration.{Configuration};
-ghost use Rattle.pbft_model.specs.Setup.{setup_of};
+ghost use Rattle.quorum_log.specs.Setup.{setup_of};
 ghost use Rattle.view_change.specs.Proposals.{comes_instead, or_later};
 
 use crate::report::Report;

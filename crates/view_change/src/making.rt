@@ -7,11 +7,11 @@ ghost use Rattle.pbft_codec.specs.declared.body.Body.TheVariants as bodies;
 ghost use Rattle.pbft_codec.specs.declared.body.certificate.Certificate.{Certificate};
 ghost use Rattle.pbft_codec.specs.declared.body.new_view.NewView.{NewView};
 ghost use Rattle.pbft_codec.specs.declared.body.view_change.ViewChange.{ViewChange};
-ghost use Rattle.pbft_model.specs.Validity.{view_change_fault};
+ghost use Rattle.quorum_log.specs.Validity.{view_change_fault};
 ghost use Rattle.view_change.specs.declared.fault.ViewFault.TheVariants.{Memory};
 ghost use Rattle.view_change.specs.Made.{AreValidParts, HasValidParts, IsCertificateOf, IsMadeOf, IsNewViewOf, IsValidChange, OneForOne};
 ghost use Rattle.view_change.specs.Sealable.{AreUnder, HasFewMessages, HasShortLists, IsCheckedCertificate, IsSealable};
-ghost use Rattle.pbft_model.specs.Setup.{setup_of};
+ghost use Rattle.quorum_log.specs.Setup.{setup_of};
 
 use crate::fault::ViewFault;
 use crate::nested::{copies_of, copy_of};

@@ -1,9 +1,9 @@
 //! The tests of a NewView.
 
 ghost use Rattle.std.specs.Prelude.{◌≡◌};
-ghost use Rattle.pbft_model.specs.Certificates.{is_by, of_pre_prepare, same_fields};
-ghost use Rattle.pbft_model.specs.Setup.{primary, setup_of};
-ghost use Rattle.pbft_model.specs.Validity.{are_given, given, has_order};
+ghost use Rattle.quorum_log.specs.Certificates.{is_by, of_pre_prepare, same_fields};
+ghost use Rattle.quorum_log.specs.Setup.{primary, setup_of};
+ghost use Rattle.quorum_log.specs.Validity.{are_given, given, has_order};
 ghost use Rattle.view_change.specs.Faults.{answer};
 ghost use Rattle.view_change.specs.Opened.{each_change, is_for_view, has_full_certificates, has_full_proof, have_full_proofs, have_given_order, opening_fault};
 

@@ -7,14 +7,14 @@ ghost use Rattle.pbft_codec.specs.declared.body.Body.TheVariants as bodies;
 ghost use Rattle.pbft_codec.specs.declared.body.new_view.NewView.{NewView};
 ghost use Rattle.pbft_codec.specs.declared.body.view_change.ViewChange.{ViewChange};
 ghost use Rattle.pbft_codec.specs.declared.signed.Signed.{Signed};
-ghost use Rattle.pbft_model.specs.Validity.{bodies_in, has_order, new_view_fault};
-ghost use Rattle.pbft_model.specs.Rules.{pre_prepare_of};
+ghost use Rattle.quorum_log.specs.Validity.{bodies_in, has_order, new_view_fault};
+ghost use Rattle.quorum_log.specs.Rules.{pre_prepare_of};
 ghost use Rattle.seal.specs.Lists.{messages_of};
 ghost use Rattle.view_change.specs.Proposals.{left_from};
 ghost use Rattle.seal.specs.Parts.{as_message};
 ghost use Rattle.view_change.specs.declared.fault.ViewFault.TheVariants.{Memory};
 ghost use Rattle.view_change.specs.Opening.{IsOpeningOf, IsSignedFrom};
-ghost use Rattle.pbft_model.specs.Setup.{setup_of};
+ghost use Rattle.quorum_log.specs.Setup.{setup_of};
 
 use crate::fault::ViewFault;
 use crate::given::{digest_at, greatest_low, top_of};

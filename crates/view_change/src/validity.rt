@@ -4,9 +4,9 @@ ghost use Rattle.std.specs.Prelude.{◌≡◌};
 ghost use Rattle.pbft_codec.specs.declared.body.Body.TheVariants as bodies;
 ghost use Rattle.pbft_codec.specs.declared.body.new_view.NewView.{NewView};
 ghost use Rattle.pbft_codec.specs.declared.body.view_change.ViewChange.{ViewChange};
-ghost use Rattle.pbft_model.specs.Validity.{view_change_fault, new_view_fault};
+ghost use Rattle.quorum_log.specs.Validity.{view_change_fault, new_view_fault};
 ghost use Rattle.view_change.specs.Faults.{answer};
-ghost use Rattle.pbft_model.specs.Setup.{setup_of};
+ghost use Rattle.quorum_log.specs.Setup.{setup_of};
 ghost use Rattle.view_change.specs.Messages.{IsViewChange, IsNewView};
 
 use crate::fault::ViewFault;

@@ -2,10 +2,10 @@
 
 ghost use Rattle.std.specs.Prelude.{◌≡◌, nat_lt};
 ghost use Rattle.std.specs.List.{list_all};
-ghost use Rattle.pbft_model.specs.Validity.{has_view, has_order};
+ghost use Rattle.quorum_log.specs.Validity.{has_view, has_order};
 ghost use Rattle.view_change.specs.Faults.{answer};
 ghost use Rattle.view_change.specs.Opened.{change_fault, has_full_certificates, has_full_proof};
-ghost use Rattle.pbft_model.specs.Setup.{setup_of};
+ghost use Rattle.quorum_log.specs.Setup.{setup_of};
 
 use crate::certificates::{is_certificate, is_proof};
 use crate::fault::ViewFault;

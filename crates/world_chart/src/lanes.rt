@@ -1,8 +1,8 @@
 //! The lanes of a chart.
 
 use host_types::{ClientId, Config, ReplicaId};
-use script_text::Node;
 use std::alloc::{AllocError, Global};
+use world_lines::Node;
 
 /// The lanes of a chart: the clients in the order of their configuration, and then the replicas, ids ascending.
 #[derive(Drop)]
@@ -58,8 +58,23 @@ impl Lanes {
         self.nodes.iter().position(|one| *one == node).unwrap_or(0)
     }
 
+    /// The lane of the replica of this index or the client of this id, of which no two are equal.
+    pub(crate) fn lane_of_id(&self, id: u32) -> usize {
+        self.nodes
+            .iter()
+            .position(|one| id_of(*one) == id)
+            .unwrap_or(0)
+    }
+
     /// The lane of a replica.
     pub(crate) fn lane_of_replica(&self, id: ReplicaId) -> usize {
         self.lane_of(Node::Replica(id))
+    }
+}
+
+fn id_of(node: Node) -> u32 {
+    match node {
+        Node::Client(client) => client.0,
+        Node::Replica(replica) => u32::from(replica.0),
     }
 }

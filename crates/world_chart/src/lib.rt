@@ -13,4 +13,7 @@ mod rows;
 
 pub use chart::Chart;
 pub use lanes::Lanes;
-pub use world_lines::{Cause, Happening, Standing, changes, line_of, saying_in, words_of};
+pub use world_lines::{
+    Blame, Cause, Claim, Happening, Leaving, Standing, Topic, changes, claim_of, leaf_claim_of,
+    line_of, saying_in, view_claim_of, words_of,
+};

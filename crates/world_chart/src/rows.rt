@@ -1,11 +1,9 @@
 //! The rows of a chart.
 
 use crate::lanes::Lanes;
-use conflicts::Claim;
-use host_types::{ReplicaId, View};
-use script_text::Node;
+use host_types::View;
 use std::alloc::{AllocError, Global};
-use world_lines::{Cause, Happening, Saying, line_of, words_of};
+use world_lines::{Blame, Cause, Happening, Node, Saying, line_of, words_of};
 
 /// The most messages that are drawn one by one.
 const MAX_MESSAGES: usize = 100;
@@ -147,7 +145,7 @@ impl Rows<'_> {
         match *happening {
             Happening::Handed { from, to, saying } => self.add_message(from, to, &saying, false),
             Happening::Lost { from, to, saying } => self.add_message(from, to, &saying, true),
-            Happening::Blamed { one, .. } => self.add_blame(happening, &one),
+            Happening::Blamed(blame) => self.add_blame(happening, &blame),
             Happening::Began { .. } => self.add_step(happening),
             _ => self.add_note(happening),
         }
@@ -187,12 +185,9 @@ impl Rows<'_> {
         self.push(shape, words)
     }
 
-    fn add_blame(&mut self, happening: &Happening, one: &Claim) -> Result<(), AllocError> {
+    fn add_blame(&mut self, happening: &Happening, blame: &Blame) -> Result<(), AllocError> {
         let words = line_words(self.alloc, happening)?;
-        let lane = match u8::try_from(one.signer) {
-            Ok(id) => self.lanes.lane_of_replica(ReplicaId(id)),
-            Err(_) => 0,
-        };
+        let lane = self.lanes.lane_of_id(blame.signer());
         self.push(Shape::Alarm { lane }, words)
     }
 
@@ -244,7 +239,7 @@ impl Rows<'_> {
             Happening::Accepted { client } => self.lanes.lane_of(Node::Client(client)),
             Happening::Handed { to, .. } | Happening::Lost { to, .. } => self.lanes.lane_of(to),
             Happening::Unqueued(Cause::Exhausted(node)) => self.lanes.lane_of(node),
-            Happening::Unqueued(_) | Happening::Blamed { .. } | Happening::Began { .. } => 0,
+            Happening::Unqueued(_) | Happening::Blamed(_) | Happening::Began { .. } => 0,
         }
     }
 }

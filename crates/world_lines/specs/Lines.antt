@@ -1,5 +1,8 @@
 -- Statement: the line of each thing that happens.
 use Rattle.std.specs.Prelude.{ℕ, List, [], ◌++◌, codes, decimal, take, Option, Some, None, bytes_eq, if◌then◌else◌}
+use Rattle.conflicts.specs.Blames.{signer_of}
+use Rattle.conflicts.specs.declared.blame.Blame.{Blame}
+use Rattle.conflicts.specs.declared.blame.Blame.TheVariants as blames
 use Rattle.conflicts.specs.declared.claim.Claim.{Claim}
 use Rattle.conflicts.specs.declared.claim.Topic.{Topic}
 use Rattle.conflicts.specs.declared.claim.Topic.TheVariants as topics
@@ -111,16 +114,30 @@ refusal_line at from kind fault part =
 abbrev pub topic_words : Topic → List ℕ
 topic_words (topics.Vote kind view number) = vote_name kind ++ (codes " view " ++ (decimal view.0 ++ (codes " number " ++ decimal number.0)))
 topic_words (topics.Checkpoint number) = codes "checkpoint number " ++ decimal number.0
+topic_words (topics.ViewChange view) = codes "view-change view " ++ decimal view.0
+topic_words (topics.NewView view) = codes "new-view view " ++ decimal view.0
+topic_words (topics.Leaf leaf) = codes "leaf " ++ decimal leaf
 
--- what is said of it: of a vote the request that is named, of a Checkpoint the digest of a state
+-- what is said of it: of a vote the request that is named, of another topic the digest of a state or of what was signed
 abbrev pub digest_words : Topic → Digest → List ℕ
 digest_words (topics.Vote kind view number) digest = request_name digest
-digest_words (topics.Checkpoint number) digest = short digest
+digest_words _ digest = short digest
 
-abbrev pub blame_line : Claim → Claim → List ℕ
-blame_line one other =
-    codes "blame " ++ (decimal one.signer ++ (codes " " ++ (topic_words one.topic ++ (codes " " ++ (digest_words one.topic one.digest
-    ++ (codes " " ++ (digest_words other.topic other.digest ++ codes "\n")))))))
+abbrev pub twice_words : Claim → Claim → List ℕ
+twice_words one other =
+    topic_words one.topic ++ (codes " " ++ (digest_words one.topic one.digest ++ (codes " " ++ digest_words other.topic other.digest)))
+
+-- that a ViewChange hides a Commit
+abbrev pub hidden_words : Claim → SeqNo → Digest → List ℕ
+hidden_words change number digest = topic_words change.topic ++ (codes " hides " ++ (decimal number.0 ++ (codes " " ++ request_name digest)))
+
+abbrev pub blame_words : Blame → List ℕ
+blame_words (blames.Twice one other) = twice_words one other
+blame_words (blames.Hidden change view number digest) = hidden_words change number digest
+blame_words (blames.Invalid claim) = topic_words claim.topic ++ codes " invalid"
+
+abbrev pub blame_line : Blame → List ℕ
+blame_line blame = codes "blame " ++ (decimal (signer_of blame) ++ (codes " " ++ (blame_words blame ++ codes "\n")))
 
 abbrev pub happening_line : Happening → List ℕ
 happening_line (happens.Began step line name) = began_line step line name.now
@@ -136,4 +153,4 @@ happening_line (happens.Entered at view) = at_line at (codes "enters view") view
 happening_line (happens.Raised at low) = raised_line at low
 happening_line (happens.Halted at halt) = decimal at.0 ++ (codes " halts: " ++ (halts.name_of halt ++ codes "\n"))
 happening_line (happens.Accepted client) = codes "client " ++ (decimal client.0 ++ codes " accepts\n")
-happening_line (happens.Blamed one other) = blame_line one other
+happening_line (happens.Blamed blame) = blame_line blame

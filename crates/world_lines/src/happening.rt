@@ -1,7 +1,7 @@
 //! What happens in a world.
 
 use crate::saying::Saying;
-use conflicts::Claim;
+use conflicts::Blame;
 use host_types::{ClientId, ReplicaId, SeqNo, View};
 use replica_core::Halt;
 use script_text::{Kind, Node};
@@ -88,9 +88,6 @@ pub enum Happening {
     Accepted {
         client: ClientId,
     },
-    /// One replica said two things of one topic.
-    Blamed {
-        one: Claim,
-        other: Claim,
-    },
+    /// Signatures blame a replica or a client.
+    Blamed(Blame),
 }

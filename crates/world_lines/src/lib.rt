@@ -12,9 +12,11 @@ mod saying;
 mod standing;
 mod words;
 
+pub use conflicts::{Blame, Claim, Leaving, Topic, claim_of, leaf_claim_of, view_claim_of};
 pub use happening::{Cause, Happening};
 pub use lines::line_of;
 pub use said::{saying_in, saying_of};
 pub use saying::Saying;
+pub use script_text::Node;
 pub use standing::{Standing, changes};
 pub use words::words_of;

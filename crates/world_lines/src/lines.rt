@@ -1,12 +1,12 @@
 //! The line of what happens.
 
 ghost use Rattle.std.specs.Prelude.{◌≡◌, IfOk, codes, decimal, string_bytes};
-ghost use Rattle.world_lines.specs.Lines.{at_line, began_line, blame_line, digest_words, fault_words, happening_line, handed_line, left_line, raised_line, refusal_line, refused_words, topic_words, unqueued_line};
+ghost use Rattle.world_lines.specs.Lines.{at_line, began_line, blame_line, blame_words, digest_words, fault_words, happening_line, handed_line, hidden_words, left_line, raised_line, refusal_line, refused_words, topic_words, twice_words, unqueued_line};
 
 use crate::happening::{Cause, Happening};
 use crate::saying::Saying;
 use crate::words::{request_name, short, vote_name, words_of};
-use conflicts::{Claim, Topic};
+use conflicts::{Blame, Claim, Topic};
 use host_types::{Digest, ReplicaId, SeqNo, View};
 use script_text::{Kind, Node, node_text};
 use seal::SealFault;
@@ -45,7 +45,7 @@ pub fn line_of(alloc: Global, happening: &Happening) -> Result<String, AllocErro
             let client = client.0;
             format!(in alloc; "client {client} accepts\n")
         }
-        Happening::Blamed { one, other } => blame_line(alloc, &one, &other),
+        Happening::Blamed(blame) => blame_line(alloc, &blame),
     }
 }
 
@@ -168,15 +168,57 @@ fn fault_words(alloc: Global, fault: SealFault, part: Option<usize>) -> Result<S
     }
 }
 
-/// Two things that one replica said.
-fn blame_line(alloc: Global, one: &Claim, other: &Claim) -> Result<String, AllocError>
-    ensures { IfOk result (λ line. string_bytes line ≡ blame_line one.now other.now) }
+/// Whom signatures blame, and for what.
+fn blame_line(alloc: Global, blame: &Blame) -> Result<String, AllocError>
+    ensures { IfOk result (λ line. string_bytes line ≡ blame_line blame.now) }
 {
-    let signer = one.signer;
+    let signer = blame.signer();
+    let words = blame_words(alloc, blame)?;
+    format!(in alloc; "blame {signer} {words}\n")
+}
+
+/// For what someone is blamed.
+fn blame_words(alloc: Global, blame: &Blame) -> Result<String, AllocError>
+    ensures { IfOk result (λ text. string_bytes text ≡ blame_words blame.now) }
+{
+    match blame {
+        Blame::Twice { one, other } => twice_words(alloc, one, other),
+        Blame::Hidden {
+            change,
+            number,
+            digest,
+            ..
+        } => hidden_words(alloc, change, *number, digest),
+        Blame::Invalid(claim) => {
+            let topic = topic_words(alloc, &claim.topic)?;
+            format!(in alloc; "{topic} invalid")
+        }
+    }
+}
+
+/// Two things that one signer said.
+fn twice_words(alloc: Global, one: &Claim, other: &Claim) -> Result<String, AllocError>
+    ensures { IfOk result (λ text. string_bytes text ≡ twice_words one.now other.now) }
+{
     let topic = topic_words(alloc, &one.topic)?;
     let first = digest_words(alloc, &one.topic, &one.digest)?;
     let second = digest_words(alloc, &other.topic, &other.digest)?;
-    format!(in alloc; "blame {signer} {topic} {first} {second}\n")
+    format!(in alloc; "{topic} {first} {second}")
+}
+
+/// A Commit that a ViewChange hides.
+fn hidden_words(
+    alloc: Global,
+    change: &Claim,
+    number: SeqNo,
+    digest: &Digest,
+) -> Result<String, AllocError>
+    ensures { IfOk result (λ text. string_bytes text ≡ hidden_words change.now number digest.now) }
+{
+    let topic = topic_words(alloc, &change.topic)?;
+    let number = number.0;
+    let request = request_name(alloc, digest)?;
+    format!(in alloc; "{topic} hides {number} {request}")
 }
 
 /// What two things are said of.
@@ -194,15 +236,24 @@ fn topic_words(alloc: Global, topic: &Topic) -> Result<String, AllocError>
             let number = number.0;
             format!(in alloc; "checkpoint number {number}")
         }
+        Topic::ViewChange { view } => {
+            let view = view.0;
+            format!(in alloc; "view-change view {view}")
+        }
+        Topic::NewView { view } => {
+            let view = view.0;
+            format!(in alloc; "new-view view {view}")
+        }
+        Topic::Leaf { leaf } => format!(in alloc; "leaf {leaf}"),
     }
 }
 
-/// What is said of it: of a vote the request that is named, of a Checkpoint the digest of a state.
+/// What is said of it: of a vote the request that is named, of another topic the digest of a state or of what was signed.
 fn digest_words(alloc: Global, topic: &Topic, digest: &Digest) -> Result<String, AllocError>
     ensures { IfOk result (λ text. string_bytes text ≡ digest_words topic.now digest.now) }
 {
     match topic {
         Topic::Vote { .. } => request_name(alloc, digest),
-        Topic::Checkpoint { .. } => short(alloc, digest),
+        _ => short(alloc, digest),
     }
 }

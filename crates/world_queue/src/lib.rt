@@ -2,7 +2,8 @@
 //! how steps change them, and who makes them, clients by their sessions and faulty replicas by their signers.
 //!
 //!     queue.send(&letter, &everyone)?;
-//!     if let Some(letter) = queue.take_meant(&filter, drawn(state, queue.count_meant(&filter))) {
+//!     let passed = passed_over(&order, done, state, queue.count_meant(&filter));
+//!     if let Some(letter) = queue.take_meant(&filter, passed) {
 //!         hand_over(letter.to(), letter.bytes())?;
 //!     }
 #![tactic(auto)]
@@ -16,7 +17,7 @@ mod named;
 mod queue;
 mod sessions;
 
-pub use drawing::{drawn, next_state};
+pub use drawing::{next_state, passed_over, seed_of};
 pub use edits::{changed, find_named};
 pub use forging::{Forger, checkpoint_body, forge, view_change_body, vote_body};
 pub use lines::{line_of_nothing_queued, line_of_refusal, line_of_reply};

@@ -10,10 +10,12 @@ use Rattle.host_types.specs.declared.ReplicaId.{ReplicaId}
 use Rattle.seal.specs.Opening.{CheckedMessage, opening}
 use Rattle.seal.specs.declared.fault.SealFault.{SealFault}
 use Rattle.drained_records.specs.Worlds.{Where}
+use Rattle.script_text.specs.declared.script.DeliveryOrder.{DeliveryOrder}
+use Rattle.script_text.specs.declared.script.DeliveryOrder.TheVariants.{Oldest}
 use Rattle.script_text.specs.declared.script.Filter.{Filter}
 use Rattle.script_text.specs.Node.{Node}
 use Rattle.script_text.specs.Node.TheVariants.{Replica, Client}
-use Rattle.world_queue.specs.Letters.{LetterFacts, drawn, first_meant, meant_count, next_state, passed_over, state_behind, without_first}
+use Rattle.world_queue.specs.Letters.{LetterFacts, first_meant, meant_count, next_state, passed_over, seed_of, state_behind, without_first}
 use Rattle.std.specs.Io.KnownBytes.{Appends}
 use Rattle.script_text.specs.declared.script.Step.TheVariants as steps
 use Rattle.world_script.specs.Endings.{Ends}
@@ -86,7 +88,7 @@ delivered_at f passed s t letter left text taken handed = record {
 
 -- ---- so many deliveries
 
-pub one_more : (f : Filter) (order : Option ℕ) (n : ℕ) (s u t : StageFacts) (before line : List ℕ) → Deliveries f order n s before u
+pub one_more : (f : Filter) (order : DeliveryOrder) (n : ℕ) (s u t : StageFacts) (before line : List ℕ) → Deliveries f order n s before u
     → Delivers f (passed_over order n (meant_count f u.queue)) u line t → Deliveries f order (n + 1) s (before ++ line) t
 one_more f order n s u t before line many one =
     subst (λ (k : ℕ). Deliveries f order k s (before ++ line) t) (sym (same n)) (before, line, u, many, one, refl) where
@@ -121,73 +123,75 @@ restored f s os passed left queue found lacks is rest emptied at = (
 
 -- So many were delivered and printed, and these letters were passed over.
 abbrev pub IsUnderWay : Filter → ℕ → StageFacts → Option (List ℕ) → Option (List ℕ) → List LetterFacts → StageFacts → List ℕ → Type 0
-IsUnderWay f n s old new os u text = (first_meant f os ≡ None) × Deliveries f None n s text (ahead os u) × Appends old new text
+IsUnderWay f n s old new os u text = (first_meant f os ≡ None) × Deliveries f Oldest n s text (ahead os u) × Appends old new text
 
 abbrev Left : Filter → StageFacts → StageFacts → Type 0
 Left f u t = (first_meant f u.queue ≡ None) × (t ≡ u)
 
 pub all_delivered : (f : Filter) (n : ℕ) (s u t : StageFacts) (old new : Option (List ℕ)) (os : List LetterFacts) (lines : String Global) → n ≤ max_deliveries → IsUnderWay f n s old new os u (string_bytes lines)
-    → Left f (ahead os u) t → Ends s (steps.Deliver f None) old new (Ok lines) t
+    → Left f (ahead os u) t → Ends s (steps.Deliver f Oldest) old new (Ok lines) t
 all_delivered f n s u t old new os lines within is left =
-    ((n, within, subst (Deliveries f None n s (string_bytes lines)) (sym left.1) is.1, ap (λ (x : StageFacts). first_meant f x.queue) left.1 ∙ left.0), is.2)
+    ((n, within, subst (Deliveries f Oldest n s (string_bytes lines)) (sym left.1) is.1, ap (λ (x : StageFacts). first_meant f x.queue) left.1 ∙ left.0), is.2)
 
 pub write_ended : (f : Filter) (n : ℕ) (s u w t : StageFacts) (old mid new : Option (List ℕ)) (os : List LetterFacts) (text line : List ℕ) → n < max_deliveries → IsUnderWay f n s old mid os u text
-    → Delivers f 0 (ahead os u) line w → AppendsFront mid new line → Ends s (steps.Deliver f None) old new (Err Write) t
+    → Delivers f 0 (ahead os u) line w → AppendsFront mid new line → Ends s (steps.Deliver f Oldest) old new (Err Write) t
 write_ended f n s u w t old mid new os text line within is one front = (
   text ++ line,
-  (n + 1, w, omega (arith, within), one_more f None n s (ahead os u) w text line is.1 one),
+  (n + 1, w, omega (arith, within), one_more f Oldest n s (ahead os u) w text line is.1 one),
   front_then old mid new text line is.2 front,
 )
 
 pub continues : (f : Filter) (n : ℕ) (s u v : StageFacts) (old mid new : Option (List ℕ)) (os rest : List LetterFacts) (text line later : List ℕ) → IsUnderWay f n s old mid os u text
     → Delivers f 0 (ahead os u) line (ahead rest v) × (first_meant f rest ≡ None) → Appends mid new line → later ≡ text ++ line → IsUnderWay f (n + 1) s old new rest v later
 continues f n s u v old mid new os rest text line later is one wrote same =
-    subst (IsUnderWay f (n + 1) s old new rest v) (sym same) (one.1, one_more f None n s (ahead os u) (ahead rest v) text line is.1 one.0, both old mid new text line is.2 wrote)
+    subst (IsUnderWay f (n + 1) s old new rest v) (sym same) (one.1, one_more f Oldest n s (ahead os u) (ahead rest v) text line is.1 one.0, both old mid new text line is.2 wrote)
 
 pub too_many : (f : Filter) (n : ℕ) (s u t : StageFacts) (old new : Option (List ℕ)) (os : List LetterFacts) (text : List ℕ) → n ≡ max_deliveries → IsUnderWay f n s old new os u text
-    → (first_meant f (ahead os u).queue ≡ None → ⊥) → Ends s (steps.Deliver f None) old new (Err TooManyDeliveries) t
+    → (first_meant f (ahead os u).queue ≡ None → ⊥) → Ends s (steps.Deliver f Oldest) old new (Err TooManyDeliveries) t
 too_many f n s u t old new os text all is more =
-    (text, (ahead os u, subst (λ (k : ℕ). Deliveries f None k s text (ahead os u)) all is.1, more), is.2)
+    (text, (ahead os u, subst (λ (k : ℕ). Deliveries f Oldest k s text (ahead os u)) all is.1, more), is.2)
 
--- ---- in a drawn order
+-- ---- in an order that is drawn or chosen
 
--- So many were delivered and printed in the order of a seed, and this is the generator's state.
-abbrev pub IsDrawing : Filter → ℕ → ℕ → StageFacts → Option (List ℕ) → Option (List ℕ) → ℕ → StageFacts → List ℕ → Type 0
-IsDrawing f seed n s old new state u text = (state ≡ state_behind seed n) × Deliveries f (Some seed) n s text u × Appends old new text
+-- So many were delivered and printed in this order, and this is the generator's state.
+abbrev pub IsDrawing : Filter → DeliveryOrder → ℕ → StageFacts → Option (List ℕ) → Option (List ℕ) → ℕ → StageFacts → List ℕ → Type 0
+IsDrawing f order n s old new state u text = (state ≡ state_behind (seed_of order) n) × Deliveries f order n s text u × Appends old new text
 
-pub all_drawn : (f : Filter) (seed n : ℕ) (s u : StageFacts) (old new : Option (List ℕ)) (state : ℕ) (lines : String Global) → n ≤ max_deliveries → IsDrawing f seed n s old new state u (string_bytes lines)
-    → meant_count f u.queue ≡ 0 → Ends s (steps.Deliver f (Some seed)) old new (Ok lines) u
-all_drawn f seed n s u old new state lines within is none = ((n, within, is.1, none_meant f u.queue none), is.2)
+pub all_drawn : (f : Filter) (order : DeliveryOrder) (n : ℕ) (s u : StageFacts) (old new : Option (List ℕ)) (state : ℕ) (lines : String Global) → n ≤ max_deliveries
+    → IsDrawing f order n s old new state u (string_bytes lines) → meant_count f u.queue ≡ 0 → Ends s (steps.Deliver f order) old new (Ok lines) u
+all_drawn f order n s u old new state lines within is none = ((n, within, is.1, none_meant f u.queue none), is.2)
+
+-- the generator's state behind one more
+pub next_drawn : (seed n state later : ℕ) → state ≡ state_behind seed n → later ≡ next_state state → later ≡ state_behind seed (n + 1)
+next_drawn seed n state later at next = next ∙ ap next_state at ∙ ap (state_behind seed) (suc_is n) where
+  suc_is : (n : ℕ) → suc n ≡ n + 1
+  suc_is n = omega arith
 
 -- which one was delivered
-drawn_one : (f : Filter) (seed n state later : ℕ) (u t : StageFacts) (line : List ℕ) (count passed : ℕ) → state ≡ state_behind seed n → later ≡ next_state state → count ≡ meant_count f u.queue
-    → passed ≡ drawn later count → Delivers f passed u line t → Delivers f (passed_over (Some seed) n (meant_count f u.queue)) u line t
-drawn_one f seed n state later u t line count passed at next counted is one =
-    subst (λ (k : ℕ). Delivers f k u line t)
-    (is ∙ ap (λ (x : ℕ). drawn x count) (next ∙ ap next_state at) ∙ ap (drawn (state_behind seed (suc n))) counted) one
+drawn_one : (f : Filter) (order : DeliveryOrder) (n : ℕ) (u t : StageFacts) (line : List ℕ) (count passed : ℕ) → count ≡ meant_count f u.queue → passed ≡ passed_over order n count
+    → Delivers f passed u line t → Delivers f (passed_over order n (meant_count f u.queue)) u line t
+drawn_one f order n u t line count passed counted is one = subst (λ (k : ℕ). Delivers f k u line t) (is ∙ ap (passed_over order n) counted) one
 
-pub drawn_cut : (f : Filter) (seed n : ℕ) (s u w t : StageFacts) (old mid new : Option (List ℕ)) (state later count passed : ℕ) (text line : List ℕ) → n < max_deliveries → IsDrawing f seed n s old mid state u text
-    → later ≡ next_state state → count ≡ meant_count f u.queue → passed ≡ drawn later count → Delivers f passed u line w → AppendsFront mid new line
-    → Ends s (steps.Deliver f (Some seed)) old new (Err Write) t
-drawn_cut f seed n s u w t old mid new state later count passed text line within is next counted drawn one front = (
+pub drawn_cut : (f : Filter) (order : DeliveryOrder) (n : ℕ) (s u w t : StageFacts) (old mid new : Option (List ℕ)) (state count passed : ℕ) (text line : List ℕ) → n < max_deliveries
+    → IsDrawing f order n s old mid state u text → count ≡ meant_count f u.queue → passed ≡ passed_over order n count → Delivers f passed u line w → AppendsFront mid new line
+    → Ends s (steps.Deliver f order) old new (Err Write) t
+drawn_cut f order n s u w t old mid new state count passed text line within is counted drawn one front = (
   text ++ line,
-  (n + 1, w, omega (arith, within), one_more f (Some seed) n s u w text line is.1 (drawn_one f seed n state later u w line count passed is.0 next counted drawn one)),
+  (n + 1, w, omega (arith, within), one_more f order n s u w text line is.1 (drawn_one f order n u w line count passed counted drawn one)),
   front_then old mid new text line is.2 front,
 )
 
-pub drawn_more : (f : Filter) (seed n : ℕ) (s u w : StageFacts) (old mid new : Option (List ℕ)) (state later count passed : ℕ) (text line both_texts : List ℕ) → IsDrawing f seed n s old mid state u text
-    → later ≡ next_state state → count ≡ meant_count f u.queue → passed ≡ drawn later count → Delivers f passed u line w → Appends mid new line → both_texts ≡ text ++ line
-    → IsDrawing f seed (n + 1) s old new later w both_texts
-drawn_more f seed n s u w old mid new state later count passed text line both_texts is next counted drawn one wrote same =
-    subst (IsDrawing f seed (n + 1) s old new later w) (sym same) (
-      next ∙ ap next_state is.0 ∙ ap (state_behind seed) (suc_is n),
-      one_more f (Some seed) n s u w text line is.1 (drawn_one f seed n state later u w line count passed is.0 next counted drawn one),
+pub drawn_more : (f : Filter) (order : DeliveryOrder) (n : ℕ) (s u w : StageFacts) (old mid new : Option (List ℕ)) (state later count passed : ℕ) (text line both_texts : List ℕ)
+    → IsDrawing f order n s old mid state u text → later ≡ next_state state → count ≡ meant_count f u.queue → passed ≡ passed_over order n count → Delivers f passed u line w
+    → Appends mid new line → both_texts ≡ text ++ line → IsDrawing f order (n + 1) s old new later w both_texts
+drawn_more f order n s u w old mid new state later count passed text line both_texts is next counted drawn one wrote same =
+    subst (IsDrawing f order (n + 1) s old new later w) (sym same) (
+      next_drawn (seed_of order) n state later is.0 next,
+      one_more f order n s u w text line is.1 (drawn_one f order n u w line count passed counted drawn one),
       both old mid new text line is.2 wrote,
-    ) where
-      suc_is : (n : ℕ) → suc n ≡ n + 1
-      suc_is n = omega arith
+    )
 
-pub drawn_too_many : (f : Filter) (seed n : ℕ) (s u t : StageFacts) (old new : Option (List ℕ)) (state : ℕ) (text : List ℕ) → n ≡ max_deliveries → IsDrawing f seed n s old new state u text
-    → 0 < meant_count f u.queue → Ends s (steps.Deliver f (Some seed)) old new (Err TooManyDeliveries) t
-drawn_too_many f seed n s u t old new state text all is more =
-    (text, (u, subst (λ (k : ℕ). Deliveries f (Some seed) k s text u) all is.1, some_meant f u.queue more), is.2)
+pub drawn_too_many : (f : Filter) (order : DeliveryOrder) (n : ℕ) (s u t : StageFacts) (old new : Option (List ℕ)) (state : ℕ) (text : List ℕ) → n ≡ max_deliveries
+    → IsDrawing f order n s old new state u text → 0 < meant_count f u.queue → Ends s (steps.Deliver f order) old new (Err TooManyDeliveries) t
+drawn_too_many f order n s u t old new state text all is more =
+    (text, (u, subst (λ (k : ℕ). Deliveries f order k s text u) all is.1, some_meant f u.queue more), is.2)

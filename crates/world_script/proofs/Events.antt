@@ -12,6 +12,7 @@ use Rattle.host_types.specs.declared.ClientId.{ClientId}
 use Rattle.script_text.specs.Scripts.{script_for}
 use Rattle.script_text.specs.declared.dialect.Dialect.TheVariants.{World}
 use Rattle.script_text.specs.declared.files.NamedFile.{NamedFile}
+use Rattle.script_text.specs.declared.script.DeliveryOrder.{DeliveryOrder}
 use Rattle.script_text.specs.declared.script.Filter.{Filter}
 use Rattle.pbft_codec.specs.declared.body.Body.{Body}
 use Rattle.script_text.specs.declared.script.Forgery.{Forgery}
@@ -86,7 +87,7 @@ hands_leads (Client client) s bytes text t h = turned s t text (at_client s clie
 delivers_leads : (f : Filter) (passed : ℕ) (s : StageFacts) (text : List ℕ) (t : StageFacts) → Delivers f passed s text t → Leads s.world t.world
 delivers_leads f passed s text t d = hands_leads d.letter.to (record s { queue = d.before ++ d.after }) d.letter.bytes text t d.handed
 
-deliveries_lead : (f : Filter) (order : Option ℕ) (n : ℕ) (s : StageFacts) (text : List ℕ) (t : StageFacts) → Deliveries f order n s text t → Leads s.world t.world
+deliveries_lead : (f : Filter) (order : DeliveryOrder) (n : ℕ) (s : StageFacts) (text : List ℕ) (t : StageFacts) → Deliveries f order n s text t → Leads s.world t.world
 deliveries_lead f order zero s text t h = stays s.world t.world (ap (λ (x : StageFacts). x.world) h.1)
 deliveries_lead f order (suc n) s text t (before, line, u, first, last, is) =
     on s.world u.world t.world (deliveries_lead f order n s before u first) (delivers_leads f (passed_over order n (meant_count f u.queue)) u line t last)

@@ -24,6 +24,7 @@ use Rattle.drained_records.specs.Event.{Event}
 use Rattle.drained_records.specs.Event.TheVariants as events
 use Rattle.world_queue.specs.Sessions.{SessionState, offered}
 use Rattle.script_text.specs.Client.{Client}
+use Rattle.script_text.specs.declared.script.DeliveryOrder.{DeliveryOrder}
 use Rattle.script_text.specs.declared.script.Filter.{Filter}
 use Rattle.script_text.specs.declared.script.Forgery.{Forgery}
 use Rattle.script_text.specs.Node.{Node}
@@ -173,7 +174,7 @@ delivers_hears : (c : Configuration) (f : Filter) (passed : ℕ) (s : StageFacts
 delivers_hears c f passed s text t d h =
     hands_hears c d.letter.to (record s { queue = d.before ++ d.after }) d.letter.bytes text t d.handed (record { config = h.config; heard = h.heard })
 
-deliveries_hear : (c : Configuration) (f : Filter) (order : Option ℕ) (n : ℕ) (s : StageFacts) (text : List ℕ) (t : StageFacts) → Deliveries f order n s text t → Hears c s → Hears c t
+deliveries_hear : (c : Configuration) (f : Filter) (order : DeliveryOrder) (n : ℕ) (s : StageFacts) (text : List ℕ) (t : StageFacts) → Deliveries f order n s text t → Hears c s → Hears c t
 deliveries_hear c f order zero s text t o h = subst (Hears c) (sym o.1) h
 deliveries_hear c f order (suc n) s text t (before, line, u, first, last, is) h =
     delivers_hears c f (passed_over order n (meant_count f u.queue)) u line t last (deliveries_hear c f order n s before u first h)

@@ -4,6 +4,7 @@ mod Differing
 mod Entries
 mod Events
 mod Hearing
+mod Honest
 mod Legal
 mod LegalHeads
 mod Listed

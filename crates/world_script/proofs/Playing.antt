@@ -6,6 +6,7 @@ use Rattle.std.specs.String.{string_bytes}
 use Rattle.std.specs.declared.alloc.Global.{Global}
 use Rattle.std.proofs.lemmas.Option.{slice_get_past}
 use Rattle.std.proofs.lemmas.List.{append-nil, append_assoc, drop_more, length-take-le, take-append-drop, take_more}
+use Rattle.script_text.specs.declared.script.DeliveryOrder.{DeliveryOrder}
 use Rattle.script_text.specs.declared.script.Filter.{Filter}
 use Rattle.script_text.specs.declared.script.NamedStep.{NamedStep}
 use Rattle.script_text.specs.declared.script.Script.{Script}
@@ -169,20 +170,20 @@ module _ (number : ℕ) (s : Scene) (x : NamedStep) (old new : Option (List ℕ)
 -- ---- a step that delivers nothing
 
 module _ (s t : StageFacts) (text : List ℕ) where
-  prints_all : (step : Step) → ((f : Filter) (order : Option ℕ) → step ≡ steps.Deliver f order → ⊥) → Performs s step text t → Prints s step text t
+  prints_all : (step : Step) → ((f : Filter) (order : DeliveryOrder) → step ≡ steps.Deliver f order → ⊥) → Performs s step text t → Prints s step text t
   prints_all (steps.Deliver f order) rest p = absurd (rest f order refl)
   prints_all other rest p = p
 
-  begins_all : (step : Step) → ((f : Filter) (order : Option ℕ) → step ≡ steps.Deliver f order → ⊥) → Performs s step text t → Begins s step text
+  begins_all : (step : Step) → ((f : Filter) (order : DeliveryOrder) → step ≡ steps.Deliver f order → ⊥) → Performs s step text t → Begins s step text
   begins_all (steps.Deliver f order) rest p = absurd (rest f order refl)
   begins_all other rest p = inr (t, p)
 
-  pub ends_whole : (step : Step) (old new : Option (List ℕ)) (line : String Global) → text ≡ string_bytes line → ((f : Filter) (order : Option ℕ) → step ≡ steps.Deliver f order → ⊥) → Performs s step text t
+  pub ends_whole : (step : Step) (old new : Option (List ℕ)) (line : String Global) → text ≡ string_bytes line → ((f : Filter) (order : DeliveryOrder) → step ≡ steps.Deliver f order → ⊥) → Performs s step text t
       → Appends old new text → Ends s step old new (Ok line) t
   ends_whole step old new line is rest p whole =
       (subst (λ (x : List ℕ). Prints s step x t) is (prints_all step rest p), subst (Appends old new) is whole)
 
-  pub ends_cut : (step : Step) (old new : Option (List ℕ)) (fault : RunFault) → ((f : Filter) (order : Option ℕ) → step ≡ steps.Deliver f order → ⊥) → Performs s step text t
+  pub ends_cut : (step : Step) (old new : Option (List ℕ)) (fault : RunFault) → ((f : Filter) (order : DeliveryOrder) → step ≡ steps.Deliver f order → ⊥) → Performs s step text t
       → AppendsFront old new text → fault ≡ Write → Ends s step old new (Err fault) t
   ends_cut step old new fault rest p front is =
       subst (λ (g : RunFault). Ends s step old new (Err g) t) (sym is) (text, begins_all step rest p, front)

@@ -1,4 +1,4 @@
--- Internal: a run of a script before the line of its fault is written.
+-- Statement: how a script that was read is run, and where the line of its fault stands.
 use Rattle.std.specs.Prelude.{◌≡◌, ◌≢◌, ℕ, ◌<◌, List, [], length, Option, Some, None, Result, Ok, Err, IfSome, Vec, ◌⊎◌}
 use Rattle.std.specs.Io.KnownBytes.{Appends}
 use Rattle.std.specs.declared.alloc.Global.{Global}
@@ -6,10 +6,8 @@ use Rattle.script_text.specs.ScriptFault.{ScriptFault}
 use Rattle.script_text.specs.ScriptKind.{ScriptKind}
 use Rattle.script_text.specs.ScriptKind.TheVariants as kinds
 use Rattle.script_text.specs.declared.script.Script.{Script}
-use Rattle.script_text.specs.declared.script.NamedStep.{NamedStep}
 use Rattle.world_script.specs.Expecting.{IsUnexpected, MayPrint, Scene, differing_line, first_scene, unexpected_line}
 use Rattle.world_script.specs.Scripts.{BreaksOff, IsPlayed, fault_line, Plays, WritesBefore}
-use Rattle.world_script.specs.Facts.{StageFacts}
 use Rattle.world_script.specs.Stages.{Begins, Overruns}
 use Rattle.world_script.specs.declared.fault.RunFault.{RunFault}
 use Rattle.world_script.specs.declared.fault.RunFault.TheVariants.{TooManyDeliveries, Write, Memory}

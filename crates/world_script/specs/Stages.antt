@@ -21,6 +21,7 @@ use Rattle.drained_records.specs.Worlds.{Gives, MemberFacts, Where, WorldFacts, 
 use Rattle.drained_records.specs.Event.{Event}
 use Rattle.drained_records.specs.Event.TheVariants as events
 use Rattle.world_queue.specs.Sessions.{SessionState, next_request}
+use Rattle.script_text.specs.declared.script.DeliveryOrder.{DeliveryOrder}
 use Rattle.script_text.specs.declared.script.Filter.{Filter}
 use Rattle.script_text.specs.declared.script.ForgedMessage.{ForgedMessage}
 use Rattle.script_text.specs.declared.script.ForgedMessage.TheVariants as forged
@@ -208,8 +209,8 @@ pub record Delivers (f : Filter) (passed : ℕ) (s : StageFacts) (text : List �
   pub passed_is : meant_count f before ≡ passed
   pub handed : HandsTo letter.to (record s { queue = before ++ after }) letter.bytes text t
 
--- so many deliveries, in a drawn order or the oldest letter first
-abbrev pub Deliveries : Filter → Option ℕ → ℕ → StageFacts → List ℕ → StageFacts → Type 0
+-- so many deliveries in an order
+abbrev pub Deliveries : Filter → DeliveryOrder → ℕ → StageFacts → List ℕ → StageFacts → Type 0
 Deliveries f order zero s text t = (text ≡ []) × (t ≡ s)
 Deliveries f order (suc n) s text t =
     (before line : List ℕ) × (u : StageFacts) × Deliveries f order n s before u × Delivers f (passed_over order n (meant_count f u.queue)) u line t

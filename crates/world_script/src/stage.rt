@@ -7,6 +7,7 @@ ghost use Rattle.std.specs.Prelude.{◌≡◌, ◌<◌, ◌++◌, None, Some, If
 ghost use Rattle.std.specs.FinSet as set;
 ghost use Rattle.drained_records.specs.Worlds.{first_world, member_of};
 ghost use Rattle.world_script.specs.Starts.{forgers_from, numbers_of, start_of};
+ghost use Rattle.script_text.specs.declared.script.DeliveryOrder.TheVariants as orders;
 ghost use Rattle.script_text.specs.declared.script.Step.TheVariants as steps;
 ghost use Rattle.script_text.specs.Node.TheVariants as nodes;
 ghost use Rattle.world_script.specs.Endings.{Ends};
@@ -33,7 +34,8 @@ use host_types::{Bytes, ClientId, Config, Digest, ReplicaId, ReplicaSet};
 use lms_tree::Signer;
 use pbft_codec::Body;
 use script_text::{
-    Filter, ForgedMessage, Forgery, Head, Kind, NamedStep, Node, Order, Printout, QueueEdit, Step,
+    DeliveryOrder, Filter, ForgedMessage, Forgery, Head, Kind, NamedStep, Node, Order, Printout,
+    QueueEdit, Step,
 };
 use seal::{Checked, SealFault, open, request_digest};
 use sha2::{Digest as _, Sha256};
@@ -43,8 +45,9 @@ use std::marker::Model;
 use std::mem::swap;
 use std::sync::Arc;
 use world_queue::{
-    Forger, Letter, Named, Queue, Sessions, checkpoint_body, drawn, forge, letter_of,
-    line_of_nothing_queued, line_of_refusal, next_state, view_change_body, vote_body,
+    Forger, Letter, Named, Queue, Sessions, checkpoint_body, forge, letter_of,
+    line_of_nothing_queued, line_of_refusal, next_state, passed_over, seed_of, view_change_body,
+    vote_body,
 };
 
 /// The most deliveries of one step.
@@ -159,8 +162,10 @@ impl Stage {
     {
         if let Step::Deliver { filter, order } = step {
             return match order {
-                None => self.deliver(filter, writer, watcher),
-                Some(seed) => self.deliver_drawn(filter, *seed, writer, watcher),
+                DeliveryOrder::Oldest => self.deliver(filter, writer, watcher),
+                DeliveryOrder::Drawn(_) | DeliveryOrder::Chosen(_) => {
+                    self.deliver_in(filter, order, writer, watcher)
+                }
             };
         }
         let Ok(text) = self.perform(step, watcher) else {
@@ -350,7 +355,7 @@ impl Stage {
         writer: &mut O,
         watcher: &mut dyn Watcher,
     ) -> Result<String, RunFault>
-        ensures { Ends self.old (steps.Deliver filter.now None) (O.contents writer.old) (O.contents writer.new) result self.new }
+        ensures { Ends self.old (steps.Deliver filter.now orders.Oldest) (O.contents writer.old) (O.contents writer.new) result self.new }
     {
         let mut lines = String::new(self.alloc);
         let mut others = Queue::new(self.alloc);
@@ -402,25 +407,26 @@ impl Stage {
         Ok(false)
     }
 
-    /// Delivers letters that are meant in an order that a seed draws, until none is. What comes of it is queued last.
-    fn deliver_drawn<O: Write>(
+    /// Delivers letters that are meant in an order, until none is. What comes of it is queued last.
+    fn deliver_in<O: Write>(
         &mut self,
         filter: &Filter,
-        seed: u64,
+        order: &DeliveryOrder,
         writer: &mut O,
         watcher: &mut dyn Watcher,
     ) -> Result<String, RunFault>
-        ensures { Ends self.old (steps.Deliver filter.now (Some seed)) (O.contents writer.old) (O.contents writer.new) result self.new }
+        ensures { Ends self.old (steps.Deliver filter.now order.now) (O.contents writer.old) (O.contents writer.new) result self.new }
     {
         let mut lines = String::new(self.alloc);
-        let mut state = seed;
-        for _ in 0..MAX_DELIVERIES {
+        let mut state = seed_of(order);
+        for done in 0..MAX_DELIVERIES {
             let count = self.count_meant(filter);
             if count == 0 {
                 return Ok(lines);
             }
             state = next_state(state);
-            let text = self.deliver_at(filter, drawn(state, count), watcher)?;
+            let passed = passed_over(order, done, state, count);
+            let text = self.deliver_at(filter, passed, watcher)?;
             let line = text.as_str();
             lines.push_str(line)?;
             if let Err(_) = write_text(writer, line) {
@@ -450,6 +456,7 @@ impl Stage {
         requires { passed < meant_count filter.now self.old.queue }
         ensures { IfOk result (λ text. Delivers filter.now passed self.old (string_bytes text) self.new) }
     {
+        watcher.passing(passed)?;
         let Some(letter) = self.queue.take_meant(filter, passed) else {
             unreachable!()
         };

@@ -10,6 +10,11 @@ use world_queue::Letter;
 /// Is told of each event of a script, before and behind it. It has no part in what the script does, but that one which runs out of
 /// memory ends it.
 pub trait Watcher {
+    /// In an order that is drawn or chosen a letter is to be taken: of those that are meant so many are passed over.
+    fn passing(&mut self, _passed: usize) -> Result<(), AllocError> {
+        Ok(())
+    }
+
     /// A letter is to be handed to its addressee.
     fn about(&mut self, stage: &Stage, letter: &Letter) -> Result<(), AllocError>;
 

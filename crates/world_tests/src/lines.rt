@@ -3,13 +3,14 @@
 ghost use Rattle.std.specs.Prelude.{◌≡◌, ◌++◌, ◌↔◌, ℕ, IfOk, OnOk, string_bytes};
 ghost use Rattle.std.specs.List.{Contains};
 ghost use Rattle.conflicts.specs.Claims.{IsConflict, claim_of};
+ghost use Rattle.conflicts.specs.Leaves.{leaf_claim_of};
 ghost use Rattle.pbft_codec.specs.Reading.{reading};
 ghost use Rattle.world_lines.specs.Changes.{changes};
 ghost use Rattle.world_lines.specs.Lines.{happening_line};
 ghost use Rattle.world_lines.specs.Sayings.{said_in};
 
 use crate::group::Group;
-use conflicts::{Claim, Topic, claim_of, conflicts};
+use conflicts::{Blame, Claim, Topic, claim_of, conflicts, leaf_claim_of};
 use host_types::{Digest, ReplicaId, SeqNo, View};
 use pbft_codec::{Body, Checkpoint};
 use script_text::{Kind, Node};
@@ -45,6 +46,13 @@ fn claim(message: &Checked) -> Option<Claim>
     ensures { result ≡ claim_of message.now.message }
 {
     claim_of(message)
+}
+
+/// What a message claims of the leaf that signed it.
+fn leaf_claim(message: &Checked) -> Option<Claim>
+    ensures { result ≡ leaf_claim_of message.now }
+{
+    leaf_claim_of(message)
 }
 
 /// The places of messages that contradict each other, in pairs.
@@ -108,5 +116,37 @@ fn two_checkpoints_of_a_number_contradict_each_other(rt: HostRuntime) -> Result<
     };
     assert!(rt; messages.first().and_then(|first| claim(first)) == Some(claimed));
     assert!(rt; conflicts_of(rt.alloc(), &messages)?.as_slice() == [(0, 2)].as_slice());
+    Ok(())
+}
+
+/// What a message of a replica claims of the leaf that signed it, which is this one.
+fn leaf_of(group: &mut Group, digest: Digest, leaf: u64) -> Result<Claim, Fail> {
+    let message = checkpoint(group, 1, digest)?;
+    match leaf_claim(&message) {
+        Some(claim) if claim.topic == Topic::Leaf { leaf } => Ok(claim),
+        _ => Err(Fail::new("another leaf")),
+    }
+}
+
+#[test]
+fn two_messages_of_a_leaf_contradict_each_other(rt: HostRuntime) -> Result<(), Fail> {
+    let one = leaf_of(&mut Group::new(rt.alloc())?, Digest([7; 32]), 0)?;
+    let mut again = Group::new(rt.alloc())?;
+    let other = leaf_of(&mut again, Digest([8; 32]), 0)?;
+    let later = leaf_of(&mut again, Digest([8; 32]), 1)?;
+    assert!(rt; one.contradicts(&other));
+    assert!(rt; !one.contradicts(&later));
+    Ok(())
+}
+
+#[test]
+fn a_leaf_that_signs_twice_is_told(rt: HostRuntime) -> Result<(), Fail> {
+    let [one, other] = [7u8, 8].map(|byte| Claim {
+        signer: 100,
+        topic: Topic::Leaf { leaf: 17 },
+        digest: Digest([byte; 32]),
+    });
+    let blamed = Happening::Blamed(Blame::Twice { one, other });
+    assert!(rt; told(rt.alloc(), &blamed)?.as_str() == "blame 100 leaf 17 07070707 08080808\n");
     Ok(())
 }

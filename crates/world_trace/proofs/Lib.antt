@@ -1,3 +1,4 @@
 mod Searching
 mod Telling
 mod Tracing
+mod Judging

@@ -1,15 +1,20 @@
 -- The steps of a script under an order, one after another, and what comes of it.
-use Rattle.std.proofs.Common.{◌≡◌, ℕ, ◌+◌, ◌<◌, ◌≤◌, List, [], ◌++◌, length, get_or, map, Some, None, refl, sym, ap, subst, ◌∙◌}
+use Rattle.std.proofs.Common.{◌≡◌, ℕ, ◌+◌, ◌<◌, ◌≤◌, inl, inr, List, [], ◌++◌, length, get_or, map, Some, None, Result, Err, refl, sym, ap, subst, ◌∙◌}
 use Rattle.std.proofs.lemmas.List.{append-nil, get_or-map, length-map, take_all}
 use Rattle.script_text.specs.Orders.{ordered, ordered_named}
+use Rattle.script_text.specs.ScriptKind.TheVariants as kinds
 use Rattle.script_text.specs.declared.script.NamedStep.{NamedStep}
 use Rattle.script_text.specs.declared.script.Script.{Script}
 use Rattle.world_script.specs.Expecting.{Scene, first_scene}
 use Rattle.world_script.specs.Scripts.{BreaksOff, Plays, step_number}
 use Rattle.world_script.specs.Stages.{Overruns}
+use Rattle.world_script.specs.declared.fault.RunFault.{RunFault}
+use Rattle.world_script.specs.declared.fault.RunFault.TheVariants.{TooManyDeliveries, Memory}
+use Rattle.world_script.specs.declared.played.Played.{Played}
 use Rattle.world_script.proofs.Playing.{AreDone, breaks_at, one_more_done}
 use Rattle.world_trace.specs.Exploring.{ComesTo, FindsOther, IsOutcome}
 use Rattle.world_trace.specs.Searching.{Judges, StepExplored}
+use Rattle.world_trace.specs.Telling.{RunsInMemory}
 use Rattle.world_trace.specs.declared.explore.Outcome.{Outcome}
 use Rattle.world_trace.specs.declared.explore.Outcome.TheVariants as outcomes
 use Rattle.world_trace.specs.declared.explore.Wanted.{Wanted}
@@ -50,7 +55,20 @@ module _ (script : Script) (seed i : ℕ) (s : Scene) (all : length script.steps
 
   pub judged : (wanted : Wanted) (outcome : Outcome) → Judges wanted s.stage outcome → IsOutcome (ordered seed script) wanted outcome
   judged wanted outcomes.Agreed j = (s.stage, comes, j.0, j.1)
-  judged wanted (outcomes.Audited fault) j = (s.stage, comes, j)
+  judged wanted (outcomes.Audited fault) j = (s.stage, comes, j.0, j.1)
   judged wanted (outcomes.Unanswered client time) j = (s.stage, comes, j.0, j.1, j.2)
   judged wanted (outcomes.Unexpected number line) j = absurd j
   judged wanted (outcomes.Faulted fault) j = absurd j
+
+-- ---- a step that runs in memory
+
+-- it has too many deliveries, wherever its lines go
+pub overruns_so : (number : ℕ) (s : Scene) (x : NamedStep) (old new : List ℕ) (ended : Result Played RunFault) (t : Scene) → ended ≡ Err TooManyDeliveries → RunsInMemory number s x old new ended t
+    → StepExplored number s x (Some (outcomes.Faulted (record { kind = kinds.TooManyDeliveries; step = number }))) t
+overruns_so number s x old new ended t is runs = by (subst (λ (r : Result Played RunFault). RunsInMemory number s x old new r t) is runs) where
+  other : (let r : Result Played RunFault = Err TooManyDeliveries in r) ≡ Err Memory → ⊥
+  other e = cc
+
+  by : RunsInMemory number s x old new (Err TooManyDeliveries) t → StepExplored number s x (Some (outcomes.Faulted (record { kind = kinds.TooManyDeliveries; step = number }))) t
+  by (inl ends) = (refl, (ends.1.0, ends.1.1, tt))
+  by (inr full) = absurd (other full.0)

@@ -1,10 +1,11 @@
 -- Statement: what comes of a script under one order of its deliveries.
-use Rattle.std.specs.Prelude.{◌≡◌, ℕ, List, [], Option, Some, None, Result, Ok, Err, map}
+use Rattle.std.specs.Prelude.{◌≡◌, ◌≢◌, ℕ, List, [], Option, Some, None, Result, Ok, Err, map}
 use Rattle.script_text.specs.ScriptKind.TheVariants as kinds
 use Rattle.script_text.specs.declared.script.Script.{Script}
 use Rattle.script_text.specs.declared.script.Step.{Step}
 use Rattle.script_text.specs.declared.script.Step.TheVariants as steps
 use Rattle.world_script.specs.Waiting.{first_open}
+use Rattle.world_script.specs.AuditFault.TheVariants as audits
 use Rattle.world_script.specs.Audits.{IsAudit}
 use Rattle.world_script.specs.Execution.{Execution}
 use Rattle.world_script.specs.Expecting.{Scene, differing_line, first_scene}
@@ -40,7 +41,8 @@ FindsOther line s other text = ⊥
 
 abbrev pub IsOutcome : Script → Wanted → Outcome → Type 0
 IsOutcome script wanted outcomes.Agreed = (t : StageFacts) × ComesTo script t × Agrees t.world × AnswersWanted wanted t
-IsOutcome script wanted (outcomes.Audited fault) = (t : StageFacts) × ComesTo script t × IsAudit (map (λ m. m.rows) t.world.members) (Err fault)
+IsOutcome script wanted (outcomes.Audited fault) =
+    (t : StageFacts) × ComesTo script t × (fault ≢ audits.Memory) × IsAudit (map (λ m. m.rows) t.world.members) (Err fault)
 IsOutcome script wanted (outcomes.Unanswered client time) =
     (t : StageFacts) × ComesTo script t × Agrees t.world × (wanted ≡ wants.Answers) × (first_open t.sessions ≡ Some (client, time))
 IsOutcome script wanted (outcomes.Unexpected number line) = (text : List ℕ) × BreaksOff (first_scene script.head) script.steps number (FindsOther line) text

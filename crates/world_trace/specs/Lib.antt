@@ -1,3 +1,4 @@
+pub mod Blaming
 pub mod Exploring
 pub mod Searching
 pub mod Telling

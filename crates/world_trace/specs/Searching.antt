@@ -1,11 +1,13 @@
 -- Internal: how a step goes under an order.
-use Rattle.std.specs.Prelude.{◌≡◌, ℕ, List, [], Option, Some, None, Err, Ok, map}
-use Rattle.script_text.specs.Orders.{ordered_named}
+use Rattle.std.specs.Prelude.{◌≡◌, ◌≢◌, ℕ, List, [], Option, Some, None, Err, Ok, map}
+use Rattle.script_text.specs.Orders.{named_in}
 use Rattle.script_text.specs.ScriptKind.TheVariants as kinds
+use Rattle.script_text.specs.declared.script.DeliveryOrder.{DeliveryOrder}
 use Rattle.script_text.specs.declared.script.NamedStep.{NamedStep}
 use Rattle.script_text.specs.declared.script.Step.{Step}
 use Rattle.script_text.specs.declared.script.Step.TheVariants as steps
 use Rattle.world_script.specs.Waiting.{first_open}
+use Rattle.world_script.specs.AuditFault.TheVariants as audits
 use Rattle.world_script.specs.Audits.{IsAudit}
 use Rattle.world_script.specs.Endings.{StepEnds}
 use Rattle.world_script.specs.Expecting.{Scene, differing_line}
@@ -24,9 +26,9 @@ differing_in unread (steps.Expect expected) = differing_line expected unread
 differing_in unread other = None
 
 -- A step of its own where the order changes it.
-abbrev pub IsUnder : ℕ → NamedStep → Option NamedStep → Type 0
-IsUnder seed x None = ordered_named seed x ≡ x
-IsUnder seed x (Some y) = y ≡ ordered_named seed x
+abbrev pub IsUnder : DeliveryOrder → NamedStep → Option NamedStep → Type 0
+IsUnder order x None = named_in order x ≡ x
+IsUnder order x (Some y) = y ≡ named_in order x
 
 -- A step is done, or ends the script; what it prints goes nowhere.
 abbrev pub StepExplored : ℕ → Scene → NamedStep → Option Outcome → Scene → Type 0
@@ -38,7 +40,7 @@ StepExplored number s x (Some other) t = ⊥
 -- What holds at a stage behind all steps, as an outcome.
 abbrev pub Judges : Wanted → StageFacts → Outcome → Type 0
 Judges wanted t outcomes.Agreed = Agrees t.world × AnswersWanted wanted t
-Judges wanted t (outcomes.Audited fault) = IsAudit (map (λ m. m.rows) t.world.members) (Err fault)
+Judges wanted t (outcomes.Audited fault) = (fault ≢ audits.Memory) × IsAudit (map (λ m. m.rows) t.world.members) (Err fault)
 Judges wanted t (outcomes.Unanswered client time) = Agrees t.world × (wanted ≡ wants.Answers) × (first_open t.sessions ≡ Some (client, time))
 Judges wanted t (outcomes.Unexpected number line) = ⊥
 Judges wanted t (outcomes.Faulted fault) = ⊥

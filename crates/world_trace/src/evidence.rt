@@ -1,36 +1,46 @@
-//! What replicas were seen to say.
+//! What replicas and clients were seen to say.
 
-use conflicts::{Claim, Topic, claim_of};
+use crate::leavings::{CommitPlace, Leavings};
+use crate::validity::is_invalid;
 use host_types::{SeqNo, View};
+use pbft_codec::Body;
 use seal::{Checked, nested};
 use std::alloc::{AllocError, Global};
 use std::collections::BTreeMap;
 use std::mem::replace;
+use world_chart::{Blame, Claim, Leaving, Topic, claim_of, leaf_claim_of, view_claim_of};
 use world_script::{Input, Row};
 
-/// Whose claims are about one number, in a view where they are votes.
+/// What claims are about that may contradict each other.
+#[derive(Clone, Copy, Debug, PartialEq, Eq, PartialOrd, Ord)]
+enum Subject {
+    Vote { number: SeqNo, view: View },
+    Checkpoint { number: SeqNo },
+    ViewChange { view: View },
+    NewView { view: View },
+    Leaf { leaf: u64 },
+}
+
+/// Whose claims are about one thing.
 #[derive(Clone, Copy, Debug, PartialEq, Eq, PartialOrd, Ord)]
 struct Place {
     signer: u32,
-    number: SeqNo,
-    view: Option<View>,
+    subject: Subject,
 }
 
 impl Place {
     /// Where a claim belongs. Claims that contradict each other belong to one place.
     fn of(claim: &Claim) -> Place {
-        let signer = claim.signer;
-        match claim.topic {
-            Topic::Vote { view, number, .. } => Place {
-                signer,
-                number,
-                view: Some(view),
-            },
-            Topic::Checkpoint { number } => Place {
-                signer,
-                number,
-                view: None,
-            },
+        let subject = match claim.topic {
+            Topic::Vote { view, number, .. } => Subject::Vote { number, view },
+            Topic::Checkpoint { number } => Subject::Checkpoint { number },
+            Topic::ViewChange { view } => Subject::ViewChange { view },
+            Topic::NewView { view } => Subject::NewView { view },
+            Topic::Leaf { leaf } => Subject::Leaf { leaf },
+        };
+        Place {
+            signer: claim.signer,
+            subject,
         }
     }
 }
@@ -41,8 +51,9 @@ pub(crate) struct Evidence {
     alloc: Global,
     /// Each claim once, in the order in which they were heard.
     said: BTreeMap<Place, Vec<Claim>>,
-    /// Claims that contradict each other and that nobody asked for yet, the earlier one first.
-    news: Vec<(Claim, Claim)>,
+    leavings: Leavings,
+    /// Blame that nobody asked for yet.
+    news: Vec<Blame>,
 }
 
 impl Evidence {
@@ -50,6 +61,7 @@ impl Evidence {
         Evidence {
             alloc,
             said: BTreeMap::new(alloc),
+            leavings: Leavings::new(alloc),
             news: Vec::new(alloc),
         }
     }
@@ -75,13 +87,53 @@ impl Evidence {
     }
 
     fn add_one(&mut self, message: &Checked) -> Result<(), AllocError> {
-        match claim_of(message) {
-            Some(claim) => self.hear(claim),
-            None => Ok(()),
+        if let Some(claim) = claim_of(message) {
+            self.hear_vote(message, claim)?;
+        }
+        if let Some(claim) = view_claim_of(message) {
+            self.hear_change(message, claim)?;
+        }
+        if let Some(claim) = leaf_claim_of(message) {
+            self.hear(claim)?;
+        }
+        Ok(())
+    }
+
+    /// Hears a vote or a Checkpoint, which claims this.
+    fn hear_vote(&mut self, message: &Checked, claim: Claim) -> Result<(), AllocError> {
+        if !self.hear(claim)? {
+            return Ok(());
+        }
+        let Body::Commit(said) = message.body() else {
+            return Ok(());
+        };
+        let place = CommitPlace {
+            signer: claim.signer,
+            number: said.number,
+            view: said.view,
+        };
+        self.leavings.commit(place, said.digest, &mut self.news)
+    }
+
+    /// Hears a ViewChange or a NewView, which claims this.
+    fn hear_change(&mut self, message: &Checked, claim: Claim) -> Result<(), AllocError> {
+        if !self.hear(claim)? {
+            return Ok(());
+        }
+        if is_invalid(message) {
+            self.news.push(Blame::Invalid(claim))?;
+        }
+        match message.body() {
+            Body::ViewChange(change) => {
+                let leaving = Leaving::new(self.alloc, change)?;
+                self.leavings.leave(claim, leaving, &mut self.news)
+            }
+            _ => Ok(()),
         }
     }
 
-    fn hear(&mut self, claim: Claim) -> Result<(), AllocError> {
+    /// Hears a claim. Whether it was not heard before.
+    fn hear(&mut self, claim: Claim) -> Result<bool, AllocError> {
         let place = Place::of(&claim);
         if let Some(said) = self.said.get_mut(&place) {
             return add_claim(said, claim, &mut self.news);
@@ -89,31 +141,34 @@ impl Evidence {
         let mut said = Vec::new(self.alloc);
         said.push(claim)?;
         match self.said.insert(place, said) {
-            Ok(_) => Ok(()),
+            Ok(_) => Ok(true),
             Err(_) => Err(AllocError),
         }
     }
 
-    /// The claims that contradict each other and came since the last call, the earlier message's first.
-    pub(crate) fn news(&mut self) -> Vec<(Claim, Claim)> {
+    /// Who is blamed by what came since the last call; of two claims the one that was heard earlier stands first.
+    pub(crate) fn news(&mut self) -> Vec<Blame> {
         replace(&mut self.news, Vec::new(self.alloc))
     }
 }
 
-/// Adds a claim to those of its place, and the earlier ones that it contradicts to the news, with it.
+/// Adds a claim to those of its place, and the earlier ones that it contradicts to the news, with it. Whether it was not there.
 fn add_claim(
     said: &mut Vec<Claim>,
     claim: Claim,
-    news: &mut Vec<(Claim, Claim)>,
-) -> Result<(), AllocError> {
+    news: &mut Vec<Blame>,
+) -> Result<bool, AllocError> {
     if said.contains(&claim) {
-        return Ok(());
+        return Ok(false);
     }
     for earlier in said.iter() {
         if earlier.contradicts(&claim) {
-            news.push((*earlier, claim))?;
+            news.push(Blame::Twice {
+                one: *earlier,
+                other: claim,
+            })?;
         }
     }
     said.push(claim)?;
-    Ok(())
+    Ok(true)
 }

@@ -1,7 +1,7 @@
 //! A script under many orders of its deliveries.
 
 ghost use Rattle.std.specs.Prelude.{◌≡◌, [], IfOk, string_bytes};
-ghost use Rattle.script_text.specs.Orders.{ordered, ordered_named};
+ghost use Rattle.script_text.specs.Orders.{named_in, ordered};
 ghost use Rattle.world_script.specs.Keys.{keys_of};
 ghost use Rattle.world_script.specs.Starts.{start_of};
 ghost use Rattle.world_trace.specs.Exploring.{IsOutcome};
@@ -9,11 +9,12 @@ ghost use Rattle.world_trace.specs.Searching.{IsUnder, Judges, StepExplored, dif
 
 use crate::evidence::Evidence;
 use crate::in_memory::run_in_memory;
-use conflicts::Claim;
 use host_types::{ClientId, ReplicaId};
 use pbft_codec::Sequence;
-use script_text::{Filter, NamedStep, Node, Script, ScriptFault, ScriptKind, Step};
+use script_text::{DeliveryOrder, Filter, NamedStep, Node, Script, ScriptFault, ScriptKind, Step};
 use std::alloc::{AllocError, Global};
+use std::mem::replace;
+use world_chart::{Blame, Claim};
 use world_script::{
     AuditFault, KeySources, Letter, Played, Row, RunFault, Stage, Unwatched, Watcher,
     differing_line,
@@ -51,12 +52,12 @@ pub enum Outcome {
     Faulted(ScriptFault),
 }
 
-/// What came of a script under one order, and who said two things of one topic.
+/// What came of a script under one order, and whom signatures blame.
 #[derive(Drop)]
 pub struct Explored {
     pub outcome: Outcome,
-    /// The claims that contradict each other, the one with the lower digest first.
-    pub blamed: Vec<(Claim, Claim)>,
+    /// Of two claims that contradict each other the one with the lower digest stands first.
+    pub blamed: Vec<Blame>,
     /// What was printed since the last `expect`, where one found other lines.
     pub printed: Vec<u8>,
 }
@@ -80,16 +81,16 @@ pub fn explore_seed(
 
 /// A script that is run under an order of its deliveries.
 #[derive(Drop)]
-struct Explorer {
+pub(crate) struct Explorer {
     alloc: Global,
-    stage: Stage,
+    pub(crate) stage: Stage,
     /// What was printed since the last `expect`.
     unread: String,
     listener: Listener,
 }
 
 impl Explorer {
-    fn new(alloc: Global, stage: Stage) -> Explorer
+    pub(crate) fn new(alloc: Global, stage: Stage) -> Explorer
         ensures stage { result.stage ≡ stage }
         ensures unread { string_bytes result.unread ≡ [] }
     {
@@ -99,6 +100,7 @@ impl Explorer {
             unread: String::new(alloc),
             listener: Listener {
                 evidence: Evidence::new(alloc),
+                passed: Vec::new(alloc),
             },
         }
     }
@@ -112,23 +114,23 @@ impl Explorer {
         let mut number: u32 = 0;
         for step in script.steps.as_slice() {
             number = number.saturating_add(1);
-            if let Some(outcome) = self.step(number, step, seed)? {
+            if let Some(outcome) = self.step(number, step, DeliveryOrder::Drawn(seed))? {
                 return Ok(outcome);
             }
         }
         outcome_of(&self.stage, wanted)
     }
 
-    /// Runs a step, its deliveries in the order that the seed draws. How the script ends there, if it does.
-    fn step(
+    /// Runs a step, its deliveries in this order. How the script ends there, if it does.
+    pub(crate) fn step(
         &mut self,
         number: u32,
         step: &NamedStep,
-        seed: u64,
+        order: DeliveryOrder,
     ) -> Result<Option<Outcome>, AllocError>
-        ensures { IfOk result (λ outcome. StepExplored number (record { stage = self.old.stage; unread = string_bytes self.old.unread }) (ordered_named seed step.now) outcome (record { stage = self.new.stage; unread = string_bytes self.new.unread })) }
+        ensures { IfOk result (λ outcome. StepExplored number (record { stage = self.old.stage; unread = string_bytes self.old.unread }) (named_in order step.now) outcome (record { stage = self.new.stage; unread = string_bytes self.new.unread })) }
     {
-        match under(self.alloc, step, seed)? {
+        match under(self.alloc, step, order)? {
             Some(ordered) => self.run(number, &ordered),
             None => self.run(number, step),
         }
@@ -161,6 +163,12 @@ impl Explorer {
         }
     }
 
+    /// How many letters were passed over at each delivery in an order that is drawn or chosen, at most 65,536 of them, since this was
+    /// last asked.
+    pub(crate) fn take_passed(&mut self) -> Vec<u64> {
+        replace(&mut self.listener.passed, Vec::new(self.alloc))
+    }
+
     /// What came of the script, which ended so, and what was heard.
     fn explored(&mut self, outcome: Outcome) -> Result<Explored, AllocError>
         ensures { IfOk result (λ explored. explored.outcome ≡ outcome) }
@@ -187,9 +195,13 @@ fn differing(unread: &str, step: &Step) -> Option<usize>
     }
 }
 
-/// A step that delivers, with its deliveries in the order that a seed draws; none where it delivers nothing.
-fn under(alloc: Global, step: &NamedStep, seed: u64) -> Result<Option<NamedStep>, AllocError>
-    ensures { IfOk result (IsUnder seed step.now) }
+/// A step that delivers, with its deliveries in this order; none where it delivers nothing.
+fn under(
+    alloc: Global,
+    step: &NamedStep,
+    order: DeliveryOrder,
+) -> Result<Option<NamedStep>, AllocError>
+    ensures { IfOk result (IsUnder order step.now) }
 {
     let Step::Deliver { filter, .. } = &step.step else {
         return Ok(None);
@@ -200,7 +212,7 @@ fn under(alloc: Global, step: &NamedStep, seed: u64) -> Result<Option<NamedStep>
     };
     let step = Step::Deliver {
         filter: copy_of(alloc, filter)?,
-        order: Some(seed),
+        order,
     };
     Ok(Some(NamedStep { name, step }))
 }
@@ -228,7 +240,7 @@ fn copy_of_list<T: Copy>(
 }
 
 /// What has come of a script whose steps ran to this stage.
-fn outcome_of(stage: &Stage, wanted: Wanted) -> Result<Outcome, AllocError>
+pub(crate) fn outcome_of(stage: &Stage, wanted: Wanted) -> Result<Outcome, AllocError>
     ensures { IfOk result (Judges wanted stage.now) }
 {
     match stage.world().audit() {
@@ -242,23 +254,39 @@ fn outcome_of(stage: &Stage, wanted: Wanted) -> Result<Outcome, AllocError>
     }
 }
 
-/// Each pair with the lower digest first.
-fn in_order(alloc: Global, pairs: &[(Claim, Claim)]) -> Result<Vec<(Claim, Claim)>, AllocError> {
+/// Each pair of claims with the lower digest first.
+fn in_order(alloc: Global, news: &[Blame]) -> Result<Vec<Blame>, AllocError> {
     let mut ordered = Vec::new(alloc);
-    for (one, other) in pairs {
-        if one.digest.0 <= other.digest.0 {
-            ordered.push((*one, *other))?;
-        } else {
-            ordered.push((*other, *one))?;
-        }
+    for blame in news {
+        ordered.push(match blame {
+            Blame::Twice { one, other } => lower_first(one, other),
+            _ => *blame,
+        })?;
     }
     Ok(ordered)
 }
 
-/// A watcher that only listens to what messages say.
+fn lower_first(one: &Claim, other: &Claim) -> Blame {
+    let (first, second) = if one.digest.0 <= other.digest.0 {
+        (*one, *other)
+    } else {
+        (*other, *one)
+    };
+    Blame::Twice {
+        one: first,
+        other: second,
+    }
+}
+
+/// The most choices that are kept: a script takes no more in one step.
+const MOST_CHOICES: usize = 65_536;
+
+/// A watcher that only listens to what messages say, and which of them are delivered.
 #[derive(Drop)]
 struct Listener {
     evidence: Evidence,
+    /// How many letters were passed over at each of the first deliveries.
+    passed: Vec<u64>,
 }
 
 impl Listener {
@@ -271,6 +299,13 @@ impl Listener {
 }
 
 impl Watcher for Listener {
+    fn passing(&mut self, passed: usize) -> Result<(), AllocError> {
+        if self.passed.len() < MOST_CHOICES {
+            self.passed.push(passed as u64)?;
+        }
+        Ok(())
+    }
+
     fn about(&mut self, _stage: &Stage, _letter: &Letter) -> Result<(), AllocError> {
         Ok(())
     }

@@ -4,13 +4,13 @@ ghost use Rattle.std.specs.Prelude.{◌≡◌};
 ghost use Rattle.world_script.specs.Keys.{keys_of};
 
 use crate::explore::{Explored, Outcome, Seeds, Wanted, explore_seed};
-use conflicts::Claim;
+use crate::shrink::{Finding, Found};
 use script_text::{Script, ScriptFault, ScriptKind, Step};
 use std::alloc::{AllocError, Global};
 use std::cmp::min;
 use std::io::Write;
 use std::thread::{self, Threads};
-use world_chart::{Happening, line_of};
+use world_chart::{Blame, Happening, line_of};
 use world_script::{KeySources, Progress, RunFault, report, write_text};
 
 /// What is searched: under which seeds what holds behind the script's steps.
@@ -18,6 +18,8 @@ use world_script::{KeySources, Progress, RunFault, report, write_text};
 pub struct Search {
     pub seeds: Seeds,
     pub wanted: Wanted,
+    /// Whether choices are written, too, under which what ends the search is found again.
+    pub shrinks: bool,
 }
 
 /// What came of a script under all seeds.
@@ -31,9 +33,10 @@ pub enum Searched {
 }
 
 /// Makes the keys of a script, and runs it under one seed after another, until one is found under which a step ends the
-/// script early, or what is wanted doesn't hold at its end. Writes a line for it, and before it one for each two claims that blame
-/// a replica, with the first seed where they were heard; and how many seeds there were, where all agreed. It tells how many
-/// keys are made, and under how many seeds the script was run.
+/// script early, or what is wanted doesn't hold at its end. Writes a line for it, and before it one for each
+/// blame, with the first seed under which it was heard; and how many seeds there were, where all agreed. It tells how many
+/// keys are made, and under how many seeds the script was run. Where the search shrinks, a line follows the finding for each step
+/// that delivers, `# step 4: choose = [0, 2]`: with these choices in place of their orders the script comes to the same finding.
 pub fn explore_script<O: Write, P: Progress>(
     alloc: Global,
     search: Search,
@@ -71,18 +74,54 @@ fn explore_in_turn<O: Write, P: Progress>(
     writer: &mut O,
     progress: &mut P,
 ) -> Result<Searched, RunFault> {
-    let Search { seeds, wanted } = search;
+    let Search { seeds, wanted, .. } = search;
     let sources = KeySources::watched(alloc, &script.head, progress)?;
     let mut findings = Findings::new(alloc);
     for seed in seeds.first..seeds.end {
         let explored = explore_seed(alloc, script, &sources, seed, wanted)?;
         if findings.take(seed, &explored, writer)? == Searched::Refused {
             tell_unexpected(script, &explored, progress);
-            return Ok(Searched::Refused);
+            return refused(
+                alloc,
+                script,
+                &sources,
+                search,
+                seed,
+                explored.outcome,
+                writer,
+            );
         }
         tell(seeds, seed.saturating_add(1), progress);
     }
     findings.end(seeds, writer)
+}
+
+/// Ends a search with what was found under a seed, whose line is written. Where the search shrinks, the choices are written, too.
+fn refused<O: Write>(
+    alloc: Global,
+    script: &Script,
+    sources: &KeySources,
+    search: Search,
+    seed: u64,
+    outcome: Outcome,
+    writer: &mut O,
+) -> Result<Searched, RunFault>
+    requires { sources.now ≡ keys_of script.now.head }
+{
+    if search.shrinks {
+        let found = Found {
+            alloc,
+            script,
+            sources,
+            finding: Finding {
+                seed,
+                wanted: search.wanted,
+                outcome,
+            },
+        };
+        found.write_choices(writer)?;
+    }
+    Ok(Searched::Refused)
 }
 
 /// Tells what the `expect` wants that found other lines, if one did, and what was printed.
@@ -113,7 +152,7 @@ fn explore_in_batches<R: Threads + Sync, O: Write, P: Progress>(
     writer: &mut O,
     progress: &mut P,
 ) -> Result<Searched, RunFault> {
-    let Search { seeds, wanted } = search;
+    let Search { seeds, wanted, .. } = search;
     let sources = KeySources::watched(alloc, &script.head, progress)?;
     let mut findings = Findings::new(alloc);
     let mut next = seeds.first;
@@ -128,7 +167,15 @@ fn explore_in_batches<R: Threads + Sync, O: Write, P: Progress>(
             let explored = explored?;
             if findings.take(next, &explored, writer)? == Searched::Refused {
                 tell_unexpected(script, &explored, progress);
-                return Ok(Searched::Refused);
+                return refused(
+                    alloc,
+                    script,
+                    &sources,
+                    search,
+                    next,
+                    explored.outcome,
+                    writer,
+                );
             }
             next = next.saturating_add(1);
         }
@@ -160,7 +207,7 @@ fn run_batch<R: Threads + Sync>(
 #[derive(Drop)]
 struct Findings {
     alloc: Global,
-    blamed: Vec<(Claim, Claim)>,
+    blamed: Vec<Blame>,
 }
 
 impl Findings {
@@ -178,8 +225,8 @@ impl Findings {
         explored: &Explored,
         writer: &mut O,
     ) -> Result<Searched, RunFault> {
-        for (one, other) in &explored.blamed {
-            self.blame(seed, *one, *other, writer)?;
+        for blame in &explored.blamed {
+            self.blame(seed, *blame, writer)?;
         }
         match line_of_outcome(self.alloc, seed, &explored.outcome)? {
             Some(line) => {
@@ -190,27 +237,21 @@ impl Findings {
         }
     }
 
-    /// Writes that two claims contradict each other, unless they did under an earlier seed.
-    fn blame<O: Write>(
-        &mut self,
-        seed: u64,
-        one: Claim,
-        other: Claim,
-        writer: &mut O,
-    ) -> Result<(), RunFault> {
-        if !self.is_new(one, other)? {
+    /// Writes who is blamed and why, unless that was so under an earlier seed.
+    fn blame<O: Write>(&mut self, seed: u64, blame: Blame, writer: &mut O) -> Result<(), RunFault> {
+        if !self.is_new(blame)? {
             return Ok(());
         }
-        let line = line_of(self.alloc, &Happening::Blamed { one, other })?;
+        let line = line_of(self.alloc, &Happening::Blamed(blame))?;
         write_text(writer, &format!(in self.alloc; "seed {seed} {line}")?)
     }
 
-    /// Whether two claims did not contradict each other under an earlier seed; from now on they did.
-    fn is_new(&mut self, one: Claim, other: Claim) -> Result<bool, AllocError> {
-        if self.blamed.contains(&(one, other)) {
+    /// Whether someone was not blamed so under an earlier seed; from now on he was.
+    fn is_new(&mut self, blame: Blame) -> Result<bool, AllocError> {
+        if self.blamed.contains(&blame) {
             return Ok(false);
         }
-        self.blamed.push((one, other))?;
+        self.blamed.push(blame)?;
         Ok(true)
     }
 

@@ -12,11 +12,14 @@ mod evidence;
 mod explore;
 mod findings;
 mod in_memory;
+mod leavings;
 mod placed;
 mod queued;
 mod refusal;
+mod shrink;
 mod trace;
 mod tracer;
+mod validity;
 
 pub use charted::{ChartForm, chart_script};
 pub use explore::{Explored, Outcome, Seeds, Wanted, explore_seed};

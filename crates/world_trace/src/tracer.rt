@@ -126,8 +126,8 @@ impl Tracer {
             self.happened.push(happening)?;
         }
         self.evidence.add(row)?;
-        for (one, other) in self.evidence.news() {
-            self.happened.push(Happening::Blamed { one, other })?;
+        for blame in self.evidence.news() {
+            self.happened.push(Happening::Blamed(blame))?;
         }
         Ok(())
     }

@@ -43,6 +43,7 @@ fn searched_under(
     let search = Search {
         seeds,
         wanted: Wanted::Agreement,
+        shrinks: false,
     };
     explore_script(rt.alloc(), search, &script, &mut written, &mut Unwatched)
 }

@@ -1,4 +1,4 @@
-use Rattle.byz_world.proofs.RunLaws.{told_state}
+use Rattle.byz_world.proofs.WorldAudits.{told_state}
 use Rattle.byz_world.proofs.laws.told_states_agree.Goals as goal
 
 pub returns : goal.returns

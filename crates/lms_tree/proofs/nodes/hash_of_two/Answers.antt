@@ -1,7 +1,7 @@
 use Rattle.std.proofs.Common.{◌∙◌, ap}
 use Rattle.std.proofs.lemmas.List.{append_assoc}
 use Rattle.sha2.specs.Sha256.{sha256}
-use Rattle.lms_ots.specs.Ots.{tagged_hash}
+use Rattle.lms_level.specs.Ots.{tagged_hash}
 use Rattle.lms_tree.proofs.nodes.hash_of_two.Goals as goal
 
 pub returns : goal.returns

@@ -1,7 +1,7 @@
 use Rattle.std.proofs.Common.{◌≡◌, ◌≢◌, ℕ, ◌+◌, ◌-◌, ◌*◌, ◌^◌, ◌<◌, ◌≤◌, List, [], inl, inr, length, slice_index_or, slice_set, subst, sym, ◌∙◌, ap, arith, pow_pos}
 use Rattle.std.proofs.lemmas.Bool.{cases_lt}
 use Rattle.std.proofs.lemmas.List.{get_or-set_other, get_or-set_same, length-set}
-use Rattle.lms_ots.specs.Ots.{public_value}
+use Rattle.lms_level.specs.Ots.{public_value}
 use Rattle.lms_level.specs.Signature.{levels_of}
 use Rattle.lms_level.specs.Tree.{leaf_node, tree_node}
 use Rattle.lms_level.proofs.TreeLemmas.{node-leaf}

@@ -1,5 +1,5 @@
 use Rattle.std.proofs.Common.{◌≡◌, ℕ, ◌+◌, ◌-◌, ◌*◌, ◌^◌, ◌<◌, ◌≤◌, List, [], slice_index_or, sym, ◌∙◌, ap, arith}
-use Rattle.lms_ots.specs.Ots.{public_value}
+use Rattle.lms_level.specs.Ots.{public_value}
 use Rattle.lms_level.specs.Signature.{levels_of}
 use Rattle.lms_level.specs.Tree.{inner_node, leaf_node, tree_node}
 use Rattle.lms_level.proofs.TreeLemmas.{node-inner, node-leaf}

@@ -1,6 +1,6 @@
 use Rattle.std.proofs.Common.{◌≡◌, None, drop}
 use Rattle.std.specs.List.{flat_map}
-use Rattle.pbft_model.specs.Validity.{highest}
+use Rattle.quorum_log.specs.Validity.{highest}
 use Rattle.view_change.specs.Proposals.{or_later}
 use Rattle.view_change.proofs.given.digest_at.Given as goal
 

@@ -1,6 +1,6 @@
 use Rattle.std.proofs.Common.{◌≡◌, drop}
 use Rattle.std.specs.Prelude.{map, max}
-use Rattle.pbft_model.specs.Validity.{greatest_of}
+use Rattle.quorum_log.specs.Validity.{greatest_of}
 use Rattle.view_change.proofs.given.greatest_in.Given as goal
 
 abbrev pub invariant-loop-certificate : goal.invariant-loop-certificate

@@ -1,6 +1,6 @@
 use Rattle.std.proofs.Common.{◌≡◌, ◌++◌, List, drop}
-use Rattle.pbft_model.specs.Words.{Certificate}
-use Rattle.pbft_model.specs.Validity.{highest}
+use Rattle.quorum_log.specs.Words.{Certificate}
+use Rattle.quorum_log.specs.Validity.{highest}
 use Rattle.view_change.specs.Proposals.{or_later}
 use Rattle.view_change.proofs.given.highest_in.Given as goal
 

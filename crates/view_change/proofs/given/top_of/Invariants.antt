@@ -1,7 +1,7 @@
 use Rattle.std.proofs.Common.{◌≡◌, drop}
 use Rattle.std.specs.Prelude.{map, max}
 use Rattle.std.specs.List.{flat_map}
-use Rattle.pbft_model.specs.Validity.{greatest_of}
+use Rattle.quorum_log.specs.Validity.{greatest_of}
 use Rattle.view_change.proofs.given.top_of.Given as goal
 
 abbrev pub invariant-loop-change : goal.invariant-loop-change

@@ -1,6 +1,6 @@
 use Rattle.std.proofs.Common.{◌≡◌, ◌++◌, List, drop, take}
 use Rattle.std.specs.List.{AllByRecursion}
-use Rattle.pbft_model.specs.Words.{Certificate}
+use Rattle.quorum_log.specs.Words.{Certificate}
 use Rattle.view_change.specs.Made.{IsCertificateOf, OneForOne}
 use Rattle.view_change.specs.Sealable.{IsCheckedCertificate}
 use Rattle.view_change.proofs.making.certificates_of.Given as goal

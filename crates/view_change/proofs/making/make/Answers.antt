@@ -1,14 +1,14 @@
 use Rattle.std.proofs.Common.{sym, ap, subst, ◌∙◌}
 use Rattle.seal.specs.Lists.{messages_of}
 use Rattle.pbft_codec.specs.declared.body.Body.TheVariants as bodies
-use Rattle.pbft_model.specs.Words.{ViewChange}
+use Rattle.quorum_log.specs.Words.{ViewChange}
 use Rattle.view_change.proofs.EqualParts.{same_change}
 use Rattle.view_change.proofs.Reported.{messages_under}
 use Rattle.view_change.specs.Sealable.{IsSealable}
 use Rattle.view_change.proofs.Sealing.{made_is_sealable}
 use Rattle.view_change.proofs.ValidParts.{made_valid}
 use Rattle.view_change.specs.Made.{IsValidChange}
-use Rattle.pbft_model.specs.Setup.{setup_of}
+use Rattle.quorum_log.specs.Setup.{setup_of}
 use Rattle.view_change.proofs.making.make.Goals as goal
 
 pub returns-clause-made : goal.returns-clause-made

@@ -1,7 +1,7 @@
 use Rattle.std.proofs.Common.{sym, ap, subst, ◌∙◌}
 use Rattle.seal.specs.Lists.{messages_of}
 use Rattle.pbft_codec.specs.declared.body.Body.TheVariants as bodies
-use Rattle.pbft_model.specs.Words.{NewView}
+use Rattle.quorum_log.specs.Words.{NewView}
 use Rattle.view_change.proofs.EqualParts.{same_new_view}
 use Rattle.view_change.proofs.Reported.{messages_under}
 use Rattle.view_change.specs.Sealable.{IsSealable}

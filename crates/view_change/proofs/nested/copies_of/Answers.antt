@@ -1,5 +1,5 @@
 use Rattle.std.proofs.Common.{◌≡◌, sym, ap, ◌∙◌}
-use Rattle.pbft_model.specs.Words.{Signed}
+use Rattle.quorum_log.specs.Words.{Signed}
 use Rattle.seal.specs.Opening.{CheckedMessage}
 use Rattle.seal.specs.Parts.{as_message}
 use Rattle.view_change.proofs.Paired.{paired_maps, walked, walked_all, with_some}

@@ -1,6 +1,6 @@
 use Rattle.std.proofs.Common.{◌≡◌, ◌++◌, List, drop}
 use Rattle.std.specs.Prelude.{map}
-use Rattle.pbft_model.specs.Words.{Signed}
+use Rattle.quorum_log.specs.Words.{Signed}
 use Rattle.seal.specs.Lists.{messages_of}
 use Rattle.seal.specs.Parts.{as_message}
 use Rattle.view_change.proofs.nested.copies_of.Given as goal

@@ -1,6 +1,6 @@
 use Rattle.std.proofs.Common.{◌≡◌, ◌≤◌, drop}
-use Rattle.pbft_model.specs.Validity.{are_given, given}
-use Rattle.pbft_model.specs.Setup.{setup_of}
+use Rattle.quorum_log.specs.Validity.{are_given, given}
+use Rattle.quorum_log.specs.Setup.{setup_of}
 use Rattle.view_change.specs.Proposals.{left_from}
 use Rattle.view_change.proofs.new_views.are_given.Given as goal
 

@@ -1,16 +1,16 @@
 use Rattle.std.proofs.Common.{◌≡◌, ℕ, ◌-◌, List, length, refl, ap, ◌∙◌, arith}
 use Rattle.std.specs.Prelude.{map, max}
 use Rattle.pbft_codec.specs.declared.body.Body.TheVariants as bodies
-use Rattle.pbft_model.specs.Words.{Signed, Certificate, ViewChange}
-use Rattle.pbft_model.specs.Rules.{pre_prepare_of}
-use Rattle.pbft_model.specs.Validity.{greatest_of, floor_of, top_of}
+use Rattle.quorum_log.specs.Words.{Signed, Certificate, ViewChange}
+use Rattle.quorum_log.specs.Rules.{pre_prepare_of}
+use Rattle.quorum_log.specs.Validity.{greatest_of, floor_of, top_of}
 use Rattle.seal.specs.Lists.{CheckedMessages, messages_of}
 use Rattle.seal.specs.Opening.{CheckedMessage}
 use Rattle.seal.specs.Parts.{as_message}
 use Rattle.std.specs.List.{flat_map}
 use Rattle.view_change.specs.Reports.{reported_certificates}
 use Rattle.view_change.specs.Proposals.{left_from}
-use Rattle.pbft_model.specs.Setup.{setup_of}
+use Rattle.quorum_log.specs.Setup.{setup_of}
 use Rattle.view_change.proofs.Entering.{signed_is_valid, within_span}
 use Rattle.view_change.proofs.Giving.{many_left}
 use Rattle.view_change.proofs.Reported.{lows_reported, certificates_reported, messages_under}

@@ -1,8 +1,8 @@
 use Rattle.std.proofs.Common.{ap, ◌∙◌, ◌+◌}
-use Rattle.pbft_model.specs.Words.{Certificate}
+use Rattle.quorum_log.specs.Words.{Certificate}
 use Rattle.std.specs.Prelude.{List}
-use Rattle.pbft_model.specs.Validity.{digest_or_null, highest}
-use Rattle.pbft_model.specs.Setup.{setup_of}
+use Rattle.quorum_log.specs.Validity.{digest_or_null, highest}
+use Rattle.quorum_log.specs.Setup.{setup_of}
 use Rattle.view_change.proofs.Giving.{proposed}
 use Rattle.view_change.proofs.Reported.{certificates_reported}
 use Rattle.view_change.proofs.opening.proposals.Goals as goal

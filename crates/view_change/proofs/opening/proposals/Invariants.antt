@@ -2,12 +2,12 @@ use Rattle.std.proofs.Common.{◌≡◌, ◌++◌, List}
 use Rattle.std.specs.Prelude.{map}
 use Rattle.host_types.specs.Configuration.{Configuration}
 use Rattle.pbft_codec.specs.declared.body.Body.TheVariants as bodies
-use Rattle.pbft_model.specs.Words.{Signed, ViewChange}
-use Rattle.pbft_model.specs.Rules.{pre_prepare_of}
+use Rattle.quorum_log.specs.Words.{Signed, ViewChange}
+use Rattle.quorum_log.specs.Rules.{pre_prepare_of}
 use Rattle.seal.specs.Lists.{messages_of}
 use Rattle.seal.specs.Parts.{as_message}
 use Rattle.view_change.specs.Proposals.{left_from}
-use Rattle.pbft_model.specs.Setup.{setup_of}
+use Rattle.quorum_log.specs.Setup.{setup_of}
 use Rattle.view_change.proofs.opening.proposals.Given as goal
 
 abbrev pub invariant-loop-below : goal.invariant-loop-below

@@ -1,5 +1,5 @@
 use Rattle.std.proofs.Common.{◌≡◌, ◌≤◌, ◌+◌, drop}
-use Rattle.pbft_model.specs.Validity.{ascend_within}
+use Rattle.quorum_log.specs.Validity.{ascend_within}
 use Rattle.view_change.proofs.view_changes.has_order.Given as goal
 
 abbrev pub invariant-loop-certificate : goal.invariant-loop-certificate

@@ -3,7 +3,7 @@ use Rattle.std.specs.Iterator.Adapters.{rev_source}
 use Rattle.std.specs.BTreeMap as tree
 use Rattle.std.specs.FinMap.{is_sorted}
 use Rattle.ballots.proofs.Tables.{by, sorted_by}
-use Rattle.pbft_model.specs.Tables.{at, number_key}
+use Rattle.ballots.specs.Tables.{at, number_key}
 use Rattle.checkpoints.specs.Kept.{KeptCheckpoints}
 use Rattle.checkpoints.specs.Reading.{bytes_at_key, number_keys}
 use Rattle.checkpoints.proofs.Keys.{snapshot_found}

@@ -1,7 +1,7 @@
 use Rattle.std.proofs.Common.{sym, ap, Some, ◌∙◌}
 use Rattle.sha2.specs.Sha256.{sha256}
 use Rattle.std.specs.Option.{option_copied, option_map}
-use Rattle.pbft_model.specs.Tables.{at, number_key}
+use Rattle.ballots.specs.Tables.{at, number_key}
 use Rattle.checkpoints.proofs.Keys.{snapshot_found}
 use Rattle.checkpoints.proofs.table.Checkpoints.snapshot_digest.Goals as goal
 

@@ -1,6 +1,6 @@
 use Rattle.std.proofs.Common.{sym, ap, ◌∙◌, Some}
 use Rattle.std.specs.Option.{option_copied}
-use Rattle.pbft_model.specs.Tables.{at, number_key}
+use Rattle.ballots.specs.Tables.{at, number_key}
 use Rattle.checkpoints.proofs.Keys.{snapshot_found}
 use Rattle.checkpoints.proofs.table.Checkpoints.snapshot_of.Goals as goal
 

@@ -1,7 +1,7 @@
 use Rattle.std.proofs.Common.{sym, ap, subst}
 use Rattle.std.specs.Option.{option_map}
-use Rattle.pbft_model.specs.Acts.{Rise}
-use Rattle.pbft_model.specs.Duties.{Do}
+use Rattle.ballots.specs.Acts.{Rise}
+use Rattle.ballots.specs.Duties.{Do}
 use Rattle.checkpoints.specs.Kept.{IsRaised}
 use Rattle.checkpoints.proofs.Raising.{none_due, one_due}
 use Rattle.checkpoints.proofs.table.Checkpoints.stable_kept.Goals as goal

@@ -1,7 +1,7 @@
 use Rattle.std.proofs.Common.{◌≡◌, ℕ, ◌+◌, ◌/◌, ◌^◌, ◌<◌, ◌≤◌, List, [], get_or, ◌++◌, sym, ◌∙◌, ap, arith, subst}
 use Rattle.std.proofs.lemmas.List.{append-nil}
-use Rattle.lms_ots.specs.Ots.{concatenation}
-use Rattle.lms_ots.proofs.Concatenation.{concatenation-none, joined_push}
+use Rattle.lms_level.specs.Ots.{concatenation}
+use Rattle.lms_level.proofs.Concatenation.{concatenation-none, joined_push}
 use Rattle.lms_level.specs.Signature.{levels_of}
 use Rattle.lms_level.specs.Tree.{path_node, sibling, tree_node}
 use Rattle.lms_level.proofs.TreeLemmas.{sibling-in_tree, two-above}

@@ -1,5 +1,5 @@
 use Rattle.std.proofs.Common.{◌≡◌, ◌++◌}
-use Rattle.lms_ots.specs.Ots.{concatenation}
+use Rattle.lms_level.specs.Ots.{concatenation}
 use Rattle.lms_level.specs.Signature.{levels_of}
 use Rattle.lms_level.specs.Tree.{path_node}
 use Rattle.lms_tree.proofs.tree.Tree.push_path.Given as goal

@@ -1,9 +1,9 @@
 use Rattle.std.proofs.Common.{subst, ap, map, ◌∙◌}
 use Rattle.std.specs.Prelude.{IfSome}
-use Rattle.pbft_model.specs.Core.{of_view}
-use Rattle.pbft_model.specs.Tables.{entries_in}
-use Rattle.pbft_model.specs.Validity.{greatest_of}
-use Rattle.pbft_model.specs.Words.{IsConfiguration}
+use Rattle.ballots.specs.Core.{of_view}
+use Rattle.ballots.specs.Tables.{entries_in}
+use Rattle.ballots.specs.Validity.{greatest_of}
+use Rattle.ballots.specs.Words.{IsConfiguration}
 use Rattle.quorum_log.specs.Log.{IsBetweenMarks, KeptLog}
 use Rattle.quorum_log.proofs.Standing.{greatest_inside, greatest_is}
 use Rattle.quorum_log.proofs.log.QuorumLog.greatest_in.Goals as goal

@@ -1,7 +1,7 @@
 use Rattle.std.proofs.Common.{subst, ap, ◌∙◌}
-use Rattle.pbft_model.specs.Core.{names}
-use Rattle.pbft_model.specs.Tables.{entries_in}
-use Rattle.pbft_model.specs.Words.{IsConfiguration}
+use Rattle.ballots.specs.Core.{names}
+use Rattle.ballots.specs.Tables.{entries_in}
+use Rattle.ballots.specs.Words.{IsConfiguration}
 use Rattle.quorum_log.specs.Log.{KeptLog}
 use Rattle.quorum_log.proofs.Standing.{names_is}
 use Rattle.quorum_log.proofs.log.QuorumLog.names.Goals as goal

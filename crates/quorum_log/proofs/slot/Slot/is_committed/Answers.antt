@@ -1,5 +1,5 @@
 use Rattle.std.proofs.Common.{ap, sym, ◌∙◌, ◌&&◌}
-use Rattle.pbft_model.specs.Certificates.{has_quorum}
+use Rattle.ballots.specs.Certificates.{has_quorum}
 use Rattle.ballots.specs.Ballots.{voted_for}
 use Rattle.quorum_log.specs.Slots.{is_certified_for, is_committed_for}
 use Rattle.quorum_log.proofs.slot.Slot.is_committed.Goals as goal

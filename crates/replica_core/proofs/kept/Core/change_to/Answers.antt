@@ -1,6 +1,6 @@
 use Rattle.std.proofs.Common.{ap, subst, sym}
 use Rattle.seal.specs.Opening.{CheckedMessage}
-use Rattle.view_change.specs.Sealable.{HasShortLists}
+use Rattle.replica_stores.specs.Sealable.{HasShortLists}
 use Rattle.replica_core.specs.Replicas.{KeptReplica}
 use Rattle.replica_core.specs.OwnViewChange.{own_view_change}
 use Rattle.replica_core.proofs.Ascending.{its_lists}

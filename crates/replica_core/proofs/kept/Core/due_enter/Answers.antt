@@ -2,7 +2,7 @@ use Rattle.std.proofs.Common.{ap, refl, sym, ◌∙◌}
 use Rattle.std.specs.Result.{is_ok}
 use Rattle.host_types.specs.Configuration.{Configuration}
 use Rattle.pbft_model.specs.Validity.{new_view_fault}
-use Rattle.view_change.specs.Faults.{answer}
+use Rattle.replica_stores.specs.Faults.{answer}
 use Rattle.pbft_model.specs.Setup.{setup_of}
 use Rattle.replica_core.specs.Replicas.{KeptReplica}
 use Rattle.replica_core.proofs.Arrivals.{enter_elsewhere, enter_faulty, enter_here}

@@ -1,6 +1,6 @@
 use Rattle.pbft_codec.specs.declared.body.fetch.Fetch.TheVariants as fetches
 use Rattle.pbft_model.specs.Acts.{All}
-use Rattle.view_change.proofs.Sealing.{fetch_is_sealable}
+use Rattle.replica_stores.proofs.Sealing.{fetch_is_sealable}
 use Rattle.replica_core.proofs.Admitting.{on_ok}
 use Rattle.replica_core.proofs.Said.{says_fetch_state}
 use Rattle.replica_core.proofs.kept.Core.fetch_state.Goals as goal

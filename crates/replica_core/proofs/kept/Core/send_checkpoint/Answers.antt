@@ -7,7 +7,7 @@ use Rattle.pbft_model.specs.Acts.{All}
 use Rattle.sha2.specs.Sha256.{sha256}
 use Rattle.pbft_model.specs.Sequential.{encoded}
 use Rattle.pbft_model.specs.Words.{Digest, SeqNo}
-use Rattle.view_change.proofs.Sealing.{checkpoint_is_sealable}
+use Rattle.replica_stores.proofs.Sealing.{checkpoint_is_sealable}
 use Rattle.replica_core.specs.Doing.{Says}
 use Rattle.replica_core.specs.Replicas.{KeptReplica}
 use Rattle.replica_core.proofs.Said.{says_checkpoint}

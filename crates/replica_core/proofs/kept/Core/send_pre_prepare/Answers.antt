@@ -2,7 +2,7 @@ use Rattle.std.proofs.Common.{rules, subst}
 use Rattle.pbft_codec.specs.declared.body.Body.TheVariants as bodies
 use Rattle.pbft_model.specs.Acts.{All}
 use Rattle.pbft_model.specs.Words.{View}
-use Rattle.view_change.proofs.Sealing.{pre_prepare_is_sealable}
+use Rattle.replica_stores.proofs.Sealing.{pre_prepare_is_sealable}
 use Rattle.replica_core.specs.Doing.{Says}
 use Rattle.replica_core.proofs.Admitting.{on_ok}
 use Rattle.replica_core.proofs.Said.{says_pre_prepare}

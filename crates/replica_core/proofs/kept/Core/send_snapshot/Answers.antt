@@ -1,7 +1,7 @@
 use Rattle.std.proofs.Common.{ap, ◌∙◌}
 use Rattle.pbft_model.specs.Acts.{ToReplica}
 use Rattle.pbft_model.specs.Tables.{at, number_key}
-use Rattle.view_change.proofs.Sealing.{snapshot_is_sealable}
+use Rattle.replica_stores.proofs.Sealing.{snapshot_is_sealable}
 use Rattle.replica_core.specs.Replicas.{KeptReplica}
 use Rattle.replica_core.proofs.Acting.{says_kept, short_copy}
 use Rattle.replica_core.proofs.kept.Core.send_snapshot.Goals as goal

@@ -1,5 +1,5 @@
 use Rattle.std.proofs.Common.{rules}
-use Rattle.view_change.proofs.Sealing.{pre_prepare_is_sealable}
+use Rattle.replica_stores.proofs.Sealing.{pre_prepare_is_sealable}
 use Rattle.replica_core.proofs.Opening.{leader_may_sign}
 use Rattle.replica_core.proofs.kept.Core.sign_proposal.Goals as goal
 

@@ -1,7 +1,7 @@
 use Rattle.std.proofs.Common.{subst, ◌∙◌}
 use Rattle.std.specs.Prelude.{IfOk}
 use Rattle.host_types.specs.Configuration.{Configuration}
-use Rattle.view_change.specs.Sealable.{IsSealable}
+use Rattle.replica_stores.specs.Sealable.{IsSealable}
 use Rattle.replica_core.specs.OwnViewChange.{own_view_change}
 use Rattle.replica_core.proofs.Reporting.{its_config, made_of, under_one}
 use Rattle.replica_stores.proofs.Results.{given, passed}
