@@ -1,6 +1,6 @@
 -- Statement: what a replica says once of each view as it changes views, and which of its Commits a ViewChange hides (Castro and
 -- Liskov, section 4.4).
-use Rattle.std.specs.Prelude.{◌≡◌, ℕ, ◌==◌, ◌&&◌, Bool, not, nat_lt, nat_le, map, Option, Some, None}
+use Rattle.std.specs.Prelude.{◌≡◌, ℕ, ◌==◌, ◌&&◌, Bool, not, nat_lt, nat_le, map, false, Option, Some, None}
 use Rattle.std.specs.List.{list_any}
 use Rattle.host_types.specs.declared.Digest.{Digest}
 use Rattle.host_types.specs.declared.SeqNo.{SeqNo}
@@ -56,3 +56,8 @@ shows_place view number x = x.number.0 == number.0 && nat_le view.0 x.view.0
 
 abbrev pub reported_in : Leaving → View → SeqNo → Bool
 reported_in l view number = list_any (shows_place view number) l.reported.items
+
+-- a view is at most this one, if there is one
+abbrev pub reaches : View → Option View → Bool
+reaches view None = false
+reaches view (Some highest) = nat_le view.0 highest.0

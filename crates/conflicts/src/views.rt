@@ -1,9 +1,9 @@
 //! What a replica signs as it changes views.
 
-ghost use Rattle.std.specs.Prelude.{◌≡◌, IfOk};
+ghost use Rattle.std.specs.Prelude.{◌≡◌, ◌||◌, IfOk};
 ghost use Rattle.pbft_codec.specs.declared.body.commit.Commit.{Commit};
 ghost use Rattle.pbft_codec.specs.declared.body.view_change.ViewChange.{ViewChange};
-ghost use Rattle.conflicts.specs.Views.{IsKept, hides, reported_in, shows_place, view_claim_of};
+ghost use Rattle.conflicts.specs.Views.{IsKept, hides, reaches, reported_in, shows_place, view_claim_of};
 
 use crate::claim::{Claim, Topic};
 use host_types::{SeqNo, View};
@@ -85,13 +85,15 @@ impl Leaving {
         self.low
     }
 
-    /// The highest view of its certificates for a number, if it has one.
-    pub fn shown(&self, number: SeqNo) -> Option<View> {
-        self.reported
-            .iter()
-            .filter(|reported| reported.number == number)
-            .map(|reported| reported.view)
-            .max()
+    /// The highest view of its certificates for a number, if it has one: it shows what the views up to this one say of the number.
+    pub fn shown(&self, number: SeqNo) -> Option<View>
+        ensures { (view : View) → reported_in self.now view number ≡ reaches view result }
+    {
+        let mut highest = None;
+        for reported in self.reported.iter() {
+            highest = raised(highest, number, reported);
+        }
+        highest
     }
 
     /// Whether a certificate is for a number, of this view or a later one.
@@ -101,6 +103,17 @@ impl Leaving {
         self.reported
             .iter()
             .any(|reported| shows(reported, view, number))
+    }
+}
+
+/// The highest view for a number, once one more certificate is looked at.
+fn raised(highest: Option<View>, number: SeqNo, reported: &Reported) -> Option<View>
+    ensures { (view : View) → reaches view result ≡ (reaches view highest || shows_place view number reported.now) }
+{
+    match highest {
+        _ if reported.number != number => highest,
+        Some(view) if reported.view.0 <= view.0 => highest,
+        _ => Some(reported.view),
     }
 }
 
