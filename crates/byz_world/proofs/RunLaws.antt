@@ -86,7 +86,7 @@ pub leads_more : (w : WorldFacts) (es : List Event) (e : Event) (u v : WorldFact
 leads_more w [] e u v answer leads gives = (answer, v, subst (λ (x : WorldFacts). Gives x e answer v) leads gives, refl)
 leads_more w (x ∷ es) e u v answer (r, m, first, rest) gives = (r, m, first, leads_more m es e u v answer rest gives)
 
--- what happened without want of memory
+-- what happened without lack of memory
 pub happened : (w : WorldFacts) (event : Event) (answer : Answer) (t : WorldFacts) → (answer ≡ Err faults.Memory → ⊥) → Happens w event answer t → Gives w event answer t
 happened w event (Ok row) t remembers happens = happens
 happened w event (Err faults.NoSuchReplica) t remembers happens = happens

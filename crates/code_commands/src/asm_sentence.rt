@@ -4,7 +4,7 @@ use bpf_asm::{AsmFault, AsmKind, assemble};
 use std::alloc::{AllocError, Global};
 
 /// The most bytes of a line that a sentence shows.
-const MOST_SHOWN: usize = 60;
+const MAX_SHOWN: usize = 60;
 
 /// The greatest register.
 const LAST_REGISTER: u32 = 10;
@@ -43,9 +43,9 @@ pub(crate) fn line_sentence(
             "has a number that is malformed or out of range: an immediate is from -2147483648 to 4294967295, an offset from -32768 to 32767",
         )?,
         AsmKind::Label => why_no_label(alloc, input, code)?,
-        AsmKind::Memory => String::from_str(alloc, "was not read for want of memory")?,
+        AsmKind::Memory => String::from_str(alloc, "was not read for lack of memory")?,
     };
-    if text.len() <= MOST_SHOWN {
+    if text.len() <= MAX_SHOWN {
         return format!(in alloc; "line {line}, {text:?}, {why}");
     }
     format!(in alloc; "line {line} {why}")

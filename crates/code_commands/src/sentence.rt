@@ -73,7 +73,7 @@ fn number_sentence(alloc: Global, fault: NumberFault) -> Result<String, AllocErr
         NumberKind::TooMany => {
             "is one too many: a call has at most 256 bytes, and a number takes 8"
         }
-        NumberKind::Memory => "was not read for want of memory",
+        NumberKind::Memory => "was not read for lack of memory",
     };
     format!(in alloc; "number {place} of --numbers {why}")
 }
@@ -87,7 +87,7 @@ fn call_sentence(alloc: Global, fault: CallFault) -> Result<String, AllocError> 
             "has arguments that are not hex; @N and a blank may stand before them, and nothing else"
         }
         CallKind::TooLong => "has more than 256 bytes of arguments",
-        CallKind::Memory => "was not read for want of memory",
+        CallKind::Memory => "was not read for lack of memory",
     };
     format!(in alloc; "line {line} of --calls {why}")
 }
@@ -102,7 +102,7 @@ fn map_sentence(alloc: Global, fault: MapFault) -> Result<String, AllocError> {
         MapKind::NotHex => "has a byte that is no hex digit in its key or its value",
         MapKind::KeyTwice => "has the key of a line before it",
         MapKind::TooMany => "is one too many: a map has at most 4,096 entries",
-        MapKind::Memory => "was not read for want of memory",
+        MapKind::Memory => "was not read for lack of memory",
     };
     format!(in alloc; "line {line} of --map {why}")
 }

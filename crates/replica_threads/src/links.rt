@@ -148,7 +148,7 @@ pub(crate) struct Links<G: Drop> {
 }
 
 impl<G: Gate + Drop> Links<G> {
-    /// Passes on what a replica gave. A message that can't be copied or queued for want of memory is lost,
+    /// Passes on what a replica gave. A message that can't be copied or queued for lack of memory is lost,
     /// as one that the network loses.
     pub(crate) fn pass_on<R: Wait>(&self, rt: &R, from: ReplicaId, row: &Row) {
         for output in row.outputs() {

@@ -9,7 +9,7 @@ use std::alloc::{AllocError, Global};
 use toml::Value;
 
 /// The most bytes of a text that a sentence shows.
-pub(crate) const MOST_SHOWN: usize = 40;
+pub(crate) const MAX_SHOWN: usize = 40;
 
 /// What there is more to say of a wrong value, behind a semicolon: where a text is no code, which value may be meant, which entry of a list is
 /// wrong, or that the script has nothing that the key could name. Nothing where there is no more to say.
@@ -75,7 +75,7 @@ pub(crate) fn shown(alloc: Global, value: &Value) -> Result<String, AllocError> 
     match value {
         Value::Integer(number) => format!(in alloc; "{number}"),
         Value::Boolean(is_true) => format!(in alloc; "{is_true}"),
-        Value::String(text) if text.len() <= MOST_SHOWN => format!(in alloc; "{text:?}"),
+        Value::String(text) if text.len() <= MAX_SHOWN => format!(in alloc; "{text:?}"),
         Value::String(text) => {
             let length = text.chars().count();
             format!(in alloc; "a text of {length} letters")
@@ -99,7 +99,7 @@ fn shown_list(alloc: Global, values: &[Value]) -> Result<String, AllocError> {
             Value::String(word) => write!(text, "{word:?}")?,
             _ => return String::from_str(alloc, "a list"),
         }
-        if text.len() > MOST_SHOWN {
+        if text.len() > MAX_SHOWN {
             return String::from_str(alloc, "a long list");
         }
     }

@@ -1,7 +1,7 @@
 //! What is wrong, as a sentence.
 
 use crate::configured::broken_limit;
-use crate::detail::{MOST_SHOWN, detail, shown};
+use crate::detail::{MAX_SHOWN, detail, shown};
 use crate::keys::{HEAD, Key, all_keys, key_at};
 use crate::line::{line_of_step, line_with};
 use crate::probe::Probe;
@@ -86,7 +86,7 @@ fn with_line(alloc: Global, said: &str, line: &str) -> Result<String, AllocError
     } else {
         ""
     };
-    if line.is_empty() || line.len() > MOST_SHOWN {
+    if line.is_empty() || line.len() > MAX_SHOWN {
         return format!(in alloc; "{said}{more}");
     }
     format!(in alloc; "{said}; the line is {line:?}{more}")

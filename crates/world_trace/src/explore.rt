@@ -279,7 +279,7 @@ fn lower_first(one: &Claim, other: &Claim) -> Blame {
 }
 
 /// The most choices that are kept: a script takes no more in one step.
-const MOST_CHOICES: usize = 65_536;
+const MAX_CHOICES: usize = 65_536;
 
 /// A watcher that only listens to what messages say, and which of them are delivered.
 #[derive(Drop)]
@@ -300,7 +300,7 @@ impl Listener {
 
 impl Watcher for Listener {
     fn passing(&mut self, passed: usize) -> Result<(), AllocError> {
-        if self.passed.len() < MOST_CHOICES {
+        if self.passed.len() < MAX_CHOICES {
             self.passed.push(passed as u64)?;
         }
         Ok(())
