@@ -1,26 +1,27 @@
 -- Worked values: which Commits a ViewChange hides, and what is claimed of a view.
 use Rattle.std.proofs.Common.{◌≡◌, ℕ, List, [], ◌∷◌, true, false, refl}
-use Rattle.std.specs.Prelude.{Bool, Some}
+use Rattle.std.specs.Prelude.{Some}
 use Rattle.pbft_codec.specs.declared.body.Body.TheVariants as bodies
 use Rattle.pbft_codec.specs.declared.body.certificate.Certificate.{Certificate}
 use Rattle.pbft_codec.specs.declared.body.commit.Commit.{Commit}
+use Rattle.pbft_codec.specs.declared.body.pre_prepare.PrePrepare.{PrePrepare}
 use Rattle.pbft_codec.specs.declared.body.new_view.NewView.{NewView}
 use Rattle.pbft_codec.specs.declared.body.view_change.ViewChange.{ViewChange}
 use Rattle.pbft_codec.specs.declared.signed.Role.TheVariants.{Replica}
 use Rattle.conflicts.specs.declared.claim.Topic.TheVariants as topics
 use Rattle.conflicts.specs.Views.{hides, view_claim_in}
 
-commit : ℕ → ℕ → Commit
+abbrev commit : ℕ → ℕ → Commit
 commit view number = record { view = record { 0 = view }; number = record { 0 = number }; digest = record { 0 = [] } }
 
 -- a certificate for a number of a view
-certified : ℕ → ℕ → Certificate
+abbrev certified : ℕ → ℕ → Certificate
 certified view number =
-    let proposal = record { view = record { 0 = view }; number = record { 0 = number }; digest = record { 0 = [] } } in
+    let proposal : PrePrepare = record { view = record { 0 = view }; number = record { 0 = number }; digest = record { 0 = [] } } in
     record { pre_prepare = record { role = Replica; id = 0; body = proposal; sig = [] }; prepares = [] }
 
 -- a ViewChange for a view above a low mark
-leaving : ℕ → ℕ → List Certificate → ViewChange
+abbrev leaving : ℕ → ℕ → List Certificate → ViewChange
 leaving view low certificates = record { view = record { 0 = view }; low = record { 0 = low }; checkpoints = []; certificates = certificates }
 
 -- A Commit of each lower view is hidden, of no other one.
