@@ -16,7 +16,7 @@ from messages import CLIENT, leaves_of
 from transport import Callers
 
 NAME = "session.sqlite"
-MOST_BETWEEN_REPEATS = 8
+MAX_BETWEEN_REPEATS = 8
 INSTALL = {1: b"\x01", 2: b"\x04"}
 
 
@@ -139,7 +139,7 @@ class Caller:
                 spoke = ", ".join(map(str, sorted(heard))) or "none"
                 raise NoReply(f"{self.me.name} has no reply to its request of time {asked.time} within {seconds:g} s: it wants the same answer of "
                               f"f + 1 replicas. Replicas that sent it anything: {spoke}. The request stays open: the next command asks it again.")
-            between = min(2 * between, MOST_BETWEEN_REPEATS * self.group.interval)
+            between = min(2 * between, MAX_BETWEEN_REPEATS * self.group.interval)
 
     def _hear(self, reply: bytes) -> Accepted | None:
         assert self._client is not None

@@ -138,7 +138,8 @@ class Journal:
     def __init__(self, folder: Path, header: Header) -> None:
         self.path = folder / NAME
         try:
-            self._base = sqlite3.connect(self.path, isolation_level=None)
+            # (a batch is committed in a thread of its own, one at a time)
+            self._base = sqlite3.connect(self.path, isolation_level=None, check_same_thread=False)
             self._base.execute("PRAGMA journal_mode=WAL")
             self._base.execute("PRAGMA synchronous=FULL")
             self._begin(header)

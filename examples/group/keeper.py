@@ -1,5 +1,6 @@
-"""A replica with its journal. What comes is opened, and what is new is put into a batch; `turn` commits the batch, has the replica take
-it, and only then returns what is to be sent: so a process may end at any instant, and its replica comes back as one that was slow."""
+"""A replica with its journal. What comes is opened, and what is new is put into a batch; once the journal has the batch on the disk, the
+replica takes it, and only then is it told what is to be sent: so a process may end at any instant, and its replica comes back as one that
+was slow. While one batch is written, what comes goes into the next."""
 from __future__ import annotations
 
 import enum
@@ -161,34 +162,36 @@ class Keeper:
 
     # ---- what is taken
 
-    def turn(self) -> list[Message]:
-        """Commits the batch, has the replica take it, then the votes that are on time now. What is to be sent. Where the replica halts,
-        `ended` says so."""
+    @property
+    def has_batch(self) -> bool:
+        return bool(self._batch)
+
+    def hand_over(self) -> tuple[list[bytes | None], list[Step]]:
+        """The batch, and what the rows before gave: for the journal to commit, which gives the rows that `take` is told."""
+        batch, steps = self._batch, self._steps
+        self._batch, self._steps = [], []
+        return batch, steps
+
+    def take(self, rows: list[Row]) -> list[Message]:
+        """The replica takes rows that the journal has. What is to be sent. The next batch begins with the votes that are on time now. Where
+        the replica halts, `ended` says so."""
         given: list[Message] = []
-        while self._batch and not self.ended:
-            rows = self.commit()
-            for row in rows:
-                try:
-                    step = self._step(row)
-                except EndedForGood as fault:
-                    self.ended = fault
-                    break
-                self._steps.append(step)
-                given += step.outputs
-            self._hand_in()
+        for row in rows:
+            try:
+                step = self._step(row)
+            except EndedForGood as fault:
+                self.ended = fault
+                break
+            self._steps.append(step)
+            given += step.outputs
+        self._hand_in()
         return given
 
-    def commit(self) -> list[Row]:
-        """Writes down the batch, and what the rows before gave."""
-        batch, self._batch = self._batch, []
-        rows = self.journal.commit(batch, self._steps)
-        self._steps = []
-        return rows
-
     def flush(self) -> None:
-        """Writes down what the last rows gave, so that status and audit see it."""
-        if self._steps and not self._batch:
-            self.commit()
+        """Writes down what the last rows gave, so that status and audit see it. No batch is being committed meanwhile."""
+        steps, self._steps = self._steps, []
+        if steps:
+            self.journal.commit([], steps)
 
     def _hand_in(self) -> None:
         while (message := self._votes.next()) is not None:
@@ -226,6 +229,7 @@ class Keeper:
         if status in (Status.MEMORY, Status.OUT_OF_MEMORY):
             return MemoryRanOut(f"Memory ran out at row {row.number}. The process may be started again, and takes the row then.")
         if status in (Status.EXHAUSTED, Status.WORN, Status.ALREADY_HALTED):
+            self.flush()
             self.journal.halt(status)
             why = "its key has too few leaves left" if status == Status.EXHAUSTED else "a view or a number is at its limit"
             return EndedForGood(f"Replica {self.me.id} has halted for good at row {row.number}: {why}. It halts there again each time: "

@@ -19,9 +19,9 @@ from log import Log
 from messages import REPLICA
 from transport import MAX_MESSAGE, MAX_QUEUE, Came, Inbox, Outbox, Tag
 
-MOST_OF_A_BATCH = 256
-MOST_INTERVALS = 1024
-MOST_BETWEEN_REPEATS = 64
+MAX_BATCH = 256
+MAX_INTERVALS = 1024
+MAX_BETWEEN_REPEATS = 64
 
 
 class Doubling:
@@ -52,8 +52,8 @@ class Process:
         context, now = zmq.asyncio.Context(), time.monotonic()
         self._inbox = Inbox(context, group, me, secrets.curve)
         self.outboxes = {peer.id: Outbox(context, me, secrets.curve, peer) for peer in group.replicas if peer != me}
-        self._impatience = Doubling(group.interval, MOST_INTERVALS, now)
-        self._repeating = Doubling(group.interval, MOST_BETWEEN_REPEATS, now)
+        self._impatience = Doubling(group.interval, MAX_INTERVALS, now)
+        self._repeating = Doubling(group.interval, MAX_BETWEEN_REPEATS, now)
         self._stop = asyncio.Event()
         self._answered: set[int] = set()  # the peers that have told this replica's highest leaf
         self._helped: dict[int, float] = {}  # when a peer that has started was sent all again
@@ -61,6 +61,7 @@ class Process:
         self._room = MAX_QUEUE
         self._refused: Counter[str] = Counter()
         self._seen = keeper.standing
+        self._taking: asyncio.Task[None] | None = None  # the batch that is being taken
 
     async def run(self) -> None:
         loop = asyncio.get_running_loop()
@@ -76,6 +77,8 @@ class Process:
         finally:
             for task in tasks:
                 task.cancel()
+            if self._taking:
+                await asyncio.wait({self._taking})
             self.keeper.journal.close()
 
     async def _serve(self) -> None:
@@ -83,8 +86,7 @@ class Process:
         coming = asyncio.ensure_future(self._inbox.receive())
         stopped = asyncio.ensure_future(self._stop.wait())
         while not stopped.done():
-            now = time.monotonic()
-            await asyncio.wait({coming, stopped}, timeout=max(0.0, self._next_at(asked_until) - now), return_when=asyncio.FIRST_COMPLETED)
+            await self._wait({coming, stopped}, asked_until)
             if coming.done():
                 await self._attend_all(coming.result())
                 coming = asyncio.ensure_future(self._inbox.receive())
@@ -93,20 +95,28 @@ class Process:
                 await self._begin(now)
             if self._backlog is None:
                 await self._tick(now)
-                await self._take(now)
+                self._take_on()
+        if self._taking:
+            await self._taking
         self.keeper.flush()
 
-    def _next_at(self, asked_until: float) -> float:
-        return asked_until if self._backlog is not None else min(self._impatience.at, self._repeating.at)
+    async def _wait(self, events: set[asyncio.Future], asked_until: float) -> None:
+        """Waits for one of them, for the batch that is taken, or until a timer is due."""
+        until = asked_until if self._backlog is not None else min(self._impatience.at, self._repeating.at)
+        taking = {self._taking} if self._taking else set()
+        await asyncio.wait(events | taking, timeout=max(0.0, until - time.monotonic()), return_when=asyncio.FIRST_COMPLETED)
 
     # ---- what comes
 
     async def _attend_all(self, came: Came | None) -> None:
         size = 0
-        for _ in range(MOST_OF_A_BATCH):
+        for _ in range(MAX_BATCH):
             if came is None:
                 return
             self._attend(came, time.monotonic())
+            self._take_on()
+            # (a batch that is on the disk meanwhile is taken between two messages)
+            await asyncio.sleep(0)
             size += len(came.body)
             came = await self._inbox.waiting() if size < MAX_MESSAGE else None
 
@@ -145,8 +155,24 @@ class Process:
 
     # ---- what is done
 
-    async def _take(self, now: float) -> None:
-        await self.send(self.keeper.turn())
+    def _take_on(self) -> None:
+        """Begins to take the batch, if there is one and none is being taken. Raises what ended the one before."""
+        if self._taking and self._taking.done():
+            taken, self._taking = self._taking, None
+            taken.result()
+        if self.keeper.has_batch and not self._taking:
+            self._taking = asyncio.ensure_future(self._take())
+
+    async def _take(self) -> None:
+        """Commits the batch, in a thread, while more is opened here; has the replica take it; and only then sends what that gives. So on
+        until nothing is left."""
+        while self.keeper.has_batch:
+            rows = await asyncio.to_thread(self.keeper.journal.commit, *self.keeper.hand_over())
+            await self.send(self.keeper.take(rows))
+            self._follow(time.monotonic())
+
+    def _follow(self, now: float) -> None:
+        """Looks what has changed since the last batch."""
         stands, seen = self.keeper.standing, self._seen
         if stands.executed != seen.executed:
             self._impatience.set_back(now)
@@ -158,7 +184,6 @@ class Process:
             self.log.say("view", view=stands.view, active=stands.active)
         self._seen = stands
         if self.keeper.ended:
-            self.keeper.flush()
             raise self.keeper.ended
 
     async def _tick(self, now: float) -> None:
@@ -171,7 +196,8 @@ class Process:
             self.keeper.timeout()
             self.log.say("times out", view=self.keeper.standing.view, executed=self.keeper.standing.executed)
         if self._repeating.is_due(now):
-            self.keeper.flush()
+            if not self._taking:
+                self.keeper.flush()
             self.keeper.forget(now)
             self._tell_lost()
             await self._send_again()

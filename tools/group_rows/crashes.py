@@ -162,7 +162,7 @@ def no_memory(counts: Counts) -> str:
         status = machines.ended(2)
         expect(status == 75, f"replica 2 ended with status {status}, not 75")
         machines.start(2)
-        return f"replica 2 ended at a row for want of memory, and took it again: {_came_back(machines, 2)}"
+        return f"replica 2 ended at a row for lack of memory, and took it again: {_came_back(machines, 2)}"
 
 
 def spent(counts: Counts) -> str:

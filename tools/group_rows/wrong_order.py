@@ -47,11 +47,11 @@ def _is_known(path: Path, message: bytes) -> bool:
 class WrongOrder(Process):
     """Takes, sends, and only then commits."""
 
-    async def _take(self, now: float) -> None:
+    async def _take(self) -> None:
         late = self.keeper.journal = Late(self.keeper.journal)
         sent = []
         send, self.send = self.send, lambda messages: sent.extend(messages) or send(messages)
-        await super()._take(now)
+        await super()._take()
         self.send = send
         for message in sent:
             if part_of(message.bytes).kind == Kind.PRE_PREPARE:
