@@ -54,7 +54,7 @@ class Keeper:
             step = self._step(row)
             if row.message is not None:
                 part = part_of(row.message)
-                self._mark(part, None)
+                self._mark(hashlib.sha256(row.message).digest(), part, None)
                 self._note_leaf(part)
             if not self.journal.check(step):
                 self._steps.append(step)
@@ -78,7 +78,7 @@ class Keeper:
             return Offer.HELD
         if self._is_useless(part):
             return Offer.PASSED_OVER
-        self._mark(part, now)
+        self._mark(digest, part, now)
         self._batch.append(message)
         return Offer.TAKEN
 
@@ -144,9 +144,8 @@ class Keeper:
         is_old = part.kind == Kind.REQUEST and part.time < self._answered.get(part.id, 0)
         return is_old and part.request_digest != self._fetched
 
-    def _mark(self, part: Part, now: float | None) -> None:
-        """It isn't to be taken again: for good, or until an interval from now is over."""
-        digest = hashlib.sha256(part.whole).digest()
+    def _mark(self, digest: bytes, part: Part, now: float | None) -> None:
+        """The message with this digest isn't to be taken again: for good, or until an interval from now is over."""
         if part.kind in OF_A_NUMBER:
             self._taken[digest] = part.number
         elif part.kind in OF_A_VIEW:
@@ -195,7 +194,7 @@ class Keeper:
 
     def _hand_in(self) -> None:
         while (message := self._votes.next()) is not None:
-            self._mark(part_of(message), None)
+            self._mark(hashlib.sha256(message).digest(), part_of(message), None)
             self._batch.append(message)
 
     def _step(self, row: Row) -> Step:
