@@ -2,9 +2,10 @@
  * that keeps maps for tenants and runs their procedures (RFC 9669). The library has no thread, no clock, no file and no socket:
  * replicas and clients take bytes and give bytes, and the caller moves them, in any order, as often as he likes, or not at all.
  *
- * What is proved of it (docs/EMBEDDING.md has the sentences): a replica's step is the protocol's, a client accepts what f + 1
- * replicas have answered, and where at most f of 3f + 1 replicas do otherwise, all others execute one list of requests. No call
- * signs bytes that its caller gives. What a caller owes, since no proof sees him:
+ * What is proved of it (docs/EMBEDDING.md has the sentences): a replica's step is the protocol's, and a client accepts what f + 1
+ * replicas have answered. Of the protocol it is proved, and of these archives not stated, that where at most f of 3f + 1 replicas do
+ * otherwise, nobody forged and no digests collide, all others execute one list of requests. No call signs bytes that its caller
+ * gives. What a caller owes, since no proof sees him:
  *
  * - A seed never begins twice at one leaf. Two messages that one leaf signed give the key away (RFC 8554, section 9.2). A
  *   process that begins again with its seed begins at a leaf that none of its signatures has used: what is kept for that, on disk,

@@ -1,0 +1,9 @@
+mod Lists
+mod Alike
+mod Audited
+mod Stages
+mod Drained
+mod Printouts
+mod Steps
+mod Runs
+mod Ending
