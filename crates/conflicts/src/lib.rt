@@ -1,6 +1,7 @@
 //! Who can be blamed. A correct replica says at most one thing of a digest at each place: one vote of a kind for a
-//! number of a view, one Checkpoint of a number (Castro and Liskov 1999, section 4.2). Two messages that
-//! say two things were signed by a faulty replica, and its signatures prove it to everybody.
+//! number of a view, one Checkpoint of a number; it sends one ViewChange and one NewView of a view, and hides no Commit in the one
+//! (Castro and Liskov 1999, sections 4.2 and 4.4); and a leaf of a key signs one message (RFC 8554, section 9.2). Two messages that
+//! say otherwise were signed by a faulty replica, and its signatures prove it to everybody.
 //!
 //!     for (first, second) in &conflicts(alloc, &messages)? {
 //!         show(&messages[*first], &messages[*second])?;

@@ -18,8 +18,9 @@ pub enum ChartForm {
     Svg,
 }
 
-/// Runs the steps of a script, and writes what happened as a chart, and none of the lines that the steps print. A script that ends early has a chart of what happened until then, and, as in `run_script`,
-/// the line of its fault or of its `expect` behind it. It tells how far the script is.
+/// Runs the steps of a script, and writes what happened as a chart, and none of the lines that the steps print. A script that
+/// ends early has a chart of what happened until then, and, as in `run_script`, the line of its fault or of its `expect` behind it.
+/// It tells how far the script is.
 pub fn chart_script<O: Write, P: Progress>(
     alloc: Global,
     form: ChartForm,
