@@ -1,6 +1,7 @@
-"""Clients that ask a group at the same time, each in a thread with a session of its own."""
+"""Clients that ask a group at the same time, each in a process with a session of its own."""
 from __future__ import annotations
 
+import multiprocessing
 import threading
 import time
 from collections.abc import Callable
@@ -12,6 +13,7 @@ import client as clients_of
 from configuration import read_group
 from messages import CLIENT
 
+FORK = multiprocessing.get_context("fork")  # a client has what was imported here already
 FIRST = 100
 PATIENCE = 600.0
 CALL = clients_of.call_operation(0, bytes(8) + (1).to_bytes(8, "little"))
@@ -41,20 +43,25 @@ class Quick(clients_of.Session):
 
 
 class Load:
-    """So many clients of a group, which have their procedure once they have begun."""
+    """So many clients of a group, which have their procedure once they have begun. Each is a process, as a client's command is."""
 
     def __init__(self, machines: Machines, count: int, each: int) -> None:
         self._group = read_group(machines.folder)
-        self._ready = threading.Barrier(count + 1)
+        self._ready = FORK.Barrier(count + 1)
+        self._told = FORK.SimpleQueue()  # when each call was asked, and its seconds; or why a client has ended
+        self._left = count * each
         self.calls: list[Call] = []
-        self._faults: list[BaseException] = []
-        self._threads = [threading.Thread(target=self._run, args=(FIRST + n, each)) for n in range(count)]
-        for thread in self._threads:
-            thread.start()
-        self._ready.wait()
+        self._clients = [FORK.Process(target=self._run, args=(FIRST + n, each), daemon=True) for n in range(count)]
+        for client in self._clients:
+            client.start()
+        try:
+            self._ready.wait()
+        except threading.BrokenBarrierError:
+            raise RuntimeError(self._told.get()) from None
         self.began = time.monotonic()
 
     def _run(self, id: int, each: int) -> None:
+        """A client."""
         try:
             caller = clients_of.Caller(self._group, self._group.member(CLIENT, id))
             caller.call(clients_of.install_operation(COUNTER, 1), PATIENCE)
@@ -62,19 +69,29 @@ class Load:
             for _ in range(each):
                 asked = time.monotonic()
                 caller.call(CALL, PATIENCE)
-                self.calls.append(Call(asked - self.began, time.monotonic() - asked))
+                self._told.put((asked, time.monotonic() - asked))
             caller.close()
         except BaseException as fault:
-            self._faults.append(fault)
+            self._told.put(f"client {id}: {fault!r}")
             self._ready.abort()
+
+    def hear(self) -> None:
+        """Waits until one more call was answered."""
+        told = self._told.get()
+        if isinstance(told, str):
+            raise RuntimeError(told)
+        asked, seconds = told
+        self.calls.append(Call(asked - self.began, seconds))
+        self._left -= 1
 
     def wait(self) -> float:
         """Waits until all calls were answered, and returns how many seconds that took."""
-        for thread in self._threads:
-            thread.join()
-        if self._faults:
-            raise self._faults[0]
-        return time.monotonic() - self.began
+        while self._left:
+            self.hear()
+        seconds = time.monotonic() - self.began
+        for client in self._clients:
+            client.join()
+        return seconds
 
 
 def _with_group(count: int, each: int, is_full: bool, then: Callable[[Machines, Load], Row | float]) -> tuple[Row | float, list[Call]]:
@@ -82,6 +99,8 @@ def _with_group(count: int, each: int, is_full: bool, then: Callable[[Machines, 
     try:
         with Machines("10", count) as machines:
             machines.start(*REPLICAS, script="" if is_full else "../../bench/group_parts/quick.py")
+            for id in REPLICAS:
+                machines.wait_for(id, "begins")  # else a client has its first replies before all replicas listen
             load = Load(machines, count, each)
             told = then(machines, load)
             machines.stop(*[id for id, process in machines.replicas.items() if process.poll() is None])
@@ -102,7 +121,7 @@ def with_a_kill(count: int, requests: int) -> tuple[list[Call], float]:
 
     def kills(machines: Machines, load: Load) -> float:
         while len(load.calls) < requests // 2:
-            time.sleep(0.01)
+            load.hear()
         machines.kill(0)
         killed = time.monotonic() - load.began
         load.wait()

@@ -12,7 +12,7 @@ from bpf_host_replica import Accepted, Client, GroupError, Status
 from configuration import Group, Member, other_secrets, read_group, read_secrets
 from faults import ConfigurationFault, DiskFault, GroupFault, MemoryRanOut, NoLeaves, NoReply, ReplayFault
 from journal import Lock, need_new, note_begun
-from messages import CLIENT, leaves_of
+from messages import CLIENT, Kind, Malformed, leaves_of, part_of
 from transport import Callers
 
 NAME = "session.sqlite"
@@ -132,7 +132,7 @@ class Caller:
             again = time.monotonic() + between
             while (now := time.monotonic()) < min(again, ends):
                 for replica, reply in self._connections.receive(min(again, ends) - now):
-                    if accepted := self._hear(reply):
+                    if _is_of(asked, reply) and (accepted := self._hear(reply)):
                         return accepted
                     heard.add(replica.id)
             if now >= ends:
@@ -154,6 +154,15 @@ class Caller:
         self._connections.close()
         self._session.close()
         self._lock.release()
+
+
+def _is_of(asked: Asked, reply: bytes) -> bool:
+    """Whether bytes call themselves a reply to a request. Those that don't need not be opened: f + 1 replies are enough, and the others come late."""
+    try:
+        part = part_of(reply)
+    except Malformed:
+        return False
+    return part.kind == Kind.REPLY and part.time == asked.time
 
 
 def run_calls(folder: Path, id: int, operation: bytes, count: int, seconds: float) -> int:

@@ -19,9 +19,11 @@ import struct
 from collections.abc import Iterator
 from dataclasses import dataclass
 from pathlib import Path
+from typing import NamedTuple
 
 from bpf_host_replica import Executed, Installed, Message, Standing, To
 from faults import DiskFault, Locked, LostMemory, ReplayFault
+from messages import Part
 
 VERSION = 1
 NAME = "journal.sqlite"
@@ -45,16 +47,15 @@ class Header:
     key: bytes
 
 
-@dataclass(frozen=True, slots=True)
-class Row:
-    """What is taken: a message, or None for a timeout."""
+class Row(NamedTuple):
+    """What is taken: a message, or None for a timeout; and what the message says, where it was read already."""
 
     number: int
     message: bytes | None
+    part: Part | None = None
 
 
-@dataclass(frozen=True, slots=True)
-class Step:
+class Step(NamedTuple):
     """A row, and what it gave and did."""
 
     row: Row
@@ -138,8 +139,7 @@ class Journal:
     def __init__(self, folder: Path, header: Header) -> None:
         self.path = folder / NAME
         try:
-            # (a batch is committed in a thread of its own, one at a time)
-            self._base = sqlite3.connect(self.path, isolation_level=None, check_same_thread=False)
+            self._base = sqlite3.connect(self.path, isolation_level=None)
             self._base.execute("PRAGMA journal_mode=WAL")
             self._base.execute("PRAGMA synchronous=FULL")
             self._begin(header)
@@ -183,27 +183,31 @@ class Journal:
                               "is another one. Nothing was sent.")
         return True
 
-    def commit(self, messages: list[bytes | None], steps: list[Step]) -> list[Row]:
-        """Adds what is to be taken, and what rows before gave, and returns once that is on the disk."""
-        rows = [Row(number, message) for number, message in enumerate(messages, self.rows + 1)]
+    def commit(self, rows: list[Row], steps: list[Step]) -> None:
+        """Adds what is to be taken, behind the rows that are there, and what rows before gave, and returns once that is on the disk."""
         try:
             self._base.execute("BEGIN IMMEDIATE")
             self._base.executemany("INSERT INTO row VALUES (?, ?)", [(row.number, row.message) for row in rows])
-            for step in steps:
-                self._add(step)
+            if steps:
+                self._add(steps)
             self._base.execute("COMMIT")
         except (sqlite3.Error, OSError) as fault:
             raise DiskFault(f"{self.path} can't be written ({fault}): the process ends, and nothing of what it was about to take was "
                             "sent. Make room, and start it again.") from None
         self.rows += len(rows)
-        return rows
 
-    def _add(self, step: Step) -> None:
-        number, sent, did, stands = step.row.number, _sent(step), _did(step), step.standing
-        self._base.executemany("INSERT INTO output VALUES (?, ?, ?, ?)", [(number, place, *it) for place, it in enumerate(sent)])
-        self._base.executemany("INSERT INTO done VALUES (?, ?, ?, ?, ?)", [(number, place, *it) for place, it in enumerate(did)])
-        self.sum, self.taken = sum_behind(self.sum, step.row.message, sent, did), number
-        values = (number, self.sum, stands.view, stands.active, stands.low, stands.executed, stands.leaves, stands.halted or 0)
+    def _add(self, steps: list[Step]) -> None:
+        """Adds what rows gave and did, and where the replica stands behind the last of them."""
+        outputs, done = [], []
+        for step in steps:
+            number, sent, did = step.row.number, _sent(step), _did(step)
+            outputs += [(number, place, *it) for place, it in enumerate(sent)]
+            done += [(number, place, *it) for place, it in enumerate(did)]
+            self.sum = sum_behind(self.sum, step.row.message, sent, did)
+        self.taken, stands = steps[-1].row.number, steps[-1].standing
+        self._base.executemany("INSERT INTO output VALUES (?, ?, ?, ?)", outputs)
+        self._base.executemany("INSERT INTO done VALUES (?, ?, ?, ?, ?)", done)
+        values = (self.taken, self.sum, stands.view, stands.active, stands.low, stands.executed, stands.leaves, stands.halted or 0)
         self._base.execute("UPDATE standing SET taken=?, sum=?, view=?, active=?, low=?, executed=?, leaves=?, halted=?", values)
 
     def halt(self, status: int) -> None:

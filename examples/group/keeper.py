@@ -1,19 +1,18 @@
 """A replica with its journal. What comes is opened, and what is new is put into a batch; once the journal has the batch on the disk, the
 replica takes it, and only then is it told what is to be sent: so a process may end at any instant, and its replica comes back as one that
-was slow. While one batch is written, what comes goes into the next."""
+was slow."""
 from __future__ import annotations
 
 import enum
 import hashlib
-
 from collections.abc import Callable
-from typing import TypeVar
+from typing import NamedTuple, TypeVar
 
 from bpf_host_replica import Configuration, Executed, GroupError, Message, Repeats, Replica, Standing, Status, Votes
 from configuration import Group, Member
 from faults import EndedForGood, GroupFault, LostMemory, MemoryRanOut, ReplayFault
 from journal import Journal, Row, Step
-from messages import REPLICA, VOTES, Kind, Part, leaf_of, leaves_of, part_of, parts_of
+from messages import REPLICA, VOTES, Kind, Part, kind_of, leaf_of, leaves_of, part_of, parts_of
 
 Told = TypeVar("Told")
 OF_A_NUMBER = (*VOTES, Kind.CHECKPOINT)
@@ -29,6 +28,18 @@ class Offer(enum.Enum):
     REFUSED = "refused"  # no message of the configuration
 
 
+def _digest(message: bytes) -> bytes:
+    """By which a message is known that comes again: SHA-512, which takes half as long as SHA-256 without instructions of its own."""
+    return hashlib.sha512(message).digest()
+
+
+class Asked(NamedTuple):
+    """A request that was taken, and the digest by which it is executed."""
+
+    part: Part
+    digest: bytes
+
+
 class Keeper:
     """A replica of a group with its journal, which it takes again at first."""
 
@@ -39,12 +50,14 @@ class Keeper:
         self.highest: dict[int, tuple[int, bytes]] = {}  # the highest leaf of each other replica that was seen, and its message
         self.ended: GroupFault | None = None
         self._votes = Votes(config)
-        self._asked: dict[int, Part] = {}  # of each client the last request that was taken and not executed since
+        self._keys = {replica.id: replica.key for replica in group.replicas}
+        self._asked: dict[int, Asked] = {}  # of each client the last request that was taken and not executed since
         self._answered: dict[int, int] = {}  # of each client the time of its last request that was answered
         self._fetched = b""  # the digest of the last request that was asked for
         self._taken: dict[bytes, int | None] = {}  # votes and Checkpoints above the low mark, with their numbers; ViewChanges, NewViews
         self._lately: dict[bytes, float] = {}  # Requests, Fetches and Snapshots of the last interval, which may come again
-        self._batch: list[bytes | None] = []
+        self._last_row = journal.rows  # the last number that was given to what is to be taken
+        self._batch: list[Row] = []
         self._steps: list[Step] = []  # that aren't in the journal yet
 
     def replay(self) -> int:
@@ -54,7 +67,7 @@ class Keeper:
             step = self._step(row)
             if row.message is not None:
                 part = part_of(row.message)
-                self._mark(hashlib.sha256(row.message).digest(), part, None)
+                self._mark(_digest(row.message), part, None)
                 self._note_leaf(part)
             if not self.journal.check(step):
                 self._steps.append(step)
@@ -66,26 +79,26 @@ class Keeper:
 
     def offer(self, message: bytes, now: float) -> Offer:
         """Puts a message into the batch, if the configuration takes it and it is new."""
-        digest = hashlib.sha256(message).digest()
+        digest = _digest(message)
         if digest in self._taken or now - self._lately.get(digest, -self.group.interval) < self.group.interval:
             return Offer.PASSED_OVER
         is_early = self._opened(self._votes.hold, message)
         if is_early is None:
             return Offer.REFUSED
-        part = part_of(message)
-        self.look(message)
+        parts = parts_of(message)
+        self.look(parts)
         if is_early:
             return Offer.HELD
-        if self._is_useless(part):
+        if self._is_useless(parts[0]):
             return Offer.PASSED_OVER
-        self._mark(digest, part, now)
-        self._batch.append(message)
+        self._mark(digest, parts[0], now)
+        self._add(message, parts[0])
         return Offer.TAKEN
 
     def hear(self, message: bytes) -> None:
         """A peer has shown a message: it is opened, and its leaves are looked at. Other bytes are passed over."""
         if self._opened(self.config.open, message) is not None:
-            self.look(message)
+            self.look(parts_of(message))
 
     def _opened(self, call: Callable[[bytes], Told], message: bytes) -> Told | None:
         """What the library tells of a message; nothing of bytes that aren't one of the configuration."""
@@ -96,10 +109,9 @@ class Keeper:
                 raise MemoryRanOut("Memory ran out as a message was opened. The process may be started again.") from None
             return None
 
-    def look(self, message: bytes) -> None:
-        """Looks which leaves a message names that was opened. Raises `LostMemory` where one of this replica is among them that its journal
-        doesn't know."""
-        parts = parts_of(message)
+    def look(self, parts: list[Part]) -> None:
+        """Looks which leaves a message names that was opened, in any of its parts. Raises `LostMemory` where one of this replica is among them
+        that its journal doesn't know."""
         for part in parts:
             if part.role == REPLICA and part.id == self.me.id and leaf_of(self.me.key, part.signature) >= self.next_leaf:
                 raise LostMemory(
@@ -112,12 +124,16 @@ class Keeper:
     def _note_leaf(self, part: Part) -> None:
         """Keeps the message of another replica's highest leaf."""
         if part.role == REPLICA and part.id != self.me.id:
-            leaf = leaf_of(self.group.key_of(REPLICA, part.id), part.signature)
+            leaf = leaf_of(self._keys[part.id], part.signature)
             if leaf > self.highest.get(part.id, (-1, b""))[0]:
                 self.highest[part.id] = (leaf, part.whole)
 
     def timeout(self) -> None:
-        self._batch.append(None)
+        self._add(None, None)
+
+    def _add(self, message: bytes | None, part: Part | None) -> None:
+        self._last_row += 1
+        self._batch.append(Row(self._last_row, message, part))
 
     @property
     def next_leaf(self) -> int:
@@ -129,7 +145,7 @@ class Keeper:
 
     def is_waiting(self) -> bool:
         """Whether the replica waits for one of them: a state that it took over may have answered it."""
-        self._asked = {client: part for client, part in self._asked.items() if self._opened(self.replica.waits_for, part.whole)}
+        self._asked = {client: asked for client, asked in self._asked.items() if self._opened(self.replica.waits_for, asked.part.whole)}
         return self.may_wait()
 
     def _is_useless(self, part: Part) -> bool:
@@ -165,17 +181,13 @@ class Keeper:
     def has_batch(self) -> bool:
         return bool(self._batch)
 
-    def hand_over(self) -> tuple[list[bytes | None], list[Step]]:
-        """The batch, and what the rows before gave: for the journal to commit, which gives the rows that `take` is told."""
-        batch, steps = self._batch, self._steps
+    def take(self) -> list[Message]:
+        """Commits the batch, together with what the rows before gave, and only then has the replica take it. What is to be sent. The next
+        batch begins with the votes that are on time now. Where the replica halts, `ended` says so."""
+        batch, steps, given = self._batch, self._steps, []
         self._batch, self._steps = [], []
-        return batch, steps
-
-    def take(self, rows: list[Row]) -> list[Message]:
-        """The replica takes rows that the journal has. What is to be sent. The next batch begins with the votes that are on time now. Where
-        the replica halts, `ended` says so."""
-        given: list[Message] = []
-        for row in rows:
+        self.journal.commit(batch, steps)
+        for row in batch:
             try:
                 step = self._step(row)
             except EndedForGood as fault:
@@ -187,15 +199,16 @@ class Keeper:
         return given
 
     def flush(self) -> None:
-        """Writes down what the last rows gave, so that status and audit see it. No batch is being committed meanwhile."""
+        """Writes down what the last rows gave, so that status and audit see it."""
         steps, self._steps = self._steps, []
         if steps:
             self.journal.commit([], steps)
 
     def _hand_in(self) -> None:
         while (message := self._votes.next()) is not None:
-            self._mark(hashlib.sha256(message).digest(), part_of(message), None)
-            self._batch.append(message)
+            part = part_of(message)
+            self._mark(_digest(message), part, None)
+            self._add(message, part)
 
     def _step(self, row: Row) -> Step:
         try:
@@ -211,17 +224,19 @@ class Keeper:
 
     def _note(self, row: Row, step: Step) -> None:
         """Notes which requests wait, which were answered, and which was asked for."""
-        taken = part_of(row.message) if row.message is not None else None
-        if taken and taken.kind == Kind.REQUEST and (taken.id not in self._asked or self._asked[taken.id].time <= taken.time):
-            self._asked[taken.id] = taken
+        if row.message is not None and kind_of(row.message) == Kind.REQUEST:
+            taken = row.part or part_of(row.message)
+            if taken.id not in self._asked or self._asked[taken.id].part.time <= taken.time:
+                self._asked[taken.id] = Asked(taken, taken.request_digest)
         done = {item.digest for item in step.done if isinstance(item, Executed)}
         if done:
-            self._asked = {client: part for client, part in self._asked.items() if part.request_digest not in done}
-        for part in map(part_of, (output.bytes for output in step.outputs)):
-            if part.kind == Kind.REPLY:
+            self._asked = {client: asked for client, asked in self._asked.items() if asked.digest not in done}
+        for output in step.outputs:
+            if kind_of(output.bytes) == Kind.REPLY:
+                part = part_of(output.bytes)
                 self._answered[part.client] = max(part.time, self._answered.get(part.client, 0))
-            elif part.kind == Kind.FETCH and part.digest:
-                self._fetched = part.digest
+            elif kind_of(output.bytes) == Kind.FETCH:
+                self._fetched = part_of(output.bytes).digest or self._fetched
 
     def _ending(self, row: Row, status: Status) -> GroupFault:
         """Why the process ends at a row."""

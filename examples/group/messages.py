@@ -6,8 +6,9 @@ from __future__ import annotations
 
 import enum
 import hashlib
+import struct
 from collections.abc import Iterator
-from dataclasses import dataclass
+from typing import NamedTuple
 
 REPLICA, CLIENT = 1, 2
 
@@ -34,8 +35,7 @@ class Kind(enum.IntEnum):
 VOTES = (Kind.PRE_PREPARE, Kind.PREPARE, Kind.COMMIT)
 
 
-@dataclass(frozen=True, slots=True)
-class Part:
+class Part(NamedTuple):
     """A message, or one that is nested in it: who signed what, and the fields that its kind has."""
 
     role: int
@@ -56,92 +56,109 @@ class Part:
         return hashlib.sha256(self.text).digest()
 
 
-class _Reader:
-    """Reads from left to right: pbft_codec/specs/Reading.antt."""
-
-    def __init__(self, data: bytes) -> None:
-        self.data, self.at = data, 0
-
-    def bytes(self, count: int) -> bytes:
-        taken = self.data[self.at : self.at + count]
-        if len(taken) < count:
-            raise Malformed
-        self.at += count
-        return taken
-
-    def number(self, count: int) -> int:
-        return int.from_bytes(self.bytes(count), "big")
-
-    def prefixed(self) -> bytes:
-        return self.bytes(self.number(4))
-
-
 def parts_of(message: bytes) -> list[Part]:
     """A message and all that is nested in it, each before what it holds: `signed` in pbft_codec/specs/Layouts.antt, `messages_in`
     in seal/specs/Parts.antt."""
-    reader = _Reader(message)
-    parts = list(_signed(reader))
-    if reader.at != len(message):
+    part = part_of(message)
+    if part.whole != message:
         raise Malformed
-    return parts
+    return [part, *_nested(part)]
 
 
 def part_of(message: bytes) -> Part:
     """The message itself, without what is nested in it."""
-    return next(_signed(_Reader(message)))
+    return _part_at(message, 0)
 
 
-def _signed(reader: _Reader) -> Iterator[Part]:
-    begins = reader.at
-    head = reader.bytes(5)
-    body, signature = reader.prefixed(), reader.prefixed()
-    whole = reader.data[begins : reader.at]
-    inside = _Reader(body)
-    try:
-        kind = Kind(inside.number(1))
-    except ValueError:
-        raise Malformed from None
-    fields = {name: inside.bytes(width) for name, width in _layout(kind, inside)}
-    numbers = {name: int.from_bytes(value, "big") for name, value in fields.items() if name != "digest"}
-    yield Part(head[0], int.from_bytes(head[1:], "big"), kind, head + body, signature, whole, **{**fields, **numbers})
-    if kind == Kind.VIEW_CHANGE:
-        yield from _in_view_change(inside)
-    elif kind == Kind.NEW_VIEW:
-        yield from _list(inside)
-        yield from _list(inside)
+def kind_of(message: bytes) -> int:
+    """The kind of a message, which stands behind its role, its signer's id and the length of its body."""
+    return message[_HEAD.size]
 
 
-def _layout(kind: Kind, body: _Reader) -> tuple[tuple[str, int], ...]:
-    """The first fields of a body, and how many bytes each has: pbft_codec/specs/Layouts.antt."""
-    if kind == Kind.FETCH:
-        return (("digest", 32),) if body.number(1) == 1 else (("number", 8),)
-    return _LAYOUTS[kind]
+_HEAD = struct.Struct(">BII")  # the role, the signer's id, and the length of the body
+_WORD = struct.Struct(">I")
+_SIGNER = 5  # bytes of role and id, which are signed before the body
+_KINDS = {kind.value: kind for kind in Kind}
 
-
-_PROPOSAL = (("view", 4), ("number", 8), ("digest", 32))
-_LAYOUTS: dict[Kind, tuple[tuple[str, int], ...]] = {
-    Kind.REQUEST: (("time", 8),),
+# The first fields of a body, behind its kind, and their names: pbft_codec/specs/Layouts.antt.
+_PROPOSAL = struct.Struct(">IQ32s"), ("view", "number", "digest")
+_LAYOUTS: dict[Kind, tuple[struct.Struct, tuple[str, ...]]] = {
+    Kind.REQUEST: (struct.Struct(">Q"), ("time",)),
     Kind.PRE_PREPARE: _PROPOSAL,
     Kind.PREPARE: _PROPOSAL,
     Kind.COMMIT: _PROPOSAL,
-    Kind.REPLY: (("view", 4), ("client", 4), ("time", 8), ("number", 8)),
-    Kind.CHECKPOINT: (("number", 8), ("digest", 32)),
-    Kind.VIEW_CHANGE: (("view", 4), ("number", 8)),
-    Kind.NEW_VIEW: (("view", 4),),
-    Kind.SNAPSHOT: (("number", 8),),
+    Kind.REPLY: (struct.Struct(">IIQQ"), ("view", "client", "time", "number")),
+    Kind.CHECKPOINT: (struct.Struct(">Q32s"), ("number", "digest")),
+    Kind.VIEW_CHANGE: (struct.Struct(">IQ"), ("view", "number")),
+    Kind.NEW_VIEW: (struct.Struct(">I"), ("view",)),
+    Kind.SNAPSHOT: (struct.Struct(">Q"), ("number",)),
 }
+_FETCHED_REQUEST, _FETCHED_STATE = (struct.Struct(">x32s"), ("digest",)), (struct.Struct(">xQ"), ("number",))
 
 
-def _list(body: _Reader) -> Iterator[Part]:
-    for _ in range(body.number(4)):
-        yield from _signed(body)
+def _part_at(data: bytes, begins: int) -> Part:
+    """The part that begins at a place of these bytes."""
+    try:
+        role, id, length = _HEAD.unpack_from(data, begins)
+        body, behind_body = begins + _HEAD.size, begins + _HEAD.size + length
+        signature = behind_body + _WORD.size
+        ends = signature + _WORD.unpack_from(data, behind_body)[0]
+        text = data[begins : begins + _SIGNER] + data[body:behind_body]
+        kind = _KINDS[text[_SIGNER]]
+        layout, names = _layout(kind, text)
+        fields = layout.unpack_from(text, _SIGNER + 1)
+    except (struct.error, IndexError, KeyError):
+        raise Malformed from None
+    if ends > len(data):
+        raise Malformed
+    return Part(role, id, kind, text, data[signature:ends], data[begins:ends], **dict(zip(names, fields)))
 
 
-def _in_view_change(body: _Reader) -> Iterator[Part]:
-    yield from _list(body)
-    for _ in range(body.number(4)):
-        yield from _signed(body)
-        yield from _list(body)
+def _layout(kind: Kind, text: bytes) -> tuple[struct.Struct, tuple[str, ...]]:
+    """How the fields of a body stand in it: those of a Fetch behind a byte that says what is asked for."""
+    if kind == Kind.FETCH:
+        return _FETCHED_REQUEST if text[_SIGNER + 1] == 1 else _FETCHED_STATE
+    return _LAYOUTS[kind]
+
+
+def _nested(part: Part) -> Iterator[Part]:
+    """What a ViewChange or a NewView holds."""
+    if part.kind not in (Kind.VIEW_CHANGE, Kind.NEW_VIEW):
+        return
+    reader = _Reader(part.text, _SIGNER + 1 + _LAYOUTS[part.kind][0].size)
+    yield from reader.list()
+    if part.kind == Kind.NEW_VIEW:
+        yield from reader.list()
+        return
+    for _ in range(reader.count()):
+        yield from reader.part()
+        yield from reader.list()
+
+
+class _Reader:
+    """Reads what is nested in a body, from left to right: pbft_codec/specs/Reading.antt."""
+
+    def __init__(self, data: bytes, at: int) -> None:
+        self._data, self._at = data, at
+
+    def count(self) -> int:
+        try:
+            (count,) = _WORD.unpack_from(self._data, self._at)
+        except struct.error:
+            raise Malformed from None
+        self._at += _WORD.size
+        return count
+
+    def part(self) -> Iterator[Part]:
+        """A part, and what is nested in it."""
+        part = _part_at(self._data, self._at)
+        self._at += len(part.whole)
+        yield part
+        yield from _nested(part)
+
+    def list(self) -> Iterator[Part]:
+        for _ in range(self.count()):
+            yield from self.part()
 
 
 _LEVELS = {5: 5, 6: 10}  # by typecode: `typecode_of` in lms_level/specs/Signature.antt

@@ -2,13 +2,14 @@
 been lost."""
 from __future__ import annotations
 
-import asyncio
+import math
 import signal
+import socket
 import time
 from collections import Counter
 from pathlib import Path
 
-import zmq.asyncio
+import zmq
 
 from bpf_host_replica import GroupError, Message, Replica, Status, To
 from configuration import Group, Member, Secrets, other_secrets, read_group, read_secrets
@@ -49,90 +50,88 @@ class Process:
     def __init__(self, keeper: Keeper, secrets: Secrets, log: Log) -> None:
         self.keeper, self.log = keeper, log
         group, me = keeper.group, keeper.me
-        context, now = zmq.asyncio.Context(), time.monotonic()
-        self._inbox = Inbox(context, group, me, secrets.curve)
-        self.outboxes = {peer.id: Outbox(context, me, secrets.curve, peer) for peer in group.replicas if peer != me}
+        self._context, now = zmq.Context(), time.monotonic()
+        self._inbox = Inbox(self._context, group, me, secrets.curve)
+        self.outboxes = {peer.id: Outbox(self._context, me, secrets.curve, peer) for peer in group.replicas if peer != me}
+        self._signals, self._signalled = socket.socketpair()  # a signal is heard by a byte, which ends a poll
+        self._poller = zmq.Poller()
+        for it in (self._inbox.socket, self._signals):
+            self._poller.register(it, zmq.POLLIN)
         self._impatience = Doubling(group.interval, MAX_INTERVALS, now)
         self._repeating = Doubling(group.interval, MAX_BETWEEN_REPEATS, now)
-        self._stop = asyncio.Event()
+        self._asked_until = now + group.interval  # its peers, as it starts
         self._answered: set[int] = set()  # the peers that have told this replica's highest leaf
         self._helped: dict[int, float] = {}  # when a peer that has started was sent all again
         self._backlog: list[Came] | None = []  # what came before all were asked; none from then on
         self._room = MAX_QUEUE
         self._refused: Counter[str] = Counter()
         self._seen = keeper.standing
-        self._taking: asyncio.Task[None] | None = None  # the batch that is being taken
+        self._is_told_to_end = False
 
-    async def run(self) -> None:
-        loop = asyncio.get_running_loop()
+    def run(self) -> None:
+        """Runs until it is told to end. Raises what ends it before."""
+        self._signalled.setblocking(False)
+        signal.set_wakeup_fd(self._signalled.fileno())
         for number in (signal.SIGTERM, signal.SIGINT):
-            loop.add_signal_handler(number, self._stop.set)
+            signal.signal(number, self._end)
         for outbox in self.outboxes.values():
             outbox.post(Tag.STARTED, b"")
-        tasks = [asyncio.ensure_future(it) for it in (self._serve(), *(outbox.run() for outbox in self.outboxes.values()))]
         try:
-            done, _ = await asyncio.wait(tasks, return_when=asyncio.FIRST_COMPLETED)
-            for task in done:
-                task.result()
+            while not self._is_told_to_end:
+                self._turn()
+            self.keeper.flush()
         finally:
-            for task in tasks:
-                task.cancel()
-            if self._taking:
-                await asyncio.wait({self._taking})
+            self._inbox.close()
+            self._context.destroy(linger=0)
             self.keeper.journal.close()
 
-    async def _serve(self) -> None:
-        asked_until = time.monotonic() + self.keeper.group.interval
-        coming = asyncio.ensure_future(self._inbox.receive())
-        stopped = asyncio.ensure_future(self._stop.wait())
-        while not stopped.done():
-            await self._wait({coming, stopped}, asked_until)
-            if coming.done():
-                await self._attend_all(coming.result())
-                coming = asyncio.ensure_future(self._inbox.receive())
-            now = time.monotonic()
-            if self._backlog is not None and (now >= asked_until or len(self._answered) == len(self.outboxes)):
-                await self._begin(now)
-            if self._backlog is None:
-                await self._tick(now)
-                self._take_on()
-        if self._taking:
-            await self._taking
-        self.keeper.flush()
+    def _end(self, *_: object) -> None:
+        self._is_told_to_end = True
 
-    async def _wait(self, events: set[asyncio.Future], asked_until: float) -> None:
-        """Waits for one of them, for the batch that is taken, or until a timer is due."""
-        until = asked_until if self._backlog is not None else min(self._impatience.at, self._repeating.at)
-        taking = {self._taking} if self._taking else set()
-        await asyncio.wait(events | taking, timeout=max(0.0, until - time.monotonic()), return_when=asyncio.FIRST_COMPLETED)
+    def _turn(self) -> None:
+        """Waits until there is something to do, and does it."""
+        self._wait()
+        self._attend_all()
+        now = time.monotonic()
+        if self._backlog is not None and (now >= self._asked_until or len(self._answered) == len(self.outboxes)):
+            self._begin(now)
+        if self._backlog is None:
+            self._tick(now)
+            self._take()
+        self._send_waiting()
+
+    def _wait(self) -> None:
+        """Waits until something comes, a peer takes more of what waits for it, the process is told to end, or a timer is due."""
+        for outbox in self.outboxes.values():
+            self._poller.register(outbox.socket, 0 if outbox.is_empty else zmq.POLLOUT)
+        until = self._asked_until if self._backlog is not None else min(self._impatience.at, self._repeating.at)
+        self._poller.poll(max(0, math.ceil(1000 * (until - time.monotonic()))))
 
     # ---- what comes
 
-    async def _attend_all(self, came: Came | None) -> None:
-        size = 0
-        for _ in range(MAX_BATCH):
-            if came is None:
-                return
+    def _attend_all(self) -> None:
+        """Attends to what is here already, up to a bound."""
+        count = size = 0
+        while count < MAX_BATCH and size < MAX_MESSAGE and (came := self._inbox.next()):
             self._attend(came, time.monotonic())
-            self._take_on()
-            # (a batch that is on the disk meanwhile is taken between two messages)
-            await asyncio.sleep(0)
-            size += len(came.body)
-            came = await self._inbox.waiting() if size < MAX_MESSAGE else None
+            count += 1 + len(came.messages)
+            size += came.size
 
     def _attend(self, came: Came, now: float) -> None:
         if came.tag == Tag.STARTED:
             self._help(came.sender, now)
         elif came.tag == Tag.YOURS:
-            if came.body:
-                self.keeper.hear(came.body)
+            for message in filter(None, came.messages):
+                self.keeper.hear(message)
             self._answered |= {came.sender.id} & self.outboxes.keys()
         elif self._backlog is not None:
-            self._room -= len(came.body)
+            self._room -= came.size
             if self._room > 0:
                 self._backlog.append(came)
-        elif self.keeper.offer(came.body, now) == Offer.REFUSED:
-            self._refused[came.sender.name] += 1
+        else:
+            for message in came.messages:
+                if self.keeper.offer(message, now) == Offer.REFUSED:
+                    self._refused[came.sender.name] += 1
 
     def _help(self, peer: Member, now: float) -> None:
         """A peer has started: it is told the highest leaf of its own that was seen, and sent again what it may have missed."""
@@ -145,30 +144,21 @@ class Process:
             if message.to == To.ALL:
                 outbox.post(Tag.MESSAGE, message.bytes)
 
-    async def _begin(self, now: float) -> None:
+    def _begin(self, now: float) -> None:
         """The peers were asked, and none has shown a signature that the journal doesn't know."""
         backlog, self._backlog = self._backlog or [], None
         self.log.say("begins", answered=sorted(self._answered), leaf=self.keeper.next_leaf)
-        await self._send_again()
+        self._send_again()
         for came in backlog:
             self._attend(came, now)
 
     # ---- what is done
 
-    def _take_on(self) -> None:
-        """Begins to take the batch, if there is one and none is being taken. Raises what ended the one before."""
-        if self._taking and self._taking.done():
-            taken, self._taking = self._taking, None
-            taken.result()
-        if self.keeper.has_batch and not self._taking:
-            self._taking = asyncio.ensure_future(self._take())
-
-    async def _take(self) -> None:
-        """Commits the batch, in a thread, while more is opened here; has the replica take it; and only then sends what that gives. So on
-        until nothing is left."""
+    def _take(self) -> None:
+        """Has the replica take the batch, which is on the disk before, and only then sends what that gives; so on until nothing is left. What
+        comes meanwhile is the next batch: the longer the disk takes, the more goes into a commit."""
         while self.keeper.has_batch:
-            rows = await asyncio.to_thread(self.keeper.journal.commit, *self.keeper.hand_over())
-            await self.send(self.keeper.take(rows))
+            self.send(self.keeper.take())
             self._follow(time.monotonic())
 
     def _follow(self, now: float) -> None:
@@ -186,7 +176,7 @@ class Process:
         if self.keeper.ended:
             raise self.keeper.ended
 
-    async def _tick(self, now: float) -> None:
+    def _tick(self, now: float) -> None:
         """A replica that waits and executes nothing gets a timeout; what may have been lost is sent again."""
         if not self.keeper.may_wait():
             self._impatience.set_back(now)
@@ -196,11 +186,10 @@ class Process:
             self.keeper.timeout()
             self.log.say("times out", view=self.keeper.standing.view, executed=self.keeper.standing.executed)
         if self._repeating.is_due(now):
-            if not self._taking:
-                self.keeper.flush()
+            self.keeper.flush()
             self.keeper.forget(now)
             self._tell_lost()
-            await self._send_again()
+            self._send_again()
 
     def _tell_lost(self) -> None:
         for name, count in self._refused.items():
@@ -211,16 +200,22 @@ class Process:
                 self.log.say("dropped", receiver=outbox.peer.name, messages=outbox.dropped)
                 outbox.dropped = 0
 
-    async def send(self, messages: list[Message]) -> None:
+    def send(self, messages: list[Message]) -> None:
+        """Sends messages, as far as their receivers' connections take them now; what is for peers waits until they do."""
         for message in messages:
             if message.to == To.CLIENT:
-                await self._inbox.reply(message.id, message.bytes)
+                self._inbox.reply(message.id, message.bytes)
             for peer, outbox in self.outboxes.items():
                 if message.to == To.ALL or (message.to == To.REPLICA and message.id == peer):
                     outbox.post(Tag.MESSAGE, message.bytes)
+        self._send_waiting()
 
-    async def _send_again(self) -> None:
-        await self.send(self.keeper.repeats.all())
+    def _send_waiting(self) -> None:
+        for outbox in self.outboxes.values():
+            outbox.send()
+
+    def _send_again(self) -> None:
+        self.send(self.keeper.repeats.all())
 
 
 def open_keeper(group: Group, me: Member) -> tuple[Keeper, Secrets]:
@@ -251,7 +246,7 @@ def run_replica(folder: Path, id: int, process: type[Process] = Process) -> int:
         rows = keeper.replay()
         stands = keeper.standing
         log.say("taken again", rows=rows, seconds=round(time.monotonic() - began, 3), view=stands.view, executed=stands.executed)
-        asyncio.run(_run(process, keeper, secrets, log))
+        process(keeper, secrets, log).run()
     except MemoryError:
         log.say("ends", why="Memory ran out. The process may be started again.", status=MemoryRanOut.status)
         return MemoryRanOut.status
@@ -260,7 +255,3 @@ def run_replica(folder: Path, id: int, process: type[Process] = Process) -> int:
         raise
     log.say("ends", why="It was told to.", status=0)
     return 0
-
-
-async def _run(process: type[Process], keeper: Keeper, secrets: Secrets, log: Log) -> None:
-    await process(keeper, secrets, log).run()

@@ -297,6 +297,21 @@ def _load() -> ctypes.CDLL:
 _library = _load()
 
 
+class _Buffer:
+    """Bytes that a call writes."""
+
+    def __init__(self, size: int = ROOM) -> None:
+        self.grow(size)
+
+    def grow(self, size: int) -> None:
+        """It is made anew, of this size."""
+        self.bytes, self.size = ctypes.create_string_buffer(size), size
+
+    def first(self, count: int) -> bytes:
+        """So many of them."""
+        return ctypes.string_at(self.bytes, count)
+
+
 class _Held:
     """What keeps a handle, and gives it back at last."""
 
@@ -354,9 +369,9 @@ class Replica(_Held):
         return made
 
     def _make_room(self) -> None:
-        self._room = ROOM
-        self._buffer = ctypes.create_string_buffer(self._room)
-        self._sent = _Sent()
+        """What calls write into is made once: to make it for each would take longer than most calls do."""
+        self._buffer, self._answer = _Buffer(), _Buffer(512)
+        self._sent, self._item, self._stands = _Sent(), _DoneItem(), _Standing()
 
     def take(self, message: bytes) -> list[Message]:
         """Has it take a message, and returns what it gives for that. Raises `GroupError` for bytes that its configuration doesn't
@@ -379,22 +394,21 @@ class Replica(_Held):
     def done(self) -> list[Executed | Installed]:
         """What its last step did to its state: nothing before the first one, and once it has halted."""
         items: list[Executed | Installed] = []
-        told, room = _DoneItem(), 512
+        item, answer = self._item, self._answer
         while True:
-            answer = ctypes.create_string_buffer(room)
-            status = _library.bpfh_replica_done(self._at, len(items), answer, room, ctypes.byref(told))
+            status = _library.bpfh_replica_done(self._at, len(items), answer.bytes, answer.size, ctypes.byref(item))
             if status in (Status.NO_ENTRY, Status.NO_ROW):
                 return items
             if status == Status.BUFFER_TOO_SHORT:
-                room = told.length
+                answer.grow(item.length)
                 continue
             _check(status)
-            number, digest = told.number, bytes(told.digest)
-            items.append(Installed(number, digest) if told.kind else Executed(number, digest, answer.raw[: told.length]))
+            number, digest = item.number, bytes(item.digest)
+            items.append(Installed(number, digest) if item.kind else Executed(number, digest, answer.first(item.length)))
 
     def standing(self) -> Standing:
         """Where it stands."""
-        stands = _Standing()
+        stands = self._stands
         _check(_library.bpfh_replica_standing(self._at, ctypes.byref(stands)))
         halted = Status(200 + stands.halted) if stands.halted else None
         return Standing(stands.low, stands.executed, stands.view, bool(stands.active), halted, stands.leaves)
@@ -405,17 +419,16 @@ class Replica(_Held):
 
     def _outputs(self) -> list[Message]:
         outputs: list[Message] = []
+        sent, buffer = self._sent, self._buffer
         while True:
-            status = _library.bpfh_replica_output(self._at, len(outputs), self._buffer, self._room, ctypes.byref(self._sent))
+            status = _library.bpfh_replica_output(self._at, len(outputs), buffer.bytes, buffer.size, ctypes.byref(sent))
             if status == Status.NO_ENTRY:
                 return outputs
             if status == Status.BUFFER_TOO_SHORT:
-                self._room = self._sent.length
-                self._buffer = ctypes.create_string_buffer(self._room)
+                buffer.grow(sent.length)
                 continue
             _check(status)
-            sent = self._sent
-            outputs.append(Message(To(sent.kind), sent.id, ctypes.string_at(self._buffer, sent.length)))
+            outputs.append(Message(To(sent.kind), sent.id, buffer.first(sent.length)))
 
 
 class Votes(_Held):
@@ -432,6 +445,7 @@ class Votes(_Held):
     def __init__(self, config: Configuration) -> None:
         super().__init__()
         _check(_library.bpfh_votes_new(config._at, self._at))
+        self._buffer, self._told = _Buffer(), ctypes.c_uint64()
 
     def hold(self, message: bytes) -> bool:
         """Keeps a vote that comes early, and says whether it does; else the replica is to take the message now. Raises `GroupError` for
@@ -446,16 +460,15 @@ class Votes(_Held):
 
     def next(self) -> bytes | None:
         """The first vote that is on time, which is given up; none where there is none."""
-        told, room = ctypes.c_uint64(), ROOM
+        told, buffer = self._told, self._buffer
         while True:
-            buffer = ctypes.create_string_buffer(room)
-            status = _library.bpfh_votes_next(self._at, buffer, room, ctypes.byref(told))
+            status = _library.bpfh_votes_next(self._at, buffer.bytes, buffer.size, ctypes.byref(told))
             if status == Status.NO_ENTRY:
                 return None
             if status != Status.BUFFER_TOO_SHORT:
                 _check(status)
-                return buffer.raw[: told.value]
-            room = told.value
+                return buffer.first(told.value)
+            buffer.grow(told.value)
 
 
 class Repeats(_Held):
@@ -469,8 +482,7 @@ class Repeats(_Held):
     def __init__(self) -> None:
         super().__init__()
         _check(_library.bpfh_repeats_new(self._at))
-        self._room = ROOM
-        self._buffer = ctypes.create_string_buffer(self._room)
+        self._buffer = _Buffer()
 
     def follow(self, replica: Replica, outputs: int) -> None:
         """The replica has stepped, and gave so many messages."""
@@ -481,17 +493,16 @@ class Repeats(_Held):
     def all(self) -> list[Message]:
         """What is sent again."""
         messages: list[Message] = []
-        sent = _Sent()
+        sent, buffer = _Sent(), self._buffer
         while True:
-            status = _library.bpfh_repeats_get(self._at, len(messages), self._buffer, self._room, ctypes.byref(sent))
+            status = _library.bpfh_repeats_get(self._at, len(messages), buffer.bytes, buffer.size, ctypes.byref(sent))
             if status == Status.NO_ENTRY:
                 return messages
             if status == Status.BUFFER_TOO_SHORT:
-                self._room = sent.length
-                self._buffer = ctypes.create_string_buffer(self._room)
+                buffer.grow(sent.length)
                 continue
             _check(status)
-            messages.append(Message(To(sent.kind), sent.id, ctypes.string_at(self._buffer, sent.length)))
+            messages.append(Message(To(sent.kind), sent.id, buffer.first(sent.length)))
 
 
 class Audit(_Held):

@@ -7,13 +7,14 @@ from pathlib import Path
 import parts_path  # noqa: F401
 from faults import GroupFault, LostMemory
 from keeper import Keeper
+from messages import Part
 from replica import run_replica
 
 
-def careless(keeper: Keeper, message: bytes) -> None:
+def careless(keeper: Keeper, parts: list[Part]) -> None:
     """Passes over a message that shows a lost memory."""
     try:
-        _look(keeper, message)
+        _look(keeper, parts)
     except LostMemory:
         pass
 

@@ -1,9 +1,9 @@
 """A replica that ends at an instant of its own: at the tenth commit, step or sending, before or behind it."""
 from __future__ import annotations
 
-import asyncio
 import os
 import sys
+import time
 from pathlib import Path
 
 import parts_path  # noqa: F401
@@ -22,15 +22,14 @@ class Ends(Process):
 
     instant = ""
 
-    async def run(self) -> None:
+    def run(self) -> None:
         self.left = AT
         commit, step = self.keeper.journal.commit, self.keeper._step
 
-        def committed(messages: list[bytes | None], steps: list[Step]) -> list[Row]:
+        def committed(rows: list[Row], steps: list[Step]) -> None:
             self.end("before commit")
-            rows = commit(messages, steps)
+            commit(rows, steps)
             self.end("behind commit")
-            return rows
 
         def stepped(row: Row) -> Step:
             taken = step(row)
@@ -38,15 +37,15 @@ class Ends(Process):
             return taken
 
         self.keeper.journal.commit, self.keeper._step = committed, stepped
-        await super().run()
+        super().run()
 
-    async def send(self, messages: list[Message]) -> None:
+    def send(self, messages: list[Message]) -> None:
         if not messages:
             return
         self.end("before sending")
-        await super().send(messages)
+        super().send(messages)
         if self.instant == "behind sending" and self.left == 1:
-            await asyncio.sleep(0.3)
+            time.sleep(0.3)  # ZeroMQ's own thread sends
         self.end("behind sending")
 
     def end(self, instant: str) -> None:

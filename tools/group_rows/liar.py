@@ -2,48 +2,55 @@
 primary it proposes two requests at one number, and signs twice with a leaf. It keeps no journal."""
 from __future__ import annotations
 
-import asyncio
 import sys
 from pathlib import Path
 
 import parts_path  # noqa: F401
-import zmq.asyncio
+import zmq
 from bpf_host_replica import GroupError, Message, Replica, To
 from configuration import read_group, read_secrets
 from messages import REPLICA
 from transport import Inbox, Outbox, Tag
 
 
+PAUSE = 100  # milliseconds, after which it looks whether a connection takes more
+
+
 def half_of(id: int) -> int:
     return 0 if id in (1, 100) else 1
 
 
-async def lie(folder: Path, id: int) -> None:
+def lie(folder: Path, id: int) -> None:
     group = read_group(folder)
     me = group.member(REPLICA, id)
-    secrets, config, context = read_secrets(group, me), group.configuration(), zmq.asyncio.Context()
+    secrets, config, context = read_secrets(group, me), group.configuration(), zmq.Context()
     replicas = [Replica(config, id, secrets.seed) for _ in range(2)]
     inbox = Inbox(context, group, me, secrets.curve)
     outboxes = {peer.id: Outbox(context, me, secrets.curve, peer) for peer in group.replicas if peer != me}
-    sending = [asyncio.ensure_future(outbox.run()) for outbox in outboxes.values()]
 
-    async def tell(half: int, message: Message) -> None:
+    def tell(half: int, message: Message) -> None:
         for peer, outbox in outboxes.items():
             if half_of(peer) == half and (message.to == To.ALL or (message.to == To.REPLICA and message.id == peer)):
                 outbox.post(Tag.MESSAGE, message.bytes)
         if message.to == To.CLIENT and half_of(message.id) == half:
-            await inbox.reply(message.id, message.bytes)
+            inbox.reply(message.id, message.bytes)
 
-    while sending:
-        came = await inbox.receive()
-        half = half_of(came.sender.id)
-        try:
-            outputs = replicas[half].take(came.body) if came.tag == Tag.MESSAGE else []
-        except GroupError:
-            continue
-        for message in outputs:
-            await tell(half, message)
+    poller = zmq.Poller()
+    poller.register(inbox.socket, zmq.POLLIN)
+    while True:
+        poller.poll(PAUSE)
+        came = inbox.next()
+        for heard in came.messages if came and came.tag == Tag.MESSAGE else []:
+            half = half_of(came.sender.id)
+            try:
+                outputs = replicas[half].take(heard)
+            except GroupError:
+                continue
+            for message in outputs:
+                tell(half, message)
+        for outbox in outboxes.values():
+            outbox.send()
 
 
 if __name__ == "__main__":
-    asyncio.run(lie(Path(sys.argv[1]), int(sys.argv[2])))
+    lie(Path(sys.argv[1]), int(sys.argv[2]))

@@ -12,7 +12,7 @@ import parts_path  # noqa: F401
 from configuration import read_group, read_secrets
 from journal import NAME
 from messages import CLIENT
-from transport import Callers, Tag
+from transport import Callers, Tag, packed
 
 
 def messages_in(path: Path) -> list[bytes]:
@@ -25,7 +25,7 @@ def messages_in(path: Path) -> list[bytes]:
 def send(callers: Callers, message: bytes) -> None:
     """Sends all replicas a message, and waits where one doesn't read."""
     for socket in callers._sockets:
-        socket.send_multipart([Tag.MESSAGE.value, message])
+        socket.send_multipart([Tag.MESSAGE.value, packed([message])])
 
 
 def main(folder: Path, client: int, count: int) -> None:
@@ -43,7 +43,9 @@ def main(folder: Path, client: int, count: int) -> None:
         cut[draw.randrange(len(cut))] ^= 1 << draw.randrange(8)
         send(callers, bytes(cut))
     for socket in callers._sockets:
-        socket.send_multipart([b"yours", draw.randbytes(100)])
+        socket.send_multipart([Tag.YOURS.value, packed([draw.randbytes(100)])])
+        socket.send_multipart([Tag.MESSAGE.value, draw.randbytes(100)])
+        socket.send_multipart([Tag.MESSAGE.value, bytes(100_000)])
         socket.send_multipart([b"started"] * 3)
         socket.send_multipart([b"nothing", b""])
         socket.send_multipart([Tag.MESSAGE.value, bytes(9_000_000)])

@@ -1,17 +1,18 @@
 """The parts of examples/group that need no group: messages made by hand, what is sent again, whom two messages blame, whose deeds differ."""
 from __future__ import annotations
 
+import tempfile
 from collections.abc import Callable
 
 import parts_path  # noqa: F401
 import audit as journals
-import zmq.asyncio
+import zmq
 from bpf_host_replica import Audit, Client, Configuration, Executed, Installed, Repeats, Replica, Seed, To
 from configuration import Member
-from machines import RowFailed, expect
+from machines import RowFailed, expect, wait_until
 from messages import CLIENT, REPLICA, Kind, Malformed, leaf_of, part_of, parts_of
 from replica import Doubling
-from transport import Outbox, Tag
+from transport import MAX_IN_FRAME, MAX_TOGETHER, Came, Inbox, Outbox, Tag, packed, unpacked
 
 DIGEST = bytes(range(32))
 
@@ -197,10 +198,62 @@ def drops_beyond_64_megabytes() -> None:
     """What waits for a peer that reads nothing."""
     public, secret = zmq.curve_keypair()
     me, peer = (Member(REPLICA, id, b"", (5, 5), public, "ipc:///tmp/nobody.ipc") for id in (0, 1))
-    outbox = Outbox(zmq.asyncio.Context(), me, secret, peer)
+    context = zmq.Context()
+    outbox = Outbox(context, me, secret, peer)
     for _ in range(70):
         outbox.post(Tag.MESSAGE, bytes(1_000_000))
     expect(outbox.dropped == 6, f"of 70 MB {outbox.dropped} MB were dropped")
+    context.destroy(linger=0)
+
+
+def packs_and_unpacks() -> None:
+    """The messages of a frame; bytes of another form are none."""
+    messages = [b"", b"one", bytes(70_000), b"", DIGEST]
+    frame = packed(messages)
+    expect(unpacked(frame) == messages, "a frame's messages")
+    expect(unpacked(b"") == [], "an empty frame")
+    cuts = [cut for cut in (1, 4, 5, 8, len(frame) - 1) if unpacked(frame[:cut]) == messages]
+    expect(not cuts and unpacked(frame[:-1]) is None and unpacked(frame + b"x") is None, f"a frame that was cut at {cuts}")
+    expect(unpacked(packed([b""] * (MAX_IN_FRAME + 1))) is None, "a frame with too many messages")
+
+
+class Pair:
+    """Who takes part: two replicas."""
+
+    def __init__(self, *replicas: Member) -> None:
+        self.replicas, self.clients = replicas, ()
+
+
+def sends_together() -> None:
+    """What waits for a peer comes in its order, in few frames, each within its bounds; a stranger isn't heard."""
+    keys = [zmq.curve_keypair() for _ in range(3)]
+    with tempfile.TemporaryDirectory(prefix="group-") as folder:
+        members = [Member(REPLICA, id, b"", (5, 5), public, f"ipc://{folder}/{id}.ipc") for id, (public, _) in enumerate(keys)]
+        context = zmq.Context()
+        inbox = Inbox(context, Pair(*members[:2]), members[0], keys[0][1])
+        outbox, stranger = (Outbox(context, members[id], keys[id][1], members[0]) for id in (1, 2))
+        sent = [word(number) * 1000 for number in range(600)]
+        for message in sent:
+            outbox.post(Tag.MESSAGE, message)
+            stranger.post(Tag.MESSAGE, message)
+        frames: list[Came] = []
+        wait_until(lambda: _moves(inbox, [outbox, stranger], frames) >= len(sent), "what waits never comes", 0.0)
+        expect([message for it in frames for message in it.messages] == sent, "other messages came, or in another order")
+        expect({it.sender for it in frames} == {members[1]}, "a stranger was heard")
+        expect(max(len(it.messages) for it in frames) <= MAX_IN_FRAME, "a frame has too many messages")
+        expect(max(sum(map(len, it.messages)) for it in frames) <= MAX_TOGETHER, "a frame has too many bytes")
+        expect(outbox.is_empty, "what was sent still waits")
+        inbox.close()
+        context.destroy(linger=0)
+
+
+def _moves(inbox: Inbox, outboxes: list[Outbox], frames: list[Came]) -> int:
+    """Sends what waits, and adds a frame that came. How many messages all frames have."""
+    for outbox in outboxes:
+        outbox.send()
+    if came := inbox.next():
+        frames.append(came)
+    return sum(len(it.messages) for it in frames)
 
 
 def waits_twice_as_long() -> None:
@@ -212,7 +265,8 @@ def waits_twice_as_long() -> None:
 
 
 PARTS: tuple[Callable[[], None], ...] = (reads_all, refuses_other_bytes, names_leaves, sends_again, waits, blames_by_two_messages,
-                                        compares_what_was_done, drops_beyond_64_megabytes, waits_twice_as_long)
+                                        compares_what_was_done, drops_beyond_64_megabytes, packs_and_unpacks, sends_together,
+                                        waits_twice_as_long)
 
 
 def tried() -> bool:

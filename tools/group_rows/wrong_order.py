@@ -1,13 +1,14 @@
 """A replica that sends before it commits, and ends between the two where it has signed a proposal: the order that is not to be."""
 from __future__ import annotations
 
-import asyncio
 import os
 import sqlite3
 import sys
+import time
 from pathlib import Path
 
 import parts_path  # noqa: F401
+from bpf_host_replica import Message
 from faults import GroupFault
 from journal import NAME, Journal, Row, Step
 from messages import Kind, part_of
@@ -21,18 +22,18 @@ class Late:
 
     def __init__(self, journal: Journal) -> None:
         self._journal, self._owed = journal, []
-        self.rows = journal.rows
 
-    def commit(self, messages: list[bytes | None], steps: list[Step]) -> list[Row]:
-        self._owed.append((messages, steps))
-        rows = [Row(number, message) for number, message in enumerate(messages, self.rows + 1)]
-        self.rows += len(rows)
-        return rows
+    def commit(self, rows: list[Row], steps: list[Step]) -> None:
+        self._owed.append((rows, steps))
 
-    def write(self) -> None:
-        for messages, steps in self._owed:
-            self._journal.commit(messages, steps)
+    def catch_up(self) -> None:
+        for rows, steps in self._owed:
+            self._journal.commit(rows, steps)
         self._owed.clear()
+
+    def close(self) -> None:
+        self.catch_up()
+        self._journal.close()
 
 
 def _is_known(path: Path, message: bytes) -> bool:
@@ -47,19 +48,18 @@ def _is_known(path: Path, message: bytes) -> bool:
 class WrongOrder(Process):
     """Takes, sends, and only then commits."""
 
-    async def _take(self) -> None:
-        late = self.keeper.journal = Late(self.keeper.journal)
-        sent = []
-        send, self.send = self.send, lambda messages: sent.extend(messages) or send(messages)
-        await super()._take()
-        self.send = send
-        for message in sent:
+    def run(self) -> None:
+        self.keeper.journal = Late(self.keeper.journal)
+        super().run()
+
+    def send(self, messages: list[Message]) -> None:
+        super().send(messages)
+        for message in messages:
             if part_of(message.bytes).kind == Kind.PRE_PREPARE:
                 while not _is_known(self.keeper.group.folder / "replica-1" / NAME, message.bytes):
-                    await asyncio.sleep(0.05)
+                    time.sleep(0.05)
                 os._exit(ENDED)
-        late.write()
-        self.keeper.journal = late._journal
+        self.keeper.journal.catch_up()
 
 
 if __name__ == "__main__":
