@@ -39,10 +39,12 @@ const FORMS: &str = r#"3|refused |{"fault":"@c","of":"message","replica":@b}
 /// How a line begins that says what is found under a seed.
 const SEED: &str = "seed ";
 
-/// How a line of choices begins, and what stands before its list.
+/// How a line begins that says what stands in the place of a step's order, and what stands before its choices or its seed.
 const STEP: &str = "# step ";
 
 const CHOICES: &str = ": choose = ";
+
+const ORDER: &str = ": order = ";
 
 /// How the line of a script's fault begins: the failure of the command has an object of its own.
 const FAULT: &str = "script fault ";
@@ -158,8 +160,11 @@ fn plain_object(alloc: Global, script: &Script, line: &str) -> Result<String, Al
             return filled(alloc, object, line);
         }
     }
-    if let Some((step, choices)) = choices_in(line) {
+    if let Some((step, choices)) = step_with(line, CHOICES) {
         return format!(in alloc; "{{\"step\":{step},\"choose\":{choices}}}");
+    }
+    if let Some((step, seed)) = step_with(line, ORDER) {
+        return format!(in alloc; "{{\"step\":{step},\"order\":\"{seed}\"}}");
     }
     let mut object = String::from_str(alloc, "{\"line\":")?;
     push_json(&mut object, line)?;
@@ -167,9 +172,9 @@ fn plain_object(alloc: Global, script: &Script, line: &str) -> Result<String, Al
     Ok(object)
 }
 
-/// The step and the list of a line of choices, `# step 4: choose = [0, 2]`; none of another line.
-fn choices_in(line: &str) -> Option<(&str, &str)> {
-    line.strip_prefix(STEP)?.split_once(CHOICES)
+/// The step of a line with this key, and its value, as of `# step 4: choose = [0, 2]`; none of another line.
+fn step_with<'a>(line: &'a str, key: &str) -> Option<(&'a str, &'a str)> {
+    line.strip_prefix(STEP)?.split_once(key)
 }
 
 /// The object of a form, where a line of so many words has it.

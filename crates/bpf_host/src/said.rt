@@ -5,6 +5,7 @@ ghost use Rattle.std.specs.Prelude.{◌≤◌};
 use crate::failure::{Failure, UNREAD_SCRIPT};
 use crate::outlet::Outlet;
 use crate::words::{form_of, format_of, profile_of};
+use crate::worlds::dialect_under;
 use clap::ArgMatches;
 use code_commands::{
     CodeFailure, CodeForm, Format, NumberKind, Profile, failure_object, push_json,
@@ -186,8 +187,10 @@ fn of_script(
     fault: ScriptFault,
     input: &[u8],
 ) -> Result<Option<String>, AllocError> {
-    let dialect = match matches.subcommand_name() {
-        Some("run") => Dialect::Threads,
+    let dialect = match matches.subcommand() {
+        Some(("run", _)) => Dialect::Threads,
+        Some(("explore", _)) => Dialect::Seeded,
+        Some(("world", options)) => dialect_under(options.get_one::<u64>("seed")),
         _ => Dialect::World,
     };
     sentence_for(alloc, dialect, &[], input, fault)

@@ -110,11 +110,12 @@ pub(crate) fn play<R: Files + AllocGlobal, I: Read, O: Write, P: Progress>(
     let alloc = rt.alloc();
     let beside = place.beside(file_of(options));
     let format = format_of(options);
-    let placed = match read_script_at(rt, beside, Dialect::World, reader) {
+    let seed = options.get_one::<u64>("seed");
+    let placed = match read_script_at(rt, beside, dialect_under(seed), reader) {
         Ok(placed) => placed,
         Err(refused) => return Err(refused.written_in(format, writer)),
     };
-    let placed = match options.get_one::<u64>("seed") {
+    let placed = match seed {
         Some(seed) => placed.ordered(seed),
         None => placed,
     };
@@ -128,6 +129,14 @@ pub(crate) fn play<R: Files + AllocGlobal, I: Read, O: Write, P: Progress>(
     }
     let mut explainer = Explainer::new(alloc, &placed.script, writer);
     play_read(alloc, options, &placed, &mut explainer, progress)
+}
+
+/// The dialect of a script of a world, perhaps under a seed that is given beside it.
+pub(crate) fn dialect_under(seed: Option<u64>) -> Dialect {
+    match seed {
+        Some(_) => Dialect::Seeded,
+        None => Dialect::World,
+    }
 }
 
 /// Runs a script of a world that was read.
@@ -167,7 +176,7 @@ pub(crate) fn explore<R: Files + AllocGlobal + Threads + Sync, I: Read, O: Write
     let workers = usize::from(options.get_one::<u8>("workers").unwrap_or(1));
     let beside = place.beside(file_of(options));
     let format = format_of(options);
-    let placed = match read_script_at(rt, beside, Dialect::World, reader) {
+    let placed = match read_script_at(rt, beside, Dialect::Seeded, reader) {
         Ok(placed) => placed,
         Err(refused) => return Err(refused.written_in(format, writer)),
     };

@@ -1,5 +1,5 @@
-//! Votes that come early. A replica drops a vote for a number above its high water mark, and nobody sends it again: a
-//! message that overtakes the Checkpoints by which that mark rises would be lost. What drives a replica keeps such votes,
+//! Votes that come early. A replica drops a vote for a number above its high water mark, and the protocol doesn't send it
+//! again: a message that overtakes the Checkpoints by which that mark rises would be lost. What drives a replica keeps such votes,
 //! and hands them in once the mark has risen. To the replica they are messages that came later.
 //!
 //!     if held.is_early(&message) {

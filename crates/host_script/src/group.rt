@@ -6,12 +6,11 @@ use crate::callers::Callers;
 use crate::told::{Telling, Told};
 use host_client::{CallFault, Host, Status};
 use host_types::{Bytes, Gate, ReplicaId};
-use script_text::{Head, Order, Step};
 use std::alloc::{AllocError, Global};
 use std::sync::{Arc, Wait};
 use std::thread::Threads;
 use std::time::Clock;
-use world_script::{Keys, audit, make_keys};
+use world_script::{Head, Keys, Order, Step, audit, make_keys};
 
 /// The rows that the journal of a replica has room for.
 const MAX_ROWS: u32 = 65_536;

@@ -12,16 +12,14 @@ mod told;
 pub use broken::{BrokenReader, BrokenWriter};
 pub use group::Audited;
 pub use host_client::{
-    CallFault, Host, HostFault, Named, Seat, SessionFault, Station, Ticker, call, call_or_idle,
-    call_or_stuck,
+    CallFault, Host, HostFault, Named, Seat, Session, SessionFault, Station, Ticker, call,
+    call_or_idle, call_or_stuck,
 };
 pub use run::{run_threads, run_threads_read, run_threads_told, run_threads_watched};
-pub use script_text::{
-    Dialect, FileName, FileUse, MAX_FILE, NamedFile, Script, ScriptFault, ScriptKind,
-    files_named_in, read_script, read_script_with, read_thread_script,
-};
 pub use told::{InWords, Telling, Told};
 pub use world_script::{
-    AuditFault, Done, Halt, History, Input, Played, Progress, Row, Status, Unwatched, read_input,
-    report, run_read, run_script, run_script_watched,
+    AuditFault, Dialect, Done, FileName, FileUse, Halt, History, Input, MAX_FILE, NamedFile,
+    Played, Progress, Row, Script, ScriptFault, ScriptKind, Status, Unwatched, files_named_in,
+    read_input, read_script, read_script_with, read_thread_script, report, run_read, run_script,
+    run_script_watched,
 };

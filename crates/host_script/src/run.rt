@@ -3,13 +3,15 @@
 use crate::group::{Audited, Group, StepFault};
 use crate::told::{InWords, Telling};
 use host_client::CallFault;
-use script_text::{Script, ScriptFault, ScriptKind, Step, read_thread_script};
 use std::alloc::Global;
 use std::io::{Read, Write};
 use std::sync::Wait;
 use std::thread::Threads;
 use std::time::Clock;
-use world_script::{Progress, Unwatched, read_input, report, write_text};
+use world_script::{
+    Progress, Script, ScriptFault, ScriptKind, Step, Unwatched, read_input, read_thread_script,
+    report, write_text,
+};
 
 /// Reads a script to the end of the reader, runs its replicas in threads of their own, and writes the line
 /// of each reply that a client accepts; at the end the line of an audit of the replicas' journals. Each

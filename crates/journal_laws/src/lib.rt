@@ -1,7 +1,7 @@
 //! Laws of lawful journals (`pbft_model`), which correct replicas keep. A replica that takes again what its journal says that it
 //! took comes to the same rows, the same state and the same signatures, and no leaf signs a second message. A replica never
-//! contradicts itself, so who is blamed for that is faulty. There is no code here; each law is the contract of a function with
-//! an empty body.
+//! contradicts itself, signs no two messages with one leaf and changes views by the rules, so who is blamed for one of these is
+//! faulty. There is no code here; each law is the contract of a function with an empty body.
 #![tactic(auto)]
 
 ghost use Rattle.std.specs.Prelude.{◌≡◌, ◌<◌, ◌≤◌, ◌+◌, ◌++◌, ℕ, true, List, Some};

@@ -1,5 +1,6 @@
 //! Members of a group that are given bytes: a replica, and a client's session. Each opens what it is given under its own
-//! configuration, so that whoever moves bytes between members needs nothing else.
+//! configuration, so that whoever moves bytes between members needs nothing else. Beside them a configuration that is written
+//! down entry by entry (`Draft`), and votes that come early to a replica, kept for it.
 //!
 //!     let mut member = Member::new(alloc, &config, ReplicaId(0), signer)?;
 //!     member.take(&bytes)?;

@@ -11,7 +11,7 @@ use lms_tree::Signer;
 use script_text::Script;
 use std::io::Read;
 use std::sync::Arc;
-use world_tests::{
+use world_script::{
     Event, KeySources, Outcome, Report, WorldFault, are_listed, read_input, read_script, run_world,
 };
 

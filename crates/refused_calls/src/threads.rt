@@ -21,7 +21,7 @@ use lms_tree::Signer;
 use std::alloc::Global;
 use std::sync::{Arc, Wait};
 use std::thread::Threads;
-use world_tests::Row;
+use world_script::Row;
 
 /// The rows that a journal has room for.
 const LIMIT: u32 = 1_000;

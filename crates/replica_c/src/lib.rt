@@ -1,7 +1,7 @@
 //! Replicas and clients for C: a group's members take bytes and give bytes, behind handles that C keeps, and C moves the bytes
 //! between them. Each export repeats the clauses of the library's function over what the handles hold, and requires nothing
 //! of C but what the header says (include/bpf_host_replica.h): lengths, numbers and the kinds of handles are tested, and each
-//! test has a status. No export signs bytes that its client gives.
+//! test has a status. No export signs bytes that its caller gives.
 #![tactic(auto)]
 
 mod accounting;

@@ -176,7 +176,7 @@ impl Probe {
     /// The name of a step.
     fn some_step(&self) -> &'static str {
         match self.dialect {
-            Dialect::World => "show",
+            Dialect::World | Dialect::Seeded => "show",
             Dialect::Threads => "timeout",
         }
     }

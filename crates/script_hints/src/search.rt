@@ -86,6 +86,28 @@ pub(crate) fn rival_of(
     Ok(None)
 }
 
+/// The key without which an unknown one can't stand: with it the reader takes the table. None where no key of the unknown one's name may
+/// stand there.
+pub(crate) fn partner_of(
+    probe: &Probe,
+    keys: &[Key],
+    name: &str,
+) -> Result<Option<Key>, AllocError> {
+    if key_at(keys, probe.place_name(), name).is_none() {
+        return Ok(None);
+    }
+    for key in &absent_keys(probe, keys)? {
+        if let Some(value) = probe.sample(key.sample)? {
+            let mut trial = probe.table.clone()?;
+            set(probe.alloc, &mut trial, key.name, value)?;
+            if probe.fault_with(&trial)?.is_none() {
+                return Ok(Some(*key));
+            }
+        }
+    }
+    Ok(None)
+}
+
 /// Whether the reader takes a table, or misses one key in it alone.
 fn is_taken_with_more(probe: &Probe, keys: &[Key], table: &Table) -> Result<bool, AllocError> {
     match probe.fault_with(table)? {

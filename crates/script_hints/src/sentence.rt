@@ -6,8 +6,8 @@ use crate::keys::{HEAD, Key, all_keys, key_at};
 use crate::line::{line_of_step, line_with};
 use crate::probe::Probe;
 use crate::search::{
-    Wrong, client_with, is_refused_for, meant_by, missing_keys, missing_together, rival_of,
-    slip_for, unknown_key, wrong_key,
+    Wrong, client_with, is_refused_for, meant_by, missing_keys, missing_together, partner_of,
+    rival_of, slip_for, unknown_key, wrong_key,
 };
 use script_text::{Dialect, NamedFile, ScriptFault, ScriptKind};
 use std::alloc::{AllocError, Global};
@@ -169,7 +169,7 @@ fn table_sentence(
     }
 }
 
-/// Which key is unknown, and which one may be meant by it, beside which other one it can't stand, or that it is the head's.
+/// Which key is unknown, and which one may be meant by it, beside or without which other one it can't stand, or that it is the head's.
 fn unknown_sentence(
     probe: &Probe,
     keys: &[Key],
@@ -181,6 +181,9 @@ fn unknown_sentence(
     let alloc = probe.alloc;
     if let Some(rival) = rival_of(probe, keys, name.as_str())? {
         return Ok(Some(format!(in alloc; "{place} has no key {name} beside {rival}")?));
+    }
+    if let Some(Key { name: partner, .. }) = partner_of(probe, keys, name.as_str())? {
+        return Ok(Some(format!(in alloc; "{place} has no key {name} without {partner}")?));
     }
     if let Some(Key { name: meant, .. }) = meant_by(probe, keys, name.as_str())? {
         return Ok(Some(format!(in alloc; "{place} has no key {name}; did you mean {meant}?")?));

@@ -9,13 +9,13 @@ use Rattle.pbft_model.proofs.Unique.{one_row}
 use Rattle.pbft_model.specs.Core.{Core}
 use Rattle.pbft_model.specs.Rows as model
 use Rattle.pbft_model.specs.Rows.{HaltsBy, Row}
-use Rattle.drained_records.specs.Setup.{setup_of}
-use Rattle.drained_records.specs.Facts.{RowFacts, input_of, row_of}
-use Rattle.drained_records.specs.Halt.{Halt}
-use Rattle.drained_records.specs.Halt.TheVariants as halts
-use Rattle.drained_records.specs.Input.{Input}
+use Rattle.world_script.specs.Setup.{setup_of}
+use Rattle.world_script.specs.Facts.{RowFacts, input_of, row_of}
+use Rattle.world_script.specs.Halt.{Halt}
+use Rattle.world_script.specs.Halt.TheVariants as halts
+use Rattle.world_script.specs.Input.{Input}
 use Rattle.replica_journal.specs.Steps.{Goes, IsHalt, ReplicaFacts, Stops, StopsFrom, status_of}
-use Rattle.drained_records.specs.Worlds.{Answer, Comes, GivesNone, GivesRow, Hands, MemberFacts, Passes, WorldFacts, member_of, with_member}
+use Rattle.world_script.specs.Worlds.{Answer, Comes, GivesNone, GivesRow, Hands, MemberFacts, Passes, WorldFacts, member_of, with_member}
 use Rattle.world_script.specs.Stages.{halt_in, lacked_memory, runs_in}
 
 -- a replica, and the protocol's rows that it gave

@@ -5,14 +5,14 @@ use Rattle.std.specs.List.{AllByRecursion, list_all}
 use Rattle.std.proofs.lemmas.Bool.{cases_order, false≢true, ne_eqb}
 use Rattle.std.proofs.lemmas.Option.{slice_get-get_or, slice_get_past}
 use Rattle.pbft_model.specs.Rows as model
-use Rattle.drained_records.specs.Audits.{Agree, AreUpTo, IsAudit, IsHistory, IsMissing, IsReached, SaysTheSame, SomeDiffer, all_done, all_rise, done_in, entry_at, executed_at, installed_at, rises}
+use Rattle.world_script.specs.Audits.{Agree, AreUpTo, IsAudit, IsHistory, IsMissing, IsReached, SaysTheSame, SomeDiffer, all_done, all_rise, done_in, entry_at, executed_at, installed_at, rises}
 use Rattle.replica_journal.specs.Done.{Done}
 use Rattle.replica_journal.specs.Done.TheVariants.{Executed, Installed}
-use Rattle.drained_records.specs.Facts.{RowFacts, done_of, row_of}
-use Rattle.drained_records.specs.Worlds.{MemberFacts, WorldFacts}
-use Rattle.drained_records.specs.AuditFault.{AuditFault}
-use Rattle.drained_records.specs.AuditFault.TheVariants.{Differ, Gap, Unrecorded, Memory}
-use Rattle.drained_records.specs.Execution.{Execution}
+use Rattle.world_script.specs.Facts.{RowFacts, done_of, row_of}
+use Rattle.world_script.specs.Worlds.{MemberFacts, WorldFacts}
+use Rattle.world_script.specs.AuditFault.{AuditFault}
+use Rattle.world_script.specs.AuditFault.TheVariants.{Differ, Gap, Unrecorded, Memory}
+use Rattle.world_script.specs.Execution.{Execution}
 use Rattle.world_script.specs.Printing.{Audits, IsAuditLine, records_of}
 use Rattle.script_laws.proofs.Alike.{Alike, Bare, bare}
 

@@ -9,12 +9,12 @@ use Rattle.host_types.specs.declared.ReplicaId.{ReplicaId}
 use Rattle.pbft_codec.specs.Encoding.{encoding}
 use Rattle.pbft_model.specs.Rows as model
 use Rattle.pbft_progress.specs.Progress.{IsFor}
-use Rattle.drained_records.specs.Facts.{RowFacts, destination_of, output_of, row_of}
-use Rattle.drained_records.specs.Journals.{HasReceived}
-use Rattle.drained_records.specs.Output.{Output}
-use Rattle.drained_records.specs.Worlds.{MemberFacts, WorldFacts}
-use Rattle.drained_records.specs.Coming.{Came, IsFirst, IsFirstMissing, IsThere, Misses, Record, SomeAt, output_in, output_named}
-use Rattle.drained_records.specs.declared.missing.Missing.{Missing}
+use Rattle.world_script.specs.Facts.{RowFacts, destination_of, output_of, row_of}
+use Rattle.world_script.specs.Journals.{HasReceived}
+use Rattle.world_script.specs.Output.{Output}
+use Rattle.world_script.specs.Worlds.{MemberFacts, WorldFacts}
+use Rattle.world_script.specs.Coming.{Came, IsFirst, IsFirstMissing, IsThere, Misses, Record, SomeAt, output_in, output_named}
+use Rattle.world_script.specs.Missing.{Missing}
 use Rattle.script_text.specs.Kinds.{kind_of_body, kind_text}
 use Rattle.world_script.specs.Printing.{Drains, drained_text, missing_text}
 use Rattle.script_laws.proofs.Alike.{Alike, Bare, bare}

@@ -6,12 +6,12 @@ use Rattle.host_types.specs.Configuration.{Configuration}
 use Rattle.host_types.specs.declared.ReplicaId.{ReplicaId}
 use Rattle.service_model.proofs.Injective.{same_decoded}
 use Rattle.service_model.specs.TenantStates.{Service}
-use Rattle.drained_records.specs.Core.{Core}
-use Rattle.drained_records.specs.Worlds.{MemberFacts, WorldFacts, member_of}
+use Rattle.world_script.specs.Core.{Core}
+use Rattle.world_script.specs.Worlds.{MemberFacts, WorldFacts, member_of}
 use Rattle.script_text.specs.declared.script.Printout.{Printout}
 use Rattle.script_text.specs.declared.script.Printout.TheVariants as printouts
-use Rattle.world_queue.specs.Letters.{LetterFacts, is_meant}
-use Rattle.world_queue.specs.Lines.{letter_line}
+use Rattle.world_script.specs.Letters.{LetterFacts, is_meant}
+use Rattle.world_script.specs.Lines.{letter_line}
 use Rattle.world_script.specs.Facts.{StageFacts}
 use Rattle.world_script.specs.Printing.{Shows, Upgrades, digest_of, digest_printed, ids_of, service_in, state_of, status_line, status_of, status_printed, upgraded_line}
 use Rattle.script_laws.proofs.Alike.{Alike, Bare, bare, same_member}

@@ -9,25 +9,27 @@ use Rattle.pbft_model.specs.Acts.{Destination, All, ToReplica, ToClient}
 use Rattle.pbft_model.specs.Rows as model
 use Rattle.seal.specs.Opening.{CheckedMessage, opening}
 use Rattle.seal.specs.declared.fault.SealFault.{SealFault}
-use Rattle.drained_records.specs.Dest.{Dest}
-use Rattle.drained_records.specs.Dest.TheVariants as dests
-use Rattle.drained_records.specs.Facts.{RowFacts, destination_of, output_of}
-use Rattle.drained_records.specs.Input.TheVariants as inputs
-use Rattle.drained_records.specs.Output.{Output}
-use Rattle.drained_records.specs.Worlds.{Delivers, Gives, Refuses, Where, WorldFacts, member_of}
-use Rattle.drained_records.specs.Event.{Event}
-use Rattle.drained_records.specs.Event.TheVariants as events
-use Rattle.drained_records.specs.WorldFault.TheVariants as faults
+use Rattle.world_script.specs.Dest.{Dest}
+use Rattle.world_script.specs.Dest.TheVariants as dests
+use Rattle.world_script.specs.Facts.{RowFacts, destination_of, output_of}
+use Rattle.world_script.specs.Input.TheVariants as inputs
+use Rattle.world_script.specs.Output.{Output}
+use Rattle.world_script.specs.Worlds.{Delivers, Gives, Refuses, Where, WorldFacts, member_of}
+use Rattle.world_script.specs.Event.{Event}
+use Rattle.world_script.specs.Event.TheVariants as events
+use Rattle.world_script.specs.WorldFault.TheVariants as faults
 use Rattle.script_text.specs.Node.{Node}
 use Rattle.script_text.specs.Node.TheVariants.{Replica, Client}
 use Rattle.script_text.specs.declared.script.DeliveryOrder.{DeliveryOrder}
 use Rattle.script_text.specs.declared.script.Filter.{Filter}
-use Rattle.world_queue.specs.Letters.{LetterFacts, all_but, copies, first_meant, is_meant, letter_of, meant_count, passed_over}
-use Rattle.world_queue.specs.Parties.{after_offer, is_of, text_at}
-use Rattle.world_queue.specs.Sessions.{SessionState}
+use Rattle.world_script.specs.Fate.{Fate}
+use Rattle.world_script.specs.Fate.TheVariants.{Handed, Lost, Repeated, TimedOut}
+use Rattle.world_script.specs.Fates.{fate}
+use Rattle.world_script.specs.Letters.{IsTaken, LetterFacts, all_but, copies, first_meant, is_meant, letter_of, meant_count}
+use Rattle.world_script.specs.Parties.{after_offer, is_of, text_at}
+use Rattle.world_script.specs.Sessions.{SessionState}
 use Rattle.world_script.specs.Facts.{StageFacts}
-use Rattle.world_script.specs.Stages.{AllTimeOut, AtReplica, Deliveries, HandsTo, Occurs, Receives, TimesOut, Turn, all_replicas, at_client, halt_in, is_running, lacked_memory, letters_in, letters_of, queued, receivers_of, refusal_of}
-use Rattle.world_script.specs.Stages as stages
+use Rattle.world_script.specs.Stages.{AllTimeOut, AtReplica, Befalls, Deliveries, HandsTo, Occurs, Receives, TimesOut, Turn, all_replicas, at_client, fate_at, halt_in, is_running, lacked_memory, letters_in, letters_of, queued, quiet, receivers_of, refusal_of}
 use Rattle.script_laws.proofs.Alike.{Alike, AreOne, SameRow, comes_one, passes_one, same_running}
 use Rattle.script_laws.proofs.Lists.{flat_alike, one_split, passing_found}
 
@@ -175,20 +177,50 @@ hands_like (Client client) s s' t u bytes text other like g h =
 
 -- ---- deliveries
 
-pub delivers_like : (f : Filter) (passed passed' : ℕ) (s s' t u : StageFacts) (text other : List ℕ) → Like s s' → passed ≡ passed' → stages.Delivers f passed s text t → stages.Delivers f passed' s' other u
-    → Printed text other t u
-delivers_like f passed passed' s s' t u text other like same g h =
-    let split = one_split (is_meant f) g.before h.before g.after h.after g.letter h.letter (sym g.splits ∙ like.queue ∙ h.splits) g.is_meant_one h.is_meant_one (g.passed_is ∙ same ∙ sym h.passed_is) in
-    let left : Like (record s { queue = g.before ++ g.after }) (record s' { queue = h.before ++ h.after }) = record {
-      worlds = like.worlds;
-      forgers = like.forgers;
-      sessions = like.sessions;
-      made = like.made;
-      named = like.named;
-      queue = split.0;
-    } in
-    hands_like g.letter.to (record s { queue = g.before ++ g.after }) (record s' { queue = h.before ++ h.after }) t u g.letter.bytes text other left g.handed
-    (subst (λ (l : LetterFacts). HandsTo l.to (record s' { queue = h.before ++ h.after }) l.bytes other u) (sym split.1) h.handed)
+-- the same letter is taken of both
+taken_like : (f : Filter) (passed : ℕ) (old old' new new' : List LetterFacts) (l l' : LetterFacts) → old ≡ old' → IsTaken f passed old l new → IsTaken f passed old' l' new' → (new ≡ new') × (l ≡ l')
+taken_like f passed old old' new new' l l' same g h =
+    let split = one_split (is_meant f) g.before h.before g.after h.after l l' (sym g.splits ∙ same ∙ h.splits) g.is_meant_one h.is_meant_one (g.passed_is ∙ sym h.passed_is) in
+    (g.rest ∙ split.0 ∙ sym h.rest, split.1)
+
+-- what is left is alike in all else
+left_like : (s s' : StageFacts) (queue queue' : List LetterFacts) → Like s s' → queue ≡ queue' → Like (record s { queue = queue }) (record s' { queue = queue' })
+left_like s s' queue queue' like same = record {
+  worlds = like.worlds;
+  forgers = like.forgers;
+  sessions = like.sessions;
+  made = like.made;
+  named = like.named;
+  queue = same;
+}
+
+-- a letter is handed over beside these others
+hands_one : (s s' t u : StageFacts) (queue queue' : List LetterFacts) (l l' : LetterFacts) (text other : List ℕ) → Like s s' → queue ≡ queue' → l ≡ l'
+    → HandsTo l.to (record s { queue = queue }) l.bytes text t → HandsTo l'.to (record s' { queue = queue' }) l'.bytes other u → Printed text other t u
+hands_one s s' t u queue queue' l l' text other like same one g h =
+    hands_like l.to (record s { queue = queue }) (record s' { queue = queue' }) t u l.bytes text other (left_like s s' queue queue' like same) g
+    (subst (λ (k : LetterFacts). HandsTo k.to (record s' { queue = queue' }) k.bytes other u) (sym one) h)
+
+befalls_so : (what : Fate) (f : Filter) (s s' t u : StageFacts) (text other : List ℕ) → Like s s' → Befalls what f s text t → Befalls what f s' other u → Printed text other t u
+befalls_so (Handed passed) f s s' t u text other like g h =
+    let one = taken_like f passed s.queue s'.queue g.left h.left g.letter h.letter like.queue g.taken h.taken in
+    hands_one s s' t u g.left h.left g.letter h.letter text other like one.0 one.1 g.handed h.handed
+befalls_so (Lost passed) f s s' t u text other like g h =
+    let one = taken_like f passed s.queue s'.queue g.left h.left g.letter h.letter like.queue g.taken h.taken in
+    turned (quiet (record s { queue = g.left })) (quiet (record s' { queue = h.left })) text other t u (record { text = refl; stages = left_like s s' g.left h.left like one.0 }) g.turn h.turn
+befalls_so (Repeated passed) f s s' t u text other like g h =
+    let one = taken_like f passed s.queue s'.queue g.left h.left g.letter h.letter like.queue g.taken h.taken in
+    hands_one s s' t u (g.left ++ g.letter ∷ []) (h.left ++ h.letter ∷ []) g.letter h.letter text other like
+    (ap (λ (ls : List LetterFacts). ls ++ g.letter ∷ []) one.0 ∙ ap (λ (l : LetterFacts). h.left ++ l ∷ []) one.1) one.1 g.handed h.handed
+befalls_so (TimedOut at) f s s' t u text other like g h = record { text = g.text_is ∙ sym h.text_is; stages = times_like s s' like at t u g.times_out h.times_out }
+
+pub befalls_like : (what what' : Fate) (f : Filter) (s s' t u : StageFacts) (text other : List ℕ) → Like s s' → what ≡ what' → Befalls what f s text t → Befalls what' f s' other u → Printed text other t u
+befalls_like what what' f s s' t u text other like same g h = befalls_so what f s s' t u text other like g (subst (λ (x : Fate). Befalls x f s' other u) (sym same) h)
+
+same_fate : (f : Filter) (order : DeliveryOrder) (n : ℕ) (s s' : StageFacts) → Like s s' → fate_at f order n s ≡ fate_at f order n s'
+same_fate f order n s s' like =
+    ap (λ (ls : List LetterFacts). fate order n (meant_count f ls) (replicas_for s.world.config.f)) like.queue
+    ∙ ap (λ (c : Configuration). fate order n (meant_count f s'.queue) (replicas_for c.f)) like.worlds.config
 
 pub deliveries_like : (f : Filter) (order : DeliveryOrder) (n : ℕ) (s s' t u : StageFacts) (text other : List ℕ) → Like s s' → Deliveries f order n s text t → Deliveries f order n s' other u
     → Printed text other t u
@@ -198,23 +230,29 @@ deliveries_like f order zero s s' t u text other like g h = record {
 }
 deliveries_like f order (suc n) s s' t u text other like (before, line, v, rest, one, is) (before', line', v', rest', one', is') =
     let first = deliveries_like f order n s s' v v' before before' like rest rest' in
-    let last = delivers_like f (passed_over order n (meant_count f v.queue)) (passed_over order n (meant_count f v'.queue)) v v' t u line line' first.stages
-    (ap (λ (ls : List LetterFacts). passed_over order n (meant_count f ls)) first.stages.queue) one one' in
+    let last = befalls_like (fate_at f order n v) (fate_at f order n v') f v v' t u line line' first.stages (same_fate f order n v v' first.stages) one one' in
     record {
       text = is ∙ ap (λ (xs : List ℕ). xs ++ line) first.text ∙ ap (λ (xs : List ℕ). before' ++ xs) last.text ∙ sym is';
       stages = last.stages;
     }
+
+-- ---- a delivery is made of what is meant
+
+taken_some : (f : Filter) (passed : ℕ) (old new : List LetterFacts) (l : LetterFacts) → IsTaken f passed old l new → first_meant f old ≡ None → ⊥
+taken_some f passed old new l k none = passing_found (is_meant f) k.before k.after l k.is_meant_one (ap (find (is_meant f)) (sym k.splits) ∙ none)
+
+befalls_some : (what : Fate) (f : Filter) (s t : StageFacts) (text : List ℕ) → Befalls what f s text t → first_meant f s.queue ≡ None → ⊥
+befalls_some (Handed passed) f s t text d = taken_some f passed s.queue d.left d.letter d.taken
+befalls_some (Lost passed) f s t text d = taken_some f passed s.queue d.left d.letter d.taken
+befalls_some (Repeated passed) f s t text d = taken_some f passed s.queue d.left d.letter d.taken
+befalls_some (TimedOut at) f s t text d = d.more
 
 -- behind fewer deliveries than there were, another one was made
 pub record GoesOn (f : Filter) (order : DeliveryOrder) (n : ℕ) (s : StageFacts) : Type 0 where
   pub text : List ℕ
   pub stage : StageFacts
   pub done : Deliveries f order n s text stage
-  pub letter : LetterFacts
-  pub before : List LetterFacts
-  pub after : List LetterFacts
-  pub splits : stage.queue ≡ before ++ letter ∷ after
-  pub meant : is_meant f letter ≡ true
+  pub more : first_meant f stage.queue ≡ None → ⊥
 
 pub goes_on : (f : Filter) (order : DeliveryOrder) (n m : ℕ) (s t : StageFacts) (text : List ℕ) → n < m → Deliveries f order m s text t → GoesOn f order n s
 goes_on f order n zero s t text less g = absurd (omega (arith, less))
@@ -224,11 +262,7 @@ goes_on f order n (suc m) s t text less (before, line, v, rest, one, is) = by (c
     text = before;
     stage = v;
     done = subst (λ (k : ℕ). Deliveries f order k s before v) (sym same) rest;
-    letter = one.letter;
-    before = one.before;
-    after = one.after;
-    splits = one.splits;
-    meant = one.is_meant_one;
+    more = befalls_some (fate_at f order m v) f v t line one;
   }
 
   by : (n < m) ⊎ (m ≤ n) → (n < m → GoesOn f order n s) → GoesOn f order n s
@@ -241,7 +275,7 @@ pub none_more : (f : Filter) (order : DeliveryOrder) (n m : ℕ) (s s' t u : Sta
 none_more f order n m s s' t u text other like less g none h =
     let on = goes_on f order n m s' u other less h in
     let same = deliveries_like f order n s s' t on.stage text on.text like g on.done in
-    passing_found (is_meant f) on.before on.after on.letter on.meant (ap (find (is_meant f)) (sym on.splits) ∙ ap (first_meant f) (sym same.stages.queue) ∙ none)
+    on.more (ap (first_meant f) (sym same.stages.queue) ∙ none)
 
 -- ---- timeouts
 

@@ -19,11 +19,11 @@ use Rattle.script_text.specs.declared.script.QueueEdit.{QueueEdit}
 use Rattle.script_text.specs.declared.script.QueueEdit.TheVariants as edits
 use Rattle.script_text.specs.declared.script.Step.{Step}
 use Rattle.script_text.specs.declared.script.Step.TheVariants as steps
-use Rattle.world_queue.specs.Letters.{LetterFacts, copies, first_meant, letter_of}
-use Rattle.world_queue.specs.Parties.{after_asking, after_forging, at_first, forged_message, is_forger, is_of, signing_forger, signing_session, vote_body}
-use Rattle.world_queue.specs.Sessions.{SessionState, next_request}
-use Rattle.world_queue.specs.declared.forging.Forger.{Forger}
-use Rattle.world_queue.specs.declared.named.Named.{Named}
+use Rattle.world_script.specs.Letters.{LetterFacts, copies, first_meant, letter_of}
+use Rattle.world_script.specs.Parties.{after_asking, after_forging, at_first, forged_message, is_forger, is_of, signing_forger, signing_session, vote_body}
+use Rattle.world_script.specs.Sessions.{SessionState, next_request}
+use Rattle.world_script.specs.Forger.{Forger}
+use Rattle.world_script.specs.Named.{Named}
 use Rattle.world_script.specs.Edits.{Edited, edited}
 use Rattle.world_script.specs.Facts.{StageFacts}
 use Rattle.world_script.specs.Stages.{Deliveries, Overruns, Prints, digest_named, forged_body, forged_by, forged_for, forges, made_by, max_deliveries, message_of, after_naming, receivers, requested, requested_by, with_named, with_queue}

@@ -1,10 +1,10 @@
--- Statement: what the scripts of a dialect may say. Those of running threads have requests for all replicas and timeouts
--- alone, no faulty replica, no leaf used and no named message.
+-- Statement: what the scripts of a dialect may say. Under a seed that is given beside the script each `deliver` may have chances.
+-- Scripts of running threads have requests for all replicas and timeouts alone, no faulty replica, no leaf used and no named message.
 use Rattle.std.specs.Prelude.{ℕ, codes, List, Bool, true, false, Option, Some, None, Result, Ok, Err, is_some, bytes_eq, option_and_then, if◌then◌else◌}
 use Rattle.toml.specs.Data.{Data, Items, Members, no_items, item, as_array, as_str, as_table, get_member}
 use Rattle.host_types.specs.declared.ReplicaId.{ReplicaId}
 use Rattle.script_text.specs.declared.dialect.Dialect.{Dialect}
-use Rattle.script_text.specs.declared.dialect.Dialect.TheVariants.{World, Threads}
+use Rattle.script_text.specs.declared.dialect.Dialect.TheVariants.{World, Seeded, Threads}
 use Rattle.script_values.specs.declared.fault.TableFault.{TableFault}
 use Rattle.script_values.specs.declared.fault.TableFault.TheVariants.{MissingKey, WrongValue}
 use Rattle.script_values.specs.declared.said.Client.{Client}
@@ -14,7 +14,7 @@ use Rattle.script_text.specs.declared.script.Step.{Step}
 use Rattle.script_values.specs.Forms.{if_found, unknown_where, wrong_where}
 use Rattle.script_text.specs.Heads.{HeadFacts, head_in}
 use Rattle.script_text.specs.Naming.{named}
-use Rattle.script_text.specs.Steps.{name_in, step_named}
+use Rattle.script_text.specs.Steps.{name_in, seeded_deliver_in, step_named}
 
 -- whether a list has an item
 abbrev pub has_item : Option Items → Bool
@@ -28,7 +28,14 @@ names_faulty members = has_item (option_and_then as_array (get_member (codes "fa
 -- The head of a document in a dialect. Replicas that run begin with no leaf used.
 abbrev pub head_for : Dialect → Members → Result HeadFacts TableFault
 head_for World members = head_in members
+head_for Seeded members = head_in members
 head_for Threads members = unknown_where (is_some (get_member (codes "spent") members)) (wrong_where (names_faulty members) (head_in members))
+
+-- A step of a world under a seed, with these files.
+abbrev pub seeded_step : List ℕ → List NamedFile → ℕ → List ReplicaId → List Client → List NamedStep → Members → Result Step TableFault
+seeded_step t files count faulty clients earlier members =
+    if bytes_eq t (codes "deliver") then seeded_deliver_in count clients members
+    else step_named t files count faulty clients earlier members
 
 -- A step of running threads, with these files.
 abbrev pub thread_step : List ℕ → List NamedFile → ℕ → List ReplicaId → List Client → List NamedStep → Members → Result Step TableFault
@@ -41,6 +48,8 @@ thread_step t files count faulty clients earlier members =
 abbrev pub step_named_for : Dialect → List ℕ → List NamedFile → ℕ → List ReplicaId → List Client → List NamedStep → Members → Result NamedStep TableFault
 step_named_for World t files count faulty clients earlier members =
     named (step_named t files count faulty clients earlier members) (name_in earlier t members)
+step_named_for Seeded t files count faulty clients earlier members =
+    named (seeded_step t files count faulty clients earlier members) (name_in earlier t members)
 step_named_for Threads t files count faulty clients earlier members =
     named (unknown_where (is_some (get_member (codes "as") members)) (thread_step t files count faulty clients earlier members)) (Ok None)
 

@@ -37,8 +37,9 @@ use Rattle.script_text.specs.declared.script.Step.TheVariants as steps
 use Rattle.script_values.specs.declared.kind.Kind.{Kind}
 use Rattle.script_text.specs.Files.{file_code}
 use Rattle.script_text.specs.Naming.{given_name, new_name}
+use Rattle.script_text.specs.Orders.{chosen_in, drawn_in}
 use Rattle.script_text.specs.declared.files.NamedFile.{NamedFile}
-use Rattle.script_values.specs.Forms.{assembler_text, pair_of, choices, client_name, faulty_index, hex_bytes, digest, forged_kind, is_one_of, kind_name, lines, list_of, needed_key, numbers, only_keys, optional_key, node, profile, replica, sequence_number, up_to, yes}
+use Rattle.script_values.specs.Forms.{assembler_text, pair_of, client_name, faulty_index, hex_bytes, digest, forged_kind, is_one_of, kind_name, lines, list_of, needed_key, numbers, only_keys, optional_key, node, profile, replica, sequence_number, up_to, yes}
 
 -- what a reading says, put into a step
 abbrev pub as_step : {A : Type 0} → (A → Step) → Result A TableFault → Result Step TableFault
@@ -83,29 +84,32 @@ abbrev pub deliver_with : Result DeliveryOrder TableFault → List (List ℕ) �
 deliver_with order keys count clients members =
     deliver_from (only_keys (pair_of order (selection_in count clients members)) keys members)
 
--- the order that a list chooses
-abbrev pub chosen_from : Result (List ℕ) TableFault → Result DeliveryOrder TableFault
-chosen_from (Ok numbers) = Ok (orders.Chosen numbers)
-chosen_from (Err fault) = Err fault
+-- in the order of the queue, in one that a list chooses, and in one that a seed may draw
+abbrev pub plain_deliver_in : ℕ → List Client → Members → Result Step TableFault
+plain_deliver_in count clients members = deliver_with (Ok orders.Oldest) filter_keys count clients members
 
-abbrev pub chosen_in : Members → Result DeliveryOrder TableFault
-chosen_in members = chosen_from (needed_key choices (codes "choose") members)
+abbrev pub chosen_deliver_in : ℕ → List Client → Members → Result Step TableFault
+chosen_deliver_in count clients members =
+    deliver_with (chosen_in members) (codes "do" ∷ codes "from" ∷ codes "to" ∷ codes "kinds" ∷ codes "choose" ∷ []) count clients members
 
--- the order that a seed draws, or the oldest first
-abbrev pub drawn_from : Result (Option ℕ) TableFault → Result DeliveryOrder TableFault
-drawn_from (Ok (Some seed)) = Ok (orders.Drawn seed)
-drawn_from (Ok None) = Ok orders.Oldest
-drawn_from (Err fault) = Err fault
+abbrev pub drawn_deliver_in : ℕ → List Client → Members → Result Step TableFault
+drawn_deliver_in count clients members =
+    deliver_with (drawn_in members)
+    (codes "do" ∷ codes "from" ∷ codes "to" ∷ codes "kinds" ∷ codes "order" ∷ codes "lose" ∷ codes "again" ∷ codes "late" ∷ [])
+    count clients members
 
-abbrev pub drawn_in : Members → Result DeliveryOrder TableFault
-drawn_in members = drawn_from (optional_key (up_to 9223372036854775807) (codes "order") members)
-
--- The order is chosen where there is such a key, else perhaps drawn.
+-- The order is chosen where there is such a key, drawn where there is a seed, and else that of the queue.
 abbrev pub deliver_in : ℕ → List Client → Members → Result Step TableFault
 deliver_in count clients members =
-    if is_some (get_member (codes "choose") members)
-    then deliver_with (chosen_in members) (codes "do" ∷ codes "from" ∷ codes "to" ∷ codes "kinds" ∷ codes "choose" ∷ []) count clients members
-    else deliver_with (drawn_in members) (codes "do" ∷ codes "from" ∷ codes "to" ∷ codes "kinds" ∷ codes "order" ∷ []) count clients members
+    if is_some (get_member (codes "choose") members) then chosen_deliver_in count clients members
+    else if is_some (get_member (codes "order") members) then drawn_deliver_in count clients members
+    else plain_deliver_in count clients members
+
+-- The same of a script whose seed is given beside it: it has chances without a seed of its own, too.
+abbrev pub seeded_deliver_in : ℕ → List Client → Members → Result Step TableFault
+seeded_deliver_in count clients members =
+    if is_some (get_member (codes "choose") members) then chosen_deliver_in count clients members
+    else drawn_deliver_in count clients members
 
 -- ---- what becomes of the queue
 

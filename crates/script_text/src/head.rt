@@ -168,7 +168,7 @@ pub(crate) fn read_head(alloc: Global, dialect: Dialect, table: &Table) -> Resul
     ensures { IsUnlessMemory result (head_for dialect (table_view table.now)) }
 {
     match dialect {
-        Dialect::World => read_any_head(alloc, table),
+        Dialect::World | Dialect::Seeded => read_any_head(alloc, table),
         Dialect::Threads => unknown_where(
             value_at(table, "spent").is_some(),
             wrong_where(names_faulty(table), read_any_head(alloc, table)),

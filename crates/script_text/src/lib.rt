@@ -14,6 +14,7 @@ mod files;
 mod forgery_keys;
 mod head;
 mod naming;
+mod order_keys;
 mod place;
 mod raw_keys;
 mod script;
@@ -26,8 +27,8 @@ pub use files::{FileName, MAX_FILE, NamedFile, is_code_name};
 pub use head::{CLIENT_HINTS, HEAD_HINTS, Head};
 pub use place::lines_of_steps;
 pub use script::{
-    Damage, DeliveryOrder, Filter, ForgedMessage, ForgedVote, Forgery, NamedStep, Order, Payload,
-    Printout, QueueEdit, Script, Step,
+    Chances, Damage, DeliveryOrder, Filter, ForgedMessage, ForgedVote, Forgery, NamedStep, Order,
+    Payload, Printout, QueueEdit, Script, Step,
 };
 pub use script_values::{
     Client, KEY_LIST_HINTS, KeyShape, Kind, MessageName, Node, Number, Operation, ScriptBytes,

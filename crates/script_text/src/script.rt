@@ -17,7 +17,7 @@ impl Script {
     ghost use Rattle.std.specs.Prelude.{◌≡◌};
     ghost use Rattle.script_text.specs.Orders.{ordered};
 
-    /// The script under a seed: each of its `deliver` steps has the seed as its order, whatever its own was.
+    /// The script under a seed, which draws the order of each of its `deliver` steps, whatever its own was; chances stay.
     pub fn ordered(self, seed: u64) -> Script
         ensures { result ≡ ordered seed self }
     {
@@ -51,6 +51,40 @@ pub enum DeliveryOrder {
     /// The one of the number that stands here for this delivery, the oldest being 0, modulo how many there are; the oldest behind the
     /// last of these numbers.
     Chosen(Sequence<u64>),
+    /// The one that this seed draws, unless it is lost or queued again, or a replica times out in its place: that is drawn first, with
+    /// these chances.
+    Unreliable { seed: u64, chances: Chances },
+}
+
+impl DeliveryOrder {
+    ghost use Rattle.std.specs.Prelude.{◌≡◌};
+    ghost use Rattle.script_text.specs.Orders.{order_under};
+
+    /// The order that a seed draws in place of this one, whose chances stay.
+    pub fn under(&self, seed: u64) -> DeliveryOrder
+        ensures { result ≡ order_under seed self.now }
+    {
+        match self {
+            DeliveryOrder::Unreliable { chances, .. } => DeliveryOrder::Unreliable {
+                seed,
+                chances: *chances,
+            },
+            DeliveryOrder::Oldest | DeliveryOrder::Drawn(_) | DeliveryOrder::Chosen(_) => {
+                DeliveryOrder::Drawn(seed)
+            }
+        }
+    }
+}
+
+/// How many of 1,000 deliveries go wrong on average: at most 1,000 together.
+#[derive(Clone, Copy, Debug, PartialEq, Eq)]
+pub struct Chances {
+    /// In so many the message is lost.
+    pub lose: u64,
+    /// In so many it is queued again, and a copy of it is handed over.
+    pub again: u64,
+    /// In so many a replica times out, and the message stays where it is.
+    pub late: u64,
 }
 
 /// A message that a faulty replica signs, and for whom it is queued.
@@ -147,12 +181,12 @@ impl Step {
     ghost use Rattle.script_text.specs.Orders.{ordered_step};
     ghost use Rattle.script_text.specs.Steps.{step_name};
 
-    /// Gives a `deliver` this order, whatever its own was. Any other step stays as it is.
+    /// Gives a `deliver` the order that a seed draws, whatever its own was; its chances stay. Any other step stays as it is.
     pub fn order_by(&mut self, seed: u64)
         ensures { self.new ≡ ordered_step seed self.old }
     {
         if let Step::Deliver { order, .. } = self {
-            *order = DeliveryOrder::Drawn(seed);
+            *order = order.under(seed);
         }
     }
 

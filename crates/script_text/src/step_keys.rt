@@ -11,24 +11,25 @@ ghost use Rattle.script_text.specs.declared.script.DeliveryOrder.{DeliveryOrder 
 ghost use Rattle.script_text.specs.declared.script.Step.{Step as StepSaid};
 ghost use Rattle.script_values.specs.Faults.{IsUnlessMemory};
 ghost use Rattle.script_text.specs.Naming.{named};
-ghost use Rattle.script_text.specs.Steps.{Selection as SelectionSaid, arguments_of, asm_in, bare, call_in, chosen_in, damage_at, deliver_from, deliver_in, deliver_with, drawn_in, drop_in, expect_in, file_in, filter_in, filter_of, install_in, installing, mangle_from, mangle_in, mangle_with, name_in, numbered_call_in, order_in, order_with, profile_in, queue_in, repeat_in, selection_in, state_in, step_named, timeout_in, upgrade_in};
-ghost use Rattle.script_text.specs.Dialects.{step, step_named_for, thread_step};
+ghost use Rattle.script_text.specs.Steps.{Selection as SelectionSaid, arguments_of, asm_in, bare, call_in, chosen_deliver_in, damage_at, deliver_from, deliver_in, deliver_with, drawn_deliver_in, drop_in, expect_in, file_in, filter_in, filter_of, install_in, installing, mangle_from, mangle_in, mangle_with, name_in, numbered_call_in, order_in, order_with, plain_deliver_in, profile_in, queue_in, repeat_in, seeded_deliver_in, selection_in, state_in, step_named, timeout_in, upgrade_in};
+ghost use Rattle.script_text.specs.Dialects.{seeded_step, step, step_named_for, thread_step};
 
 use crate::dialect::Dialect;
 use crate::files::{FileCode, NamedFile};
 use crate::forgery_keys::read_forgery;
 use crate::head::Head;
 use crate::naming::NewName;
+use crate::order_keys::{read_chosen, read_drawn};
 use crate::raw_keys::read_raw;
 use crate::script::{Damage, DeliveryOrder, Filter, NamedStep, Order, Printout, QueueEdit, Step};
 use host_types::operation::{CALL, INSTALL, INSTALL2};
 use host_types::{Bytes, ReplicaId};
 use pbft_codec::Sequence;
 use script_values::{
-    AssemblerText, Choices, Client, ClientName, HexBytes, InstallProfile, Kind, KindName, Lines,
-    ListOf, MAX_INTEGER, MessageName, Node, NodeName, Numbers, Operation, ProfileNumber,
-    ReplicaIndex, ScriptBytes, TableFault, UpTo, Word, is_among, needed, optional, pair, table_of,
-    unknown_where, value_at, with_only, wrong_where,
+    AssemblerText, Client, ClientName, HexBytes, InstallProfile, Kind, KindName, Lines, ListOf,
+    MAX_INTEGER, MessageName, Node, NodeName, Numbers, Operation, ProfileNumber, ReplicaIndex,
+    ScriptBytes, TableFault, UpTo, Word, is_among, needed, optional, pair, table_of, unknown_where,
+    value_at, with_only, wrong_where,
 };
 use std::alloc::{AllocError, Global};
 use toml::{Table, Value};
@@ -47,7 +48,9 @@ const FILTER_KEYS: [&str; 4] = ["do", "from", "to", "kinds"];
 
 const NAMED_FILTER_KEYS: [&str; 5] = ["do", "from", "to", "kinds", "as"];
 
-const DRAWN_KEYS: [&str; 5] = ["do", "from", "to", "kinds", "order"];
+const DRAWN_KEYS: [&str; 8] = [
+    "do", "from", "to", "kinds", "order", "lose", "again", "late",
+];
 
 const CHOSEN_KEYS: [&str; 5] = ["do", "from", "to", "kinds", "choose"];
 
@@ -69,7 +72,8 @@ const EXPECT_KEYS: [&str; 2] = ["do", "lines"];
 pub const STEP_FORMS: &str =
     r#"  do = "request"   client; install = hex, or asm = text, or file = a name, each with profile = 1 or 2, or
                    call = a procedure with args = hex, or numbers = a list; to
-  do = "deliver"   from, to, kinds; order = a seed, or choose = a list of numbers
+  do = "deliver"   from, to, kinds; order = a seed, with lose, again and late, each of 1,000 deliveries, or
+                   choose = a list of numbers
   do = "drop"      from, to, kinds
   do = "repeat"    from, to, kinds
   do = "queue"     from, to, kinds
@@ -104,6 +108,9 @@ step | to | [] | a list of ids of replicas and clients
 step | kinds | [] | a list of kinds of messages: request, pre-prepare, prepare, commit, reply, checkpoint, view-change, new-view, fetch, snapshot
 step | order | 0 | a number from 0 to 9,223,372,036,854,775,807
 step | choose | [] | a list of at most 65,536 numbers from 0 to 9,223,372,036,854,775,807
+step | lose | 0 | a number from 0 to 1,000, at most 1,000 with again and late
+step | again | 0 | a number from 0 to 1,000, at most 1,000 with lose and late
+step | late | 0 | a number from 0 to 1,000, at most 1,000 with lose and again
 step | cut | 0 | a number from 0 to 9,223,372,036,854,775,807
 step | flip | 0 | a number from 0 to 9,223,372,036,854,775,807
 state | at | 0 | the id of a replica
@@ -186,6 +193,10 @@ fn read_step_for(
             let step = read_named_step(alloc, names, table, name);
             named(step, read_name(alloc, names, table, name))
         }
+        Dialect::Seeded => {
+            let step = read_seeded_step(alloc, names, table, name);
+            named(step, read_name(alloc, names, table, name))
+        }
         Dialect::Threads => {
             let step = read_thread_step(alloc, names, table, name);
             let is_named = value_at(table, "as").is_some();
@@ -222,6 +233,21 @@ fn named(
     match pair(step, name) {
         Ok((step, name)) => Ok(NamedStep { step, name }),
         Err(fault) => Err(fault),
+    }
+}
+
+/// A step of this name for a world whose seed is given beside the script.
+fn read_seeded_step(
+    alloc: Global,
+    names: &Names<'_>,
+    table: &Table,
+    name: &str,
+) -> Result<Step, TableFault>
+    ensures { IsUnlessMemory result (seeded_step name.now names.now.files.now names.now.count names.now.faulty.now names.now.clients.now names.now.earlier.now (table_view table.now)) }
+{
+    match name {
+        "deliver" => read_seeded_deliver(alloc, names, table),
+        _ => read_named_step(alloc, names, table, name),
     }
 }
 
@@ -446,12 +472,46 @@ fn read_deliver(alloc: Global, names: &Names<'_>, table: &Table) -> Result<Step,
     ensures { IsUnlessMemory result (deliver_in names.now.count names.now.clients.now (table_view table.now)) }
 {
     if value_at(table, "choose").is_some() {
-        let chosen = read_chosen(alloc, table);
-        read_deliver_in(alloc, names, table, chosen, &CHOSEN_KEYS)
+        read_chosen_deliver(alloc, names, table)
+    } else if value_at(table, "order").is_some() {
+        read_drawn_deliver(alloc, names, table)
     } else {
-        let drawn = read_drawn(alloc, table);
-        read_deliver_in(alloc, names, table, drawn, &DRAWN_KEYS)
+        read_plain_deliver(alloc, names, table)
     }
+}
+
+/// The same of a script whose seed is given beside it.
+fn read_seeded_deliver(alloc: Global, names: &Names<'_>, table: &Table) -> Result<Step, TableFault>
+    ensures { IsUnlessMemory result (seeded_deliver_in names.now.count names.now.clients.now (table_view table.now)) }
+{
+    if value_at(table, "choose").is_some() {
+        read_chosen_deliver(alloc, names, table)
+    } else {
+        read_drawn_deliver(alloc, names, table)
+    }
+}
+
+/// Deliveries in the order of the queue.
+fn read_plain_deliver(alloc: Global, names: &Names<'_>, table: &Table) -> Result<Step, TableFault>
+    ensures { IsUnlessMemory result (plain_deliver_in names.now.count names.now.clients.now (table_view table.now)) }
+{
+    read_deliver_in(alloc, names, table, Ok(DeliveryOrder::Oldest), &FILTER_KEYS)
+}
+
+/// Deliveries in an order that a list chooses.
+fn read_chosen_deliver(alloc: Global, names: &Names<'_>, table: &Table) -> Result<Step, TableFault>
+    ensures { IsUnlessMemory result (chosen_deliver_in names.now.count names.now.clients.now (table_view table.now)) }
+{
+    let chosen = read_chosen(alloc, table);
+    read_deliver_in(alloc, names, table, chosen, &CHOSEN_KEYS)
+}
+
+/// Deliveries in an order that a seed draws, or in that of the queue.
+fn read_drawn_deliver(alloc: Global, names: &Names<'_>, table: &Table) -> Result<Step, TableFault>
+    ensures { IsUnlessMemory result (drawn_deliver_in names.now.count names.now.clients.now (table_view table.now)) }
+{
+    let drawn = read_drawn(alloc, table);
+    read_deliver_in(alloc, names, table, drawn, &DRAWN_KEYS)
 }
 
 /// Deliveries in this order, in a table of these keys.
@@ -478,23 +538,6 @@ fn as_deliver(read: Result<(DeliveryOrder, Selection), TableFault>) -> Result<St
             order,
         }),
         Err(fault) => Err(fault),
-    }
-}
-
-/// The order of a list of choices.
-fn read_chosen(alloc: Global, table: &Table) -> Result<DeliveryOrder, TableFault>
-    ensures { IsUnlessMemory result (chosen_in (table_view table.now)) }
-{
-    Ok(DeliveryOrder::Chosen(needed(alloc, table, "choose", &Choices)?))
-}
-
-/// The order that a seed draws; the oldest first where there is none.
-fn read_drawn(alloc: Global, table: &Table) -> Result<DeliveryOrder, TableFault>
-    ensures { IsUnlessMemory result (drawn_in (table_view table.now)) }
-{
-    match optional(alloc, table, "order", &UpTo(MAX_INTEGER))? {
-        Some(seed) => Ok(DeliveryOrder::Drawn(seed)),
-        None => Ok(DeliveryOrder::Oldest),
     }
 }
 

@@ -4,8 +4,7 @@ ghost use Rattle.std.specs.Prelude.{◌≡◌};
 
 use crate::gates::{Held, TURNS, Watch};
 use crate::place::{Place, call_it, four_replicas, install, session, spend};
-use client_session::Session;
-use host_script::{Host, HostFault, Row, SessionFault, call};
+use host_script::{Host, HostFault, Row, Session, SessionFault, call};
 use host_types::{Bytes, Config, ReplicaId, Reply};
 use lms_tree::Signer;
 use std::alloc::Global;

@@ -6,8 +6,7 @@ use crate::gates::TURNS;
 use crate::place::{
     CLIENT, Group, Place, call_it, four_replicas, group_of, install, session_of, spend,
 };
-use client_session::Session;
-use host_script::{CallFault, Halt, Host, Ticker, call_or_idle, call_or_stuck};
+use host_script::{CallFault, Halt, Host, Session, Ticker, call_or_idle, call_or_stuck};
 use host_types::{Bytes, ClientId, Config, Gate, ReplicaId};
 use lms_tree::Signer;
 use std::alloc::{AllocError, Global};

@@ -4,8 +4,7 @@ ghost use Rattle.std.specs.Prelude.{◌≡◌, ◌≤◌};
 
 use crate::gates::{Held, TURNS, Watch, wait_for_steps};
 use crate::place::{CLIENT, Place, four_replicas, install, session};
-use client_session::Session;
-use host_script::{Done, Host, HostFault, Input, Row};
+use host_script::{Done, Host, HostFault, Input, Row, Session};
 use host_types::{Bytes, ClientId, Config, ReplicaId};
 use lms_tree::Signer;
 use std::alloc::Global;

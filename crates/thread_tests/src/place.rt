@@ -5,7 +5,7 @@ ghost use Rattle.lms_tree.specs.Keys.{IsKeyOf};
 ghost use Rattle.pbft_codec.specs.declared.signed.Role.TheVariants as roles;
 ghost use Rattle.seal.specs.Signers.{key_of};
 
-use client_session::Session;
+use host_script::Session;
 use host_types::{Bytes, ClientEntry, ClientId, Config, ReplicaId, TenantId};
 use lms_tree::{Height, Signer};
 use std::alloc::{AllocError, Global};

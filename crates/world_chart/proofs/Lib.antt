@@ -1,0 +1,2 @@
+mod Diagrams
+mod Drawing

@@ -1,5 +1,8 @@
 //! What happened as a chart.
 
+ghost use Rattle.std.specs.Prelude.{◌≡◌, IfOk, string_bytes};
+ghost use Rattle.world_chart.specs.Charts.{Draws, diagram_of};
+
 use crate::lanes::Lanes;
 use crate::mermaid::mermaid;
 use crate::picture::picture;
@@ -15,7 +18,7 @@ pub struct Chart {
 }
 
 impl Chart {
-    /// The chart of what happened, and of the lines that clients printed: one for each reply that was accepted, in order.
+    /// The chart of what happened, each thing once and in order, and of the lines that clients printed: one for each reply that was accepted, in order.
     /// More than 100 messages are folded: those that follow one another with nothing between them but accepted replies stand
     /// in one row, with what was accepted.
     pub fn new(
@@ -23,13 +26,17 @@ impl Chart {
         lanes: Lanes,
         happened: &[Happening],
         accepted: &[String],
-    ) -> Result<Chart, AllocError> {
+    ) -> Result<Chart, AllocError>
+        ensures { IfOk result (λ chart. Draws chart happened.now) }
+    {
         let rows = rows_of(alloc, &lanes, happened, accepted)?;
         Ok(Chart { lanes, rows })
     }
 
     /// The chart as a sequence diagram of Mermaid.
-    pub fn mermaid(&self, alloc: Global) -> Result<String, AllocError> {
+    pub fn mermaid(&self, alloc: Global) -> Result<String, AllocError>
+        ensures { IfOk result (λ text. string_bytes text ≡ diagram_of self.now) }
+    {
         mermaid(alloc, self.lanes.names(), &self.rows)
     }
 

@@ -1,5 +1,7 @@
 //! The lanes of a chart.
 
+ghost use Rattle.std.specs.Prelude.{◌≡◌};
+
 use host_types::{ClientId, Config, ReplicaId};
 use std::alloc::{AllocError, Global};
 use world_lines::Node;
@@ -49,7 +51,9 @@ impl Lanes {
     }
 
     /// What stands above each lane.
-    pub(crate) fn names(&self) -> &[String] {
+    pub(crate) fn names(&self) -> &[String]
+        ensures { result.now ≡ self.now.names.items }
+    {
         &self.names
     }
 

@@ -1,9 +1,15 @@
 //! The rows of a chart.
 
+ghost use Rattle.std.specs.Prelude.{◌≡◌, ◌<◌, ◌++◌, [], ◌∷◌, IfOk, OnOk, string_bytes};
+ghost use Rattle.std.specs.Str.{trim_end};
+ghost use Rattle.world_chart.specs.Drawing.{Adds, AddsOne, AddsView, Folds, IsSingle, Takes, Unfolds};
+ghost use Rattle.world_chart.specs.Rows.{AreRows, IsEnd, Says, is_message};
+ghost use Rattle.world_lines.specs.Lines.{happening_line};
+
 use crate::lanes::Lanes;
 use host_types::View;
 use std::alloc::{AllocError, Global};
-use world_lines::{Blame, Cause, Happening, Node, Saying, line_of, words_of};
+use world_lines::{Cause, Happening, Node, line_of, words_of};
 
 /// The most messages that are drawn one by one.
 const MAX_MESSAGES: usize = 100;
@@ -43,29 +49,31 @@ pub(crate) fn rows_of(
     lanes: &Lanes,
     happened: &[Happening],
     accepted: &[String],
-) -> Result<Vec<Row>, AllocError> {
+) -> Result<Vec<Row>, AllocError>
+    ensures { IfOk result (λ rows. AreRows happened.now rows.items) }
+{
     let folds = happened.iter().filter(|one| is_message(one)).count() > MAX_MESSAGES;
     let mut rows = Rows {
         alloc,
         lanes,
         rows: Vec::new(alloc),
+        folds,
         view: View(0),
         accepted,
         folded: 0,
         words: String::new(alloc),
     };
     for happening in happened {
-        if !folds || !rows.fold(happening)? {
-            rows.unfold()?;
-            rows.add(happening)?;
-        }
+        rows.take(happening)?;
     }
     rows.unfold()?;
     let Rows { rows, .. } = rows;
     Ok(rows)
 }
 
-fn is_message(happening: &Happening) -> bool {
+fn is_message(happening: &Happening) -> bool
+    ensures { result ≡ is_message happening.now }
+{
     matches!(happening, Happening::Handed { .. } | Happening::Lost { .. })
 }
 
@@ -75,6 +83,8 @@ struct Rows<'a> {
     alloc: Global,
     lanes: &'a Lanes,
     rows: Vec<Row>,
+    /// Whether there are too many messages to draw each.
+    folds: bool,
     /// The greatest view that a replica has entered.
     view: View,
     /// The lines of the replies that are accepted from here on.
@@ -86,13 +96,35 @@ struct Rows<'a> {
 }
 
 impl Rows<'_> {
-    fn push(&mut self, shape: Shape, words: String) -> Result<(), AllocError> {
+    fn push(&mut self, shape: Shape, words: String) -> Result<(), AllocError>
+        ensures rows { OnOk result (self.new.rows.items ≡ self.old.rows.items ++ (record { shape = shape; words = words }) ∷ []) }
+        ensures folded { self.new.folded ≡ self.old.folded }
+    {
         self.rows.push(Row { shape, words })?;
         Ok(())
     }
 
+    /// Takes one thing into the row of many messages, where there are too many of them and it belongs there, or adds its row.
+    fn take(&mut self, happening: &Happening) -> Result<(), AllocError>
+        requires { self.old.folded < 18446744073709551615 }
+        ensures { OnOk result (Takes happening.now self.old.rows.items self.old.folded self.new.rows.items self.new.folded) }
+    {
+        if self.fold(happening)? {
+            return Ok(());
+        }
+        self.unfold()?;
+        self.add(happening)
+    }
+
     /// Takes a message, or a reply that is accepted behind one, into the row of many messages. Whether it belongs there.
-    fn fold(&mut self, happening: &Happening) -> Result<bool, AllocError> {
+    fn fold(&mut self, happening: &Happening) -> Result<bool, AllocError>
+        requires { self.old.folded < 18446744073709551615 }
+        ensures taken { IfOk result (Folds happening.now self.old.folded self.new.folded) }
+        ensures rows { self.new.rows.items ≡ self.old.rows.items }
+    {
+        if !self.folds {
+            return Ok(false);
+        }
         match *happening {
             Happening::Accepted { client } if self.folded > 0 => {
                 let client = client.0;
@@ -102,7 +134,7 @@ impl Rows<'_> {
                 Ok(true)
             }
             _ if is_message(happening) => {
-                self.folded = self.folded.saturating_add(1);
+                self.folded += 1;
                 Ok(true)
             }
             _ => Ok(false),
@@ -110,13 +142,16 @@ impl Rows<'_> {
     }
 
     /// Ends a row of many messages, if one was begun.
-    fn unfold(&mut self) -> Result<(), AllocError> {
+    fn unfold(&mut self) -> Result<(), AllocError>
+        ensures rows { OnOk result (Unfolds self.old.folded self.old.rows.items self.new.rows.items) }
+        ensures folded { self.new.folded ≡ 0 }
+    {
         let many = self.folded;
         self.folded = 0;
         if many == 0 {
             return Ok(());
         }
-        let ending = if many == 1 { "" } else { "s" };
+        let ending = ending_of(many);
         let more = self.words.as_str();
         let words = format!(in self.alloc; "{many} message{ending}{more}")?;
         self.words.clear();
@@ -124,7 +159,10 @@ impl Rows<'_> {
     }
 
     /// What the next accepted reply says: `accepts 0000000000`, its result in hex, cut where it is long.
-    fn accepted_words(&mut self) -> Result<String, AllocError> {
+    fn accepted_words(&mut self) -> Result<String, AllocError>
+        ensures rows { self.new.rows.items ≡ self.old.rows.items }
+        ensures folded { self.new.folded ≡ self.old.folded }
+    {
         let Some((line, rest)) = self.accepted.split_first() else {
             return String::from_str(self.alloc, "accepts");
         };
@@ -138,21 +176,30 @@ impl Rows<'_> {
         }
     }
 
-    fn add(&mut self, happening: &Happening) -> Result<(), AllocError> {
-        if let Happening::Entered { view, .. } = *happening {
-            self.add_view(view)?;
-        }
+    /// Adds the row of one thing, behind that of a view that it begins.
+    fn add(&mut self, happening: &Happening) -> Result<(), AllocError>
+        ensures rows { OnOk result (Adds happening.now self.old.rows.items self.new.rows.items) }
+        ensures folded { self.new.folded ≡ self.old.folded }
+    {
+        self.add_view_of(happening)?;
+        self.add_one(happening)
+    }
+
+    fn add_view_of(&mut self, happening: &Happening) -> Result<(), AllocError>
+        ensures rows { OnOk result (AddsView self.old.rows.items self.new.rows.items) }
+        ensures folded { self.new.folded ≡ self.old.folded }
+    {
         match *happening {
-            Happening::Handed { from, to, saying } => self.add_message(from, to, &saying, false),
-            Happening::Lost { from, to, saying } => self.add_message(from, to, &saying, true),
-            Happening::Blamed(blame) => self.add_blame(happening, &blame),
-            Happening::Began { .. } => self.add_step(happening),
-            _ => self.add_note(happening),
+            Happening::Entered { view, .. } => self.add_view(view),
+            _ => Ok(()),
         }
     }
 
     /// Begins a view that no replica has entered yet.
-    fn add_view(&mut self, view: View) -> Result<(), AllocError> {
+    fn add_view(&mut self, view: View) -> Result<(), AllocError>
+        ensures rows { OnOk result (AddsView self.old.rows.items self.new.rows.items) }
+        ensures folded { self.new.folded ≡ self.old.folded }
+    {
         if view.0 <= self.view.0 {
             return Ok(());
         }
@@ -162,67 +209,55 @@ impl Rows<'_> {
         self.push(Shape::View { view }, words)
     }
 
-    fn add_message(
-        &mut self,
-        from: Option<Node>,
-        to: Node,
-        saying: &Saying,
-        is_lost: bool,
-    ) -> Result<(), AllocError> {
-        let words = words_of(self.alloc, saying)?;
-        let to = self.lanes.lane_of(to);
-        let shape = match from {
-            None => Shape::Note { lane: to },
-            Some(from) => {
-                let from = self.lanes.lane_of(from);
-                if is_lost {
-                    Shape::Cross { from, to }
-                } else {
-                    Shape::Arrow { from, to }
-                }
-            }
-        };
+    fn add_one(&mut self, happening: &Happening) -> Result<(), AllocError>
+        ensures rows { OnOk result (AddsOne happening.now self.old.rows.items self.new.rows.items) }
+        ensures folded { self.new.folded ≡ self.old.folded }
+    {
+        let shape = self.shape_of(happening);
+        let words = self.words_of(happening)?;
         self.push(shape, words)
     }
 
-    fn add_blame(&mut self, happening: &Happening, blame: &Blame) -> Result<(), AllocError> {
-        let words = line_words(self.alloc, happening)?;
-        let lane = self.lanes.lane_of_id(blame.signer());
-        self.push(Shape::Alarm { lane }, words)
-    }
-
-    /// A step that begins, without the mark of its line.
-    fn add_step(&mut self, happening: &Happening) -> Result<(), AllocError> {
-        let line = line_words(self.alloc, happening)?;
-        let words = match line.as_str().split_once(' ') {
-            Some((_, words)) => String::from_str(self.alloc, words)?,
-            None => line,
-        };
-        self.push(Shape::Step, words)
-    }
-
-    /// What a replica or a client does, without its id.
-    fn add_note(&mut self, happening: &Happening) -> Result<(), AllocError> {
+    fn shape_of(&self, happening: &Happening) -> Shape
+        ensures { IsSingle result }
+    {
         let lane = self.lane_of(happening);
-        let words = self.note_words(happening)?;
-        let shape = match happening {
-            Happening::Halted { .. } | Happening::Refused { .. } => Shape::Alarm { lane },
+        match *happening {
+            Happening::Handed {
+                from: Some(from),
+                ..
+            } => Shape::Arrow {
+                from: self.lanes.lane_of(from),
+                to: lane,
+            },
+            Happening::Lost {
+                from: Some(from),
+                ..
+            } => Shape::Cross {
+                from: self.lanes.lane_of(from),
+                to: lane,
+            },
+            Happening::Blamed(_) | Happening::Halted { .. } | Happening::Refused { .. } => {
+                Shape::Alarm { lane }
+            }
+            Happening::Began { .. } => Shape::Step,
             _ => Shape::Note { lane },
-        };
-        self.push(shape, words)
+        }
     }
 
-    fn note_words(&mut self, happening: &Happening) -> Result<String, AllocError> {
-        if let Happening::Accepted { .. } = happening {
-            return self.accepted_words();
-        }
-        let line = line_words(self.alloc, happening)?;
-        if let Happening::Unqueued(_) = happening {
-            return Ok(line);
-        }
-        match line.as_str().split_once(' ') {
-            Some((_, words)) => String::from_str(self.alloc, words),
-            None => Ok(line),
+    /// The words of one thing: of a step without the mark of its line, of what a replica does without its id.
+    fn words_of(&mut self, happening: &Happening) -> Result<String, AllocError>
+        ensures words { IfOk result (λ words. Says happening.now (string_bytes words)) }
+        ensures rows { self.new.rows.items ≡ self.old.rows.items }
+        ensures folded { self.new.folded ≡ self.old.folded }
+    {
+        match happening {
+            Happening::Handed { saying, .. } | Happening::Lost { saying, .. } => {
+                words_of(self.alloc, saying)
+            }
+            Happening::Accepted { .. } => self.accepted_words(),
+            Happening::Unqueued(_) | Happening::Blamed(_) => line_words(self.alloc, happening),
+            _ => behind_blank(self.alloc, line_words(self.alloc, happening)?),
         }
     }
 
@@ -239,9 +274,15 @@ impl Rows<'_> {
             Happening::Accepted { client } => self.lanes.lane_of(Node::Client(client)),
             Happening::Handed { to, .. } | Happening::Lost { to, .. } => self.lanes.lane_of(to),
             Happening::Unqueued(Cause::Exhausted(node)) => self.lanes.lane_of(node),
-            Happening::Unqueued(_) | Happening::Blamed(_) | Happening::Began { .. } => 0,
+            Happening::Blamed(blame) => self.lanes.lane_of_id(blame.signer()),
+            Happening::Unqueued(_) | Happening::Began { .. } => 0,
         }
     }
+}
+
+/// What ends the word for so many things.
+fn ending_of(many: usize) -> &'static str {
+    if many == 1 { "" } else { "s" }
 }
 
 /// What stands behind the last blank of a line.
@@ -252,8 +293,20 @@ fn last_word(line: &str) -> &str {
     }
 }
 
+/// What stands behind the first blank of a line; all of one that has none.
+fn behind_blank(alloc: Global, line: String) -> Result<String, AllocError>
+    ensures { IfOk result (λ words. IsEnd (string_bytes words) (string_bytes line)) }
+{
+    match line.as_str().split_once(' ') {
+        Some((_, words)) => String::from_str(alloc, words),
+        None => Ok(line),
+    }
+}
+
 /// The line of what happened, without its line end.
-fn line_words(alloc: Global, happening: &Happening) -> Result<String, AllocError> {
+fn line_words(alloc: Global, happening: &Happening) -> Result<String, AllocError>
+    ensures { IfOk result (λ words. string_bytes words ≡ trim_end (happening_line happening.now)) }
+{
     let line = line_of(alloc, happening)?;
     String::from_str(alloc, line.as_str().trim_end())
 }

@@ -1,15 +1,16 @@
 -- Lists: the first that is so, and what a change of it leaves.
-use Rattle.std.proofs.Common.{◌≡◌, ℕ, zero, suc, ◌+◌, ◌<◌, Bool, true, false, cond, List, [], ◌∷◌, ◌++◌, length, get_or, set, take, drop, filter, find, Option, Some, None, refl, sym, ap, subst, ◌∙◌, arith, if◌then◌else◌}
-use Rattle.std.specs.List.{position, remove}
+use Rattle.std.proofs.Common.{◌≡◌, ℕ, zero, suc, ◌+◌, ◌<◌, Bool, true, false, cond, List, [], ◌∷◌, ◌++◌, length, get_or, set, take, drop, filter, find, Option, Some, None, refl, sym, ap, subst, ◌∙◌, arith, if◌then◌else◌, ltb}
+use Rattle.std.specs.List.{position, position_or_len, remove}
 use Rattle.std.specs.Prelude.{IsSomeAnd, OnSome, slice_get, option_and_then}
 use Rattle.std.proofs.Math.Numerals.{add-one}
-use Rattle.std.proofs.lemmas.Option.{slice_get-get_or, slice_get_within}
-use Rattle.service_model.proofs.Found.{find_by_position}
+use Rattle.std.proofs.lemmas.Bool.{ltb-false}
+use Rattle.std.proofs.lemmas.Option.{slice_get-get_or, slice_get_past, slice_get_within}
 use Rattle.std.proofs.lemmas.List.{drop_more, take-append-drop}
+use Rattle.std.proofs.lemmas.List.Folds.{find_at}
 use Rattle.std.proofs.lemmas.List.Quantifiers.{position-Some}
 use Rattle.script_text.specs.declared.script.Filter.{Filter}
-use Rattle.world_queue.specs.Letters.{LetterFacts, first_meant, is_meant, meant_count, without_first}
-use Rattle.world_queue.specs.Effects.{IsPlace, IsTaken}
+use Rattle.world_queue.specs.Letters.{IsTaken, LetterFacts, first_meant, is_meant, meant_count, without_first}
+use Rattle.world_queue.specs.Effects.{IsPlace}
 use Rattle.world_queue.specs.Parties.{at_first}
 
 some_none : {X : Type 0} {x : X} → Some x ≡ None → ⊥
@@ -173,9 +174,16 @@ module _ {A : Type 0} (is : A → Bool) (change : A → A) where
 -- ---- the first that is so, by its index
 
 module _ {A : Type 0} (is : A → Bool) where
+  by_position : (xs : List A) → find is xs ≡ option_and_then (slice_get xs) (position is xs)
+  by_position xs = find_at is xs ∙ cases (ltb (position_or_len is xs) (length xs)) refl where
+    cases : (b : Bool) → ltb (position_or_len is xs) (length xs) ≡ b
+        → slice_get xs (position_or_len is xs) ≡ option_and_then (slice_get xs) (cond b (Some (position_or_len is xs)) None)
+    cases true e = refl
+    cases false e = slice_get_past xs (position_or_len is xs) (ltb-false _ _ e)
+
   pub found_at : (xs : List A) (i : ℕ) (x : A) → position is xs ≡ Some i → x ≡ get_or xs i x → find is xs ≡ Some x
   found_at xs i x at read =
-      find_by_position is xs ∙ ap (option_and_then (slice_get xs)) at ∙ slice_get-get_or xs i x (position-Some is xs i x at).0 ∙ ap Some (sym read)
+      by_position xs ∙ ap (option_and_then (slice_get xs)) at ∙ slice_get-get_or xs i x (position-Some is xs i x at).0 ∙ ap Some (sym read)
 
   pub found_none : (xs : List A) → position is xs ≡ None → find is xs ≡ None
-  found_none xs at = find_by_position is xs ∙ ap (option_and_then (slice_get xs)) at
+  found_none xs at = by_position xs ∙ ap (option_and_then (slice_get xs)) at

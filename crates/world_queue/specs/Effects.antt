@@ -1,5 +1,5 @@
 -- Internal: what the parts do that make, keep and take messages.
-use Rattle.std.specs.Prelude.{◌≡◌, ℕ, List, [], Option, Some, None, Result, Ok, Err, find, slice_get, take, ◌++◌, ◌∷◌, true}
+use Rattle.std.specs.Prelude.{◌≡◌, ℕ, List, [], Option, Some, None, Result, Ok, Err, find, slice_get, take, ◌∷◌, true}
 use Rattle.host_types.specs.Configuration.{Configuration}
 use Rattle.host_types.specs.declared.ClientId.{ClientId}
 use Rattle.host_types.specs.declared.config.ClientEntry.{ClientEntry}
@@ -48,15 +48,6 @@ pub record IsPlace (f : Filter) (passed : ℕ) (ls : List LetterFacts) (index : 
   pub is_at : slice_get ls index ≡ Some letter
   pub is_meant_one : is_meant f letter ≡ true
   pub passed_is : meant_count f (take index ls) ≡ passed
-
--- A letter is taken out that is meant, and so many before it are.
-pub record IsTaken (f : Filter) (passed : ℕ) (old : List LetterFacts) (letter : LetterFacts) (new : List LetterFacts) : Type 0 where
-  pub before : List LetterFacts
-  pub after : List LetterFacts
-  pub splits : old ≡ before ++ letter ∷ after
-  pub is_meant_one : is_meant f letter ≡ true
-  pub passed_is : meant_count f before ≡ passed
-  pub rest : new ≡ before ++ after
 
 -- a client's session before its first request, which signs by this signer
 abbrev pub fresh_session : Configuration → ClientEntry → SigningState → SessionState

@@ -1,13 +1,10 @@
 -- Statement: messages on their way, and which of them a step means.
-use Rattle.std.proofs.Common.{zero, suc}
-use Rattle.std.specs.Prelude.{ℕ, ◌+◌, ◌*◌, ◌/◌, ◌%◌, ◌==◌, Bool, true, false, ◌&&◌, List, [], ◌∷◌, get_or, length, map, filter, find, Option, Some, None, if◌then◌else◌, not}
+use Rattle.std.specs.Prelude.{◌≡◌, ℕ, ◌==◌, Bool, true, false, ◌&&◌, List, [], ◌∷◌, ◌++◌, length, map, filter, find, Option, Some, None, if◌then◌else◌, not}
 use Rattle.std.specs.List.{list_any}
 use Rattle.pbft_codec.specs.declared.body.Body.{Body}
 use Rattle.pbft_codec.specs.declared.signed.Signed.{Signed}
 use Rattle.pbft_codec.specs.Encoding.{encoding}
 use Rattle.script_text.specs.Kind.{Kind}
-use Rattle.script_text.specs.declared.script.DeliveryOrder.{DeliveryOrder}
-use Rattle.script_text.specs.declared.script.DeliveryOrder.TheVariants.{Oldest, Drawn, Chosen}
 use Rattle.script_text.specs.declared.script.Filter.{Filter}
 use Rattle.script_text.specs.Node.{Node}
 use Rattle.script_text.specs.Node.TheVariants.{Replica, Client}
@@ -71,34 +68,11 @@ without_first f (l ∷ ls) = if is_meant f l then ls else l ∷ without_first f 
 abbrev pub meant_count : Filter → List LetterFacts → ℕ
 meant_count f ls = length (filter (is_meant f) ls)
 
--- ---- an order that is drawn or chosen
-
--- the next state of the generator: times 6364136223846793005, plus 1442695040888963407, of 64 bits
-abbrev pub next_state : ℕ → ℕ
-next_state state = (state * 6364136223846793005 + 1442695040888963407) % 18446744073709551616
-
--- its state behind so many deliveries
-abbrev pub state_behind : ℕ → ℕ → ℕ
-state_behind seed zero = seed
-state_behind seed (suc n) = next_state (state_behind seed n)
-
--- which of so many letters is drawn: the state without its last 33 bits, as the rest of a division
-abbrev pub drawn : ℕ → ℕ → ℕ
-drawn state count = (state / 8589934592) % count
-
--- which of so many letters these numbers choose behind n deliveries: the next number, or 0 behind the last, as the rest of a
--- division
-abbrev pub chosen : List ℕ → ℕ → ℕ → ℕ
-chosen numbers n count = get_or numbers n 0 % count
-
--- how many letters that are meant are passed over behind n deliveries
-abbrev pub passed_over : DeliveryOrder → ℕ → ℕ → ℕ
-passed_over Oldest n count = 0
-passed_over (Drawn seed) n count = drawn (state_behind seed (suc n)) count
-passed_over (Chosen numbers) n count = chosen numbers n count
-
--- the seed of an order; 0 where none is drawn
-abbrev pub seed_of : DeliveryOrder → ℕ
-seed_of Oldest = 0
-seed_of (Drawn seed) = seed
-seed_of (Chosen numbers) = 0
+-- A letter is taken out that is meant, and so many before it are.
+pub record IsTaken (f : Filter) (passed : ℕ) (old : List LetterFacts) (letter : LetterFacts) (new : List LetterFacts) : Type 0 where
+  pub before : List LetterFacts
+  pub after : List LetterFacts
+  pub splits : old ≡ before ++ letter ∷ after
+  pub is_meant_one : is_meant f letter ≡ true
+  pub passed_is : meant_count f before ≡ passed
+  pub rest : new ≡ before ++ after

@@ -1,5 +1,7 @@
 pub mod Changes
+pub mod Draws
 pub mod Effects
+pub mod Fates
 pub mod Letters
 pub mod Lines
 pub mod Parties

@@ -4,8 +4,8 @@ ghost use Rattle.std.specs.Prelude.{◌≡◌, ◌<◌, ◌++◌, ◌∷◌, [],
 ghost use Rattle.std.specs.List.{list_any};
 ghost use Rattle.script_text.specs.Kind.{Kind};
 ghost use Rattle.script_text.specs.Node.{Node};
-ghost use Rattle.world_queue.specs.Letters.{LetterFacts, addressed, all_but, copies, first_meant, is_among, is_meant, letter_of, meant_count, meant_one, same_kind, same_node, without_first};
-ghost use Rattle.world_queue.specs.Effects.{IsPlace, IsTaken};
+ghost use Rattle.world_queue.specs.Letters.{IsTaken, LetterFacts, addressed, all_but, copies, first_meant, is_among, is_meant, letter_of, meant_count, meant_one, same_kind, same_node, without_first};
+ghost use Rattle.world_queue.specs.Effects.{IsPlace};
 
 use host_types::Bytes;
 use pbft_codec::Sequence;

@@ -5,6 +5,7 @@ use Rattle.std.specs.String.{string_bytes}
 use Rattle.std.specs.declared.alloc.Global.{Global}
 use Rattle.std.proofs.lemmas.List.{append-nil, append_assoc}
 use Rattle.world_queue.proofs.Lists.{first_splits, keeps_all, none_meant, some_meant}
+use Rattle.host_types.specs.Configuration.{replicas_for}
 use Rattle.host_types.specs.declared.ClientId.{ClientId}
 use Rattle.host_types.specs.declared.ReplicaId.{ReplicaId}
 use Rattle.seal.specs.Opening.{CheckedMessage, opening}
@@ -15,17 +16,19 @@ use Rattle.script_text.specs.declared.script.DeliveryOrder.TheVariants.{Oldest}
 use Rattle.script_text.specs.declared.script.Filter.{Filter}
 use Rattle.script_text.specs.Node.{Node}
 use Rattle.script_text.specs.Node.TheVariants.{Replica, Client}
-use Rattle.world_queue.specs.Letters.{LetterFacts, first_meant, meant_count, next_state, passed_over, seed_of, state_behind, without_first}
+use Rattle.world_queue.specs.Draws.{draws, seed_of}
+use Rattle.world_queue.specs.Fates.{fate, state_behind}
+use Rattle.world_queue.specs.Letters.{LetterFacts, first_meant, meant_count, without_first}
+use Rattle.world_queue.specs.declared.fates.Fate.{Fate}
 use Rattle.std.specs.Io.KnownBytes.{Appends}
 use Rattle.script_text.specs.declared.script.Step.TheVariants as steps
 use Rattle.world_script.specs.Endings.{Ends}
-use Rattle.world_queue.specs.Effects.{IsTaken}
 use Rattle.world_script.specs.Parts.{ahead}
 use Rattle.world_script.specs.Writing.{AppendsFront}
 use Rattle.world_script.specs.declared.fault.RunFault.TheVariants.{TooManyDeliveries, Write}
 use Rattle.world_script.proofs.Written.{both, front_then}
 use Rattle.world_script.specs.Facts.{StageFacts}
-use Rattle.world_script.specs.Stages.{Deliveries, Delivers, HandsTo, Receives, Turn, at_client, is_running, letters_in, max_deliveries}
+use Rattle.world_script.specs.Stages.{Befalls, Deliveries, Delivers, HandsTo, Receives, Turn, at_client, fate_at, is_running, letters_in, max_deliveries}
 
 abbrev turned : List LetterFacts → Turn → Turn
 turned os p = (p.0, ahead os p.1)
@@ -63,33 +66,24 @@ pub delivered : (f : Filter) (s t : StageFacts) (letter : LetterFacts) (whole pa
 delivered f s t letter whole passed left text first rest handed =
     let one = first_splits f whole letter first in
     record {
-      before = one.before;
       letter = letter;
-      after = one.after;
-      splits = one.splits;
-      is_meant_one = one.meant;
-      passed_is = ap length one.none_passed;
+      left = one.before ++ one.after;
+      taken = record {
+        before = one.before;
+        after = one.after;
+        splits = one.splits;
+        is_meant_one = one.meant;
+        passed_is = ap length one.none_passed;
+        rest = refl;
+      };
       handed = subst (λ (ls : List LetterFacts). HandsTo letter.to (record s { queue = ls }) letter.bytes text (ahead passed t)) (rest ∙ one.rest)
           (framed passed letter.to (record s { queue = left }) t letter.bytes text handed);
     }
 
--- The letter behind so many that are meant was taken out.
-pub delivered_at : (f : Filter) (passed : ℕ) (s t : StageFacts) (letter : LetterFacts) (left : List LetterFacts) (text : List ℕ)
-    → IsTaken f passed s.queue letter left → HandsTo letter.to (record s { queue = left }) letter.bytes text t → Delivers f passed s text t
-delivered_at f passed s t letter left text taken handed = record {
-  before = taken.before;
-  letter = letter;
-  after = taken.after;
-  splits = taken.splits;
-  is_meant_one = taken.is_meant_one;
-  passed_is = taken.passed_is;
-  handed = subst (λ (ls : List LetterFacts). HandsTo letter.to (record s { queue = ls }) letter.bytes text t) taken.rest handed;
-}
-
 -- ---- so many deliveries
 
 pub one_more : (f : Filter) (order : DeliveryOrder) (n : ℕ) (s u t : StageFacts) (before line : List ℕ) → Deliveries f order n s before u
-    → Delivers f (passed_over order n (meant_count f u.queue)) u line t → Deliveries f order (n + 1) s (before ++ line) t
+    → Befalls (fate_at f order n u) f u line t → Deliveries f order (n + 1) s (before ++ line) t
 one_more f order n s u t before line many one =
     subst (λ (k : ℕ). Deliveries f order k s (before ++ line) t) (sym (same n)) (before, line, u, many, one, refl) where
       same : (n : ℕ) → n + 1 ≡ suc n
@@ -153,43 +147,29 @@ too_many f n s u t old new os text all is more =
 
 -- ---- in an order that is drawn or chosen
 
--- So many were delivered and printed in this order, and this is the generator's state.
+-- So many deliveries were made and printed in this order, and this is the generator's state.
 abbrev pub IsDrawing : Filter → DeliveryOrder → ℕ → StageFacts → Option (List ℕ) → Option (List ℕ) → ℕ → StageFacts → List ℕ → Type 0
-IsDrawing f order n s old new state u text = (state ≡ state_behind (seed_of order) n) × Deliveries f order n s text u × Appends old new text
+IsDrawing f order n s old new state u text = (state ≡ state_behind (seed_of order) (draws order n)) × Deliveries f order n s text u × Appends old new text
 
 pub all_drawn : (f : Filter) (order : DeliveryOrder) (n : ℕ) (s u : StageFacts) (old new : Option (List ℕ)) (state : ℕ) (lines : String Global) → n ≤ max_deliveries
     → IsDrawing f order n s old new state u (string_bytes lines) → meant_count f u.queue ≡ 0 → Ends s (steps.Deliver f order) old new (Ok lines) u
 all_drawn f order n s u old new state lines within is none = ((n, within, is.1, none_meant f u.queue none), is.2)
 
--- the generator's state behind one more
-pub next_drawn : (seed n state later : ℕ) → state ≡ state_behind seed n → later ≡ next_state state → later ≡ state_behind seed (n + 1)
-next_drawn seed n state later at next = next ∙ ap next_state at ∙ ap (state_behind seed) (suc_is n) where
-  suc_is : (n : ℕ) → suc n ≡ n + 1
-  suc_is n = omega arith
+-- What was drawn is what becomes of the delivery.
+module _ (f : Filter) (order : DeliveryOrder) (n : ℕ) (u w : StageFacts) (line : List ℕ) (letters replicas : ℕ) (what : Fate) (counted : letters ≡ meant_count f u.queue) (all : replicas ≡ replicas_for u.world.config.f)
+    (is : what ≡ fate order n letters replicas) (one : Befalls what f u line w) where
+  befallen : Befalls (fate_at f order n u) f u line w
+  befallen = subst (λ (x : Fate). Befalls x f u line w) (is ∙ ap (λ (k : ℕ). fate order n k replicas) counted ∙ ap (fate order n (meant_count f u.queue)) all) one
 
--- which one was delivered
-drawn_one : (f : Filter) (order : DeliveryOrder) (n : ℕ) (u t : StageFacts) (line : List ℕ) (count passed : ℕ) → count ≡ meant_count f u.queue → passed ≡ passed_over order n count
-    → Delivers f passed u line t → Delivers f (passed_over order n (meant_count f u.queue)) u line t
-drawn_one f order n u t line count passed counted is one = subst (λ (k : ℕ). Delivers f k u line t) (is ∙ ap (passed_over order n) counted) one
+  pub drawn_cut : (s t : StageFacts) (old mid new : Option (List ℕ)) (state : ℕ) (text : List ℕ) → n < max_deliveries → IsDrawing f order n s old mid state u text → AppendsFront mid new line
+      → Ends s (steps.Deliver f order) old new (Err Write) t
+  drawn_cut s t old mid new state text within drawing front =
+      (text ++ line, (n + 1, w, omega (arith, within), one_more f order n s u w text line drawing.1 befallen), front_then old mid new text line drawing.2 front)
 
-pub drawn_cut : (f : Filter) (order : DeliveryOrder) (n : ℕ) (s u w t : StageFacts) (old mid new : Option (List ℕ)) (state count passed : ℕ) (text line : List ℕ) → n < max_deliveries
-    → IsDrawing f order n s old mid state u text → count ≡ meant_count f u.queue → passed ≡ passed_over order n count → Delivers f passed u line w → AppendsFront mid new line
-    → Ends s (steps.Deliver f order) old new (Err Write) t
-drawn_cut f order n s u w t old mid new state count passed text line within is counted drawn one front = (
-  text ++ line,
-  (n + 1, w, omega (arith, within), one_more f order n s u w text line is.1 (drawn_one f order n u w line count passed counted drawn one)),
-  front_then old mid new text line is.2 front,
-)
-
-pub drawn_more : (f : Filter) (order : DeliveryOrder) (n : ℕ) (s u w : StageFacts) (old mid new : Option (List ℕ)) (state later count passed : ℕ) (text line both_texts : List ℕ)
-    → IsDrawing f order n s old mid state u text → later ≡ next_state state → count ≡ meant_count f u.queue → passed ≡ passed_over order n count → Delivers f passed u line w
-    → Appends mid new line → both_texts ≡ text ++ line → IsDrawing f order (n + 1) s old new later w both_texts
-drawn_more f order n s u w old mid new state later count passed text line both_texts is next counted drawn one wrote same =
-    subst (IsDrawing f order (n + 1) s old new later w) (sym same) (
-      next_drawn (seed_of order) n state later is.0 next,
-      one_more f order n s u w text line is.1 (drawn_one f order n u w line count passed counted drawn one),
-      both old mid new text line is.2 wrote,
-    )
+  pub drawn_more : (s : StageFacts) (old mid new : Option (List ℕ)) (state later : ℕ) (text both_texts : List ℕ) → IsDrawing f order n s old mid state u text
+      → later ≡ state_behind (seed_of order) (draws order (n + 1)) → Appends mid new line → both_texts ≡ text ++ line → IsDrawing f order (n + 1) s old new later w both_texts
+  drawn_more s old mid new state later text both_texts drawing next wrote same =
+      subst (IsDrawing f order (n + 1) s old new later w) (sym same) (next, one_more f order n s u w text line drawing.1 befallen, both old mid new text line drawing.2 wrote)
 
 pub drawn_too_many : (f : Filter) (order : DeliveryOrder) (n : ℕ) (s u t : StageFacts) (old new : Option (List ℕ)) (state : ℕ) (text : List ℕ) → n ≡ max_deliveries
     → IsDrawing f order n s old new state u text → 0 < meant_count f u.queue → Ends s (steps.Deliver f order) old new (Err TooManyDeliveries) t

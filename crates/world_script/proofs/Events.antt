@@ -30,9 +30,11 @@ use Rattle.world_script.specs.Keys.{configuration_of}
 use Rattle.world_script.specs.Passing.{DoesPart, DoesPartOfFirst, IsOnRun, Passes, correct_signers}
 use Rattle.world_script.specs.Scripts.{Plays}
 use Rattle.world_script.specs.Facts.{StageFacts}
-use Rattle.world_script.specs.Stages.{AllTimeOut, Deliveries, Delivers, HandsTo, Occurs, Prints, Receives, TimesOut, Turn, at_client, forged_body, forged_by, forged_for, is_running, message_of, quiet, requested_by, with_named, with_queue}
+use Rattle.world_script.specs.Stages.{AllTimeOut, Befalls, Deliveries, Delivers, HandsTo, Occurs, Prints, Receives, TimesOut, Turn, at_client, fate_at, forged_body, forged_by, forged_for, is_running, message_of, quiet, requested_by, with_named, with_queue}
 use Rattle.world_queue.specs.Parties.{signing_forger, signing_session}
-use Rattle.world_queue.specs.Letters.{LetterFacts, meant_count, passed_over}
+use Rattle.world_queue.specs.Letters.{LetterFacts}
+use Rattle.world_queue.specs.declared.fates.Fate.{Fate}
+use Rattle.world_queue.specs.declared.fates.Fate.TheVariants.{Handed, Lost, Repeated, TimedOut}
 use Rattle.world_script.specs.Starts.{is_faulty, start_of}
 use Rattle.world_script.proofs.Hearing.{passed_hears}
 use Rattle.world_script.proofs.LegalHeads.{head_configuration, head_listed, script_legal}
@@ -85,12 +87,18 @@ hands_leads (Replica id) s bytes text t h = at_replica_leads s id bytes text t (
 hands_leads (Client client) s bytes text t h = turned s t text (at_client s client (opening s.world.config bytes)) (client_world s client (opening s.world.config bytes)) h
 
 delivers_leads : (f : Filter) (passed : ℕ) (s : StageFacts) (text : List ℕ) (t : StageFacts) → Delivers f passed s text t → Leads s.world t.world
-delivers_leads f passed s text t d = hands_leads d.letter.to (record s { queue = d.before ++ d.after }) d.letter.bytes text t d.handed
+delivers_leads f passed s text t d = hands_leads d.letter.to (record s { queue = d.left }) d.letter.bytes text t d.handed
+
+befalls_leads : (what : Fate) (f : Filter) (s : StageFacts) (text : List ℕ) (t : StageFacts) → Befalls what f s text t → Leads s.world t.world
+befalls_leads (Handed passed) f s text t d = delivers_leads f passed s text t d
+befalls_leads (Lost passed) f s text t d = turned s t text (quiet (record s { queue = d.left })) refl d.turn
+befalls_leads (Repeated passed) f s text t d = hands_leads d.letter.to (record s { queue = d.left ++ d.letter ∷ [] }) d.letter.bytes text t d.handed
+befalls_leads (TimedOut at) f s text t d = times_leads s at t d.times_out
 
 deliveries_lead : (f : Filter) (order : DeliveryOrder) (n : ℕ) (s : StageFacts) (text : List ℕ) (t : StageFacts) → Deliveries f order n s text t → Leads s.world t.world
 deliveries_lead f order zero s text t h = stays s.world t.world (ap (λ (x : StageFacts). x.world) h.1)
 deliveries_lead f order (suc n) s text t (before, line, u, first, last, is) =
-    on s.world u.world t.world (deliveries_lead f order n s before u first) (delivers_leads f (passed_over order n (meant_count f u.queue)) u line t last)
+    on s.world u.world t.world (deliveries_lead f order n s before u first) (befalls_leads (fate_at f order n u) f u line t last)
 
 -- ---- steps
 

@@ -6,7 +6,7 @@ use Rattle.host_types.specs.Configuration.{Configuration, replicas_for}
 use Rattle.host_types.specs.declared.ClientId.{ClientId}
 use Rattle.host_types.specs.declared.ReplicaId.{ReplicaId}
 use Rattle.pbft_codec.specs.declared.body.Body.{Body}
-use Rattle.codec_fields.specs.declared.fault.CodecFault.{CodecFault}
+use Rattle.pbft_codec.specs.CodecFault.{CodecFault}
 use Rattle.pbft_codec.specs.declared.signed.Signed.{Signed}
 use Rattle.pbft_codec.specs.Reading.{reading}
 use Rattle.pbft_codec.specs.Encoding.{encoding}
@@ -39,11 +39,13 @@ use Rattle.world_queue.specs.declared.forging.Forger.{Forger}
 use Rattle.world_script.specs.Edits.{edited}
 use Rattle.world_script.specs.Expecting.{Scene, behind, first_scene}
 use Rattle.world_script.specs.Keys.{configuration_of}
-use Rattle.world_queue.specs.Letters.{LetterFacts, meant_count, passed_over}
+use Rattle.world_queue.specs.Letters.{LetterFacts}
+use Rattle.world_queue.specs.declared.fates.Fate.{Fate}
+use Rattle.world_queue.specs.declared.fates.Fate.TheVariants.{Handed, Lost, Repeated, TimedOut}
 use Rattle.world_script.specs.Passing.{DoesPart, DoesPartOfFirst, HasHeard, Passes}
 use Rattle.world_script.specs.Scripts.{Plays}
 use Rattle.world_script.specs.Facts.{StageFacts}
-use Rattle.world_script.specs.Stages.{AllTimeOut, Deliveries, Delivers, HandsTo, Occurs, Prints, Receives, TimesOut, Turn, at_client, forged_body, forged_by, forged_for, is_running, message_of, quiet, requested_by, with_named, with_queue}
+use Rattle.world_script.specs.Stages.{AllTimeOut, Befalls, Deliveries, Delivers, HandsTo, Occurs, Prints, Receives, TimesOut, Turn, at_client, fate_at, forged_body, forged_by, forged_for, is_running, message_of, quiet, requested_by, with_named, with_queue}
 use Rattle.world_queue.specs.Parties.{after_asking, at_first, is_of, signing_forger, signing_session}
 use Rattle.world_queue.proofs.Hearing.{heard_more, heard_none, offer_same}
 use Rattle.world_script.specs.Starts.{session_for, start_of}
@@ -172,12 +174,19 @@ hands_hears c (nodes.Client client) s bytes text t o h =
 
 delivers_hears : (c : Configuration) (f : Filter) (passed : ℕ) (s : StageFacts) (text : List ℕ) (t : StageFacts) → Delivers f passed s text t → Hears c s → Hears c t
 delivers_hears c f passed s text t d h =
-    hands_hears c d.letter.to (record s { queue = d.before ++ d.after }) d.letter.bytes text t d.handed (record { config = h.config; heard = h.heard })
+    hands_hears c d.letter.to (record s { queue = d.left }) d.letter.bytes text t d.handed (record { config = h.config; heard = h.heard })
+
+befalls_hears : (c : Configuration) (what : Fate) (f : Filter) (s : StageFacts) (text : List ℕ) (t : StageFacts) → Befalls what f s text t → Hears c s → Hears c t
+befalls_hears c (Handed passed) f s text t d h = delivers_hears c f passed s text t d h
+befalls_hears c (Lost passed) f s text t d h = turn_hears c t text (quiet (record s { queue = d.left })) (record { config = h.config; heard = h.heard }) d.turn
+befalls_hears c (Repeated passed) f s text t d h =
+    hands_hears c d.letter.to (record s { queue = d.left ++ d.letter ∷ [] }) d.letter.bytes text t d.handed (record { config = h.config; heard = h.heard })
+befalls_hears c (TimedOut at) f s text t d h = times_hears c s at t d.times_out h
 
 deliveries_hear : (c : Configuration) (f : Filter) (order : DeliveryOrder) (n : ℕ) (s : StageFacts) (text : List ℕ) (t : StageFacts) → Deliveries f order n s text t → Hears c s → Hears c t
 deliveries_hear c f order zero s text t o h = subst (Hears c) (sym o.1) h
 deliveries_hear c f order (suc n) s text t (before, line, u, first, last, is) h =
-    delivers_hears c f (passed_over order n (meant_count f u.queue)) u line t last (deliveries_hear c f order n s before u first h)
+    befalls_hears c (fate_at f order n u) f u line t last (deliveries_hear c f order n s before u first h)
 
 requested_hears : (c : Configuration) (s : StageFacts) (o : Order) (session : Option SessionState) → Hears c s → Hears c (requested_by s o session).1
 requested_hears c s o None h = h

@@ -9,6 +9,7 @@ mod Legal
 mod LegalHeads
 mod Listed
 mod Naming
+mod OneForEach
 pub mod Playing
 mod Reporting
 mod Printed

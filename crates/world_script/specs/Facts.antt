@@ -1,5 +1,6 @@
 -- Statement: a stage, which is what a running script holds.
 use Rattle.std.specs.Prelude.{List}
+pub use Rattle.drained_records.specs.Facts.{RowFacts, destination_of, done_of, input_of, output_of, row_of}
 use Rattle.drained_records.specs.Worlds.{WorldFacts}
 use Rattle.world_queue.specs.Sessions.{SessionState}
 use Rattle.world_queue.specs.declared.forging.Forger.{Forger}

@@ -60,6 +60,10 @@ signer_of owner shape secret = record {
   next_leaf = shape.spent;
 }
 
+-- What each of these leaves has signed: one byte, so no message, of which the sender alone takes five.
+abbrev pub spent_message : List ℕ
+spent_message = 0 ∷ []
+
 -- one for each replica, ids ascending
 abbrev pub replica_signer : HeadFacts → ℕ → SigningState
 replica_signer h id = signer_of (owners.Replica (record { 0 = id })) (shape_at h.keys id) h.secret

@@ -2,7 +2,7 @@
 use Rattle.std.proofs.Common.{zero, suc}
 use Rattle.std.specs.Prelude.{◌≡◌, ◌≢◌, ℕ, ◌+◌, ◌≤◌, ◌==◌, Bool, true, false, ◌&&◌, List, [], ◌∷◌, ◌++◌, map, find, flat_map, Option, Some, None, is_some, Result, Ok, Err, ◌⊎◌, slice_get}
 use Rattle.std.specs.Option.{option_map}
-use Rattle.host_types.specs.Configuration.{Configuration}
+use Rattle.host_types.specs.Configuration.{Configuration, replicas_for}
 use Rattle.host_types.specs.declared.ClientId.{ClientId}
 use Rattle.host_types.specs.declared.ReplicaId.{ReplicaId}
 use Rattle.pbft_codec.specs.declared.body.Body.{Body}
@@ -33,11 +33,14 @@ use Rattle.script_text.specs.Node.TheVariants.{Replica, Client}
 use Rattle.script_text.specs.declared.script.Printout.TheVariants as printouts
 use Rattle.script_text.specs.declared.script.Step.{Step}
 use Rattle.script_text.specs.declared.script.Step.TheVariants as steps
+use Rattle.world_queue.specs.declared.fates.Fate.{Fate}
+use Rattle.world_queue.specs.declared.fates.Fate.TheVariants.{Handed, Lost, Repeated, TimedOut}
 use Rattle.world_queue.specs.declared.forging.Forger.{Forger}
 use Rattle.world_script.specs.declared.made.Made.{Made}
 use Rattle.world_script.specs.Edits.{Edited, edited}
 use Rattle.world_script.specs.Facts.{StageFacts}
-use Rattle.world_queue.specs.Letters.{LetterFacts, copies, first_meant, is_meant, letter_of, meant_count, passed_over, all_but}
+use Rattle.world_queue.specs.Fates.{fate}
+use Rattle.world_queue.specs.Letters.{IsTaken, LetterFacts, copies, first_meant, is_meant, letter_of, meant_count, all_but}
 use Rattle.world_queue.specs.Lines.{nothing_queued_line, refusal_line}
 use Rattle.world_script.specs.Printing.{Shows, ids_of}
 use Rattle.world_queue.specs.Parties.{after_asking, after_forging, after_offer, at_first, bare_view_change, forged_message, is_forger, is_of, signing_forger, signing_session, text_at, vote_body}
@@ -201,20 +204,47 @@ HandsTo (Client client) s bytes text t = (text, t) ≡ at_client s client (openi
 
 -- A letter that is meant, behind so many others that are, is taken from the queue and handed to its addressee.
 pub record Delivers (f : Filter) (passed : ℕ) (s : StageFacts) (text : List ℕ) (t : StageFacts) : Type 0 where
-  pub before : List LetterFacts
   pub letter : LetterFacts
-  pub after : List LetterFacts
-  pub splits : s.queue ≡ before ++ letter ∷ after
-  pub is_meant_one : is_meant f letter ≡ true
-  pub passed_is : meant_count f before ≡ passed
-  pub handed : HandsTo letter.to (record s { queue = before ++ after }) letter.bytes text t
+  pub left : List LetterFacts
+  pub taken : IsTaken f passed s.queue letter left
+  pub handed : HandsTo letter.to (record s { queue = left }) letter.bytes text t
+
+-- One is taken and lost.
+pub record Loses (f : Filter) (passed : ℕ) (s : StageFacts) (text : List ℕ) (t : StageFacts) : Type 0 where
+  pub letter : LetterFacts
+  pub left : List LetterFacts
+  pub taken : IsTaken f passed s.queue letter left
+  pub turn : (text, t) ≡ quiet (record s { queue = left })
+
+-- One is taken and queued again, last, and then a copy of it is handed to its addressee.
+pub record Repeats (f : Filter) (passed : ℕ) (s : StageFacts) (text : List ℕ) (t : StageFacts) : Type 0 where
+  pub letter : LetterFacts
+  pub left : List LetterFacts
+  pub taken : IsTaken f passed s.queue letter left
+  pub handed : HandsTo letter.to (record s { queue = left ++ letter ∷ [] }) letter.bytes text t
+
+-- A letter is meant, and all stay where they are, while a replica times out.
+pub record IsLate (f : Filter) (at : ReplicaId) (s : StageFacts) (text : List ℕ) (t : StageFacts) : Type 0 where
+  pub more : first_meant f s.queue ≢ None
+  pub times_out : TimesOut s at t
+  pub text_is : text ≡ []
+
+-- What a delivery does, by what becomes of it.
+abbrev pub Befalls : Fate → Filter → StageFacts → List ℕ → StageFacts → Type 0
+Befalls (Handed passed) f s text t = Delivers f passed s text t
+Befalls (Lost passed) f s text t = Loses f passed s text t
+Befalls (Repeated passed) f s text t = Repeats f passed s text t
+Befalls (TimedOut at) f s text t = IsLate f at s text t
+
+-- what becomes of the delivery behind n others
+abbrev pub fate_at : Filter → DeliveryOrder → ℕ → StageFacts → Fate
+fate_at f order n s = fate order n (meant_count f s.queue) (replicas_for s.world.config.f)
 
 -- so many deliveries in an order
 abbrev pub Deliveries : Filter → DeliveryOrder → ℕ → StageFacts → List ℕ → StageFacts → Type 0
 Deliveries f order zero s text t = (text ≡ []) × (t ≡ s)
 Deliveries f order (suc n) s text t =
-    (before line : List ℕ) × (u : StageFacts) × Deliveries f order n s before u × Delivers f (passed_over order n (meant_count f u.queue)) u line t
-    × (text ≡ before ++ line)
+    (before line : List ℕ) × (u : StageFacts) × Deliveries f order n s before u × Befalls (fate_at f order n u) f u line t × (text ≡ before ++ line)
 
 abbrev pub max_deliveries : ℕ
 max_deliveries = 1_000_000

@@ -1,11 +1,11 @@
 //! The keys of a script's replicas and clients, made of its secret.
 
-ghost use Rattle.std.specs.Prelude.{◌≡◌, ◌≤◌, ◌+◌, IfOk, OnOk, length, map};
+ghost use Rattle.std.specs.Prelude.{◌≡◌, ◌≤◌, ◌<◌, ◌+◌, IfOk, OnOk, length, map};
 ghost use Rattle.host_types.specs.Configuration.{replicas_for};
 ghost use Rattle.host_types.specs.declared.config.ClientEntry.{ClientEntry};
-ghost use Rattle.lms_tree.specs.Keys.{leaf_count};
+ghost use Rattle.lms_tree.specs.Keys.{after_signing, leaf_count, signature_of};
 ghost use Rattle.script_text.specs.KeyShapes.{leaves_of};
-ghost use Rattle.world_script.specs.Keys.{AreKeys, client_signer, configuration_of, entry_of, key_hash, keys_of, mark_of, number_of, part_number, replica_signers, signer_of};
+ghost use Rattle.world_script.specs.Keys.{AreKeys, client_signer, configuration_of, entry_of, key_hash, keys_of, mark_of, number_of, part_number, replica_signers, signer_of, spent_message};
 ghost use Rattle.world_queue.specs.Parties.{key_of};
 
 use crate::progress::{Progress, Unwatched};
@@ -282,19 +282,28 @@ impl OwnSource {
     }
 }
 
-/// Uses so many leaves of a signer, for signatures of one byte that is no message.
+/// Uses so many leaves of a signer, each for a signature of one byte that is no message.
 fn spend(signer: &mut Signer, many: u32) -> Result<(), AllocError>
     requires { signer.old.next_leaf + many ≤ leaf_count signer.old }
     ensures { OnOk result (signer.new ≡ record signer.old { next_leaf = signer.old.next_leaf + many }) }
 {
     for turn in 0..many {
-        match signer.sign(&[0]) {
-            Ok(_) => {}
-            Err(SignFault::Memory) => return Err(AllocError),
-            Err(SignFault::Exhausted) => unreachable!(),
-        }
+        spend_leaf(signer)?;
     }
     Ok(())
+}
+
+/// Uses the next leaf of a signer, for a signature of one byte that is no message, which it returns.
+fn spend_leaf(signer: &mut Signer) -> Result<Vec<u8>, AllocError>
+    requires { signer.old.next_leaf < leaf_count signer.old }
+    ensures used { signer.new ≡ after_signing signer.old }
+    ensures signed { IfOk result (λ signature. signature.items ≡ signature_of signer.old spent_message) }
+{
+    match signer.sign(&[0]) {
+        Ok(signature) => Ok(signature),
+        Err(SignFault::Memory) => Err(AllocError),
+        Err(SignFault::Exhausted) => unreachable!(),
+    }
 }
 
 fn hash_of(owner: Owner, part: Part, secret: &Secret) -> [u8; 32]

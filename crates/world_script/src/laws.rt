@@ -6,6 +6,9 @@ ghost use Rattle.drained_records.specs.Journals.{Journals};
 ghost use Rattle.drained_records.specs.Leading.{AreJournalsOf};
 ghost use Rattle.drained_records.specs.Setup.{setup_of};
 ghost use Rattle.drained_records.specs.Worlds.{IsHonestReport, member_of};
+ghost use Rattle.pbft_codec.specs.Encoding.{signed_text};
+ghost use Rattle.pbft_codec.specs.declared.body.Body.{Body};
+ghost use Rattle.pbft_codec.specs.declared.signed.Signed.{Signed};
 ghost use Rattle.script_text.specs.Heads.{HeadFacts};
 ghost use Rattle.script_text.specs.Scripts.{script_for};
 ghost use Rattle.script_text.specs.declared.dialect.Dialect.TheVariants.{World};
@@ -13,7 +16,7 @@ ghost use Rattle.script_text.specs.declared.files.NamedFile.{NamedFile};
 ghost use Rattle.script_text.specs.declared.script.Script.{Script};
 ghost use Rattle.service_model.specs.TenantStates.{Service};
 ghost use Rattle.world_script.specs.Facts.{StageFacts};
-ghost use Rattle.world_script.specs.Keys.{configuration_of};
+ghost use Rattle.world_script.specs.Keys.{configuration_of, spent_message};
 ghost use Rattle.world_script.specs.Passing.{IsOnRun, Passes, correct_signers};
 ghost use Rattle.world_script.specs.Printing.{Audits, agreed_line, service_in};
 ghost use Rattle.world_script.specs.Starts.{is_faulty};
@@ -33,4 +36,9 @@ pub fn honest_scripts_agree()
     ensures digests { (h : HeadFacts) (t : StageFacts) (j : Journals) (a b : ℕ) (s u : Service) → IsOnRun h t → AreJournalsOf (configuration_of h) (is_faulty h) (correct_signers h) t.world j
         → IsHonestReport (setup_of (configuration_of h)) j → service_in (member_of t.world a) ≡ Some s → service_in (member_of t.world b) ≡ Some u
         → s.number ≡ u.number → s ≡ u }
+{}
+
+/// What a leaf signs that is spent before the first step is no message's text, so that nothing opens by such a signature.
+pub fn spent_leaves_sign_no_message()
+    ensures { (m : Signed Body) → signed_text m ≡ spent_message → ⊥ }
 {}

@@ -1,6 +1,7 @@
 //! A running script: the replicas, the clients, and the messages between them.
 
 mod edits;
+mod fates;
 mod printing;
 
 ghost use Rattle.std.specs.Prelude.{◌≡◌, ◌<◌, ◌++◌, None, Some, IfOk, IfSome, OnOk, is_some, find, flat_map, length, map, option_copied, option_map, string_bytes};
@@ -20,7 +21,7 @@ ghost use Rattle.world_script.specs.Parts.{DeliversNext, Performs, Happened, Has
 ghost use Rattle.pbft_codec.specs.declared.body.Body.TheVariants as bodies;
 ghost use Rattle.pbft_codec.specs.declared.body.request.RequestBody.{RequestBody};
 ghost use Rattle.pbft_codec.specs.WellFormed.{BodyWellFormed};
-ghost use Rattle.world_script.specs.Stages.{AllTimeOut, Delivers, HandsTo, TimesOut, AtReplica, at_client, digest_named, forged_body, forges, is_request, is_running, letters_in, letters_of, lacked_memory, halt_in, refusal_of, all_replicas, after_naming, message_of, queued, requested};
+ghost use Rattle.world_script.specs.Stages.{AllTimeOut, HandsTo, TimesOut, AtReplica, at_client, digest_named, forged_body, forges, is_request, is_running, letters_in, letters_of, lacked_memory, halt_in, refusal_of, all_replicas, after_naming, message_of, queued, requested};
 ghost use Rattle.seal.specs.Opening.{opening};
 
 use crate::fault::RunFault;
@@ -45,9 +46,8 @@ use std::marker::Model;
 use std::mem::swap;
 use std::sync::Arc;
 use world_queue::{
-    Forger, Letter, Named, Queue, Sessions, checkpoint_body, forge, letter_of,
-    line_of_nothing_queued, line_of_refusal, next_state, passed_over, seed_of, view_change_body,
-    vote_body,
+    Forger, Letter, Named, Queue, Sessions, checkpoint_body, draw, forge, letter_of,
+    line_of_nothing_queued, line_of_refusal, seed_of, view_change_body, vote_body,
 };
 
 /// The most deliveries of one step.
@@ -163,7 +163,9 @@ impl Stage {
         if let Step::Deliver { filter, order } = step {
             return match order {
                 DeliveryOrder::Oldest => self.deliver(filter, writer, watcher),
-                DeliveryOrder::Drawn(_) | DeliveryOrder::Chosen(_) => {
+                DeliveryOrder::Drawn(_)
+                | DeliveryOrder::Chosen(_)
+                | DeliveryOrder::Unreliable { .. } => {
                     self.deliver_in(filter, order, writer, watcher)
                 }
             };
@@ -407,7 +409,8 @@ impl Stage {
         Ok(false)
     }
 
-    /// Delivers letters that are meant in an order, until none is. What comes of it is queued last.
+    /// Delivers letters that are meant in an order, until none is; some may be lost or come again, or replicas time out. What comes of it is
+    /// queued last.
     fn deliver_in<O: Write>(
         &mut self,
         filter: &Filter,
@@ -424,9 +427,9 @@ impl Stage {
             if count == 0 {
                 return Ok(lines);
             }
-            state = next_state(state);
-            let passed = passed_over(order, done, state, count);
-            let text = self.deliver_at(filter, passed, watcher)?;
+            let (fate, next) = draw(order, done, state, count, self.replica_count());
+            state = next;
+            let text = self.befall(filter, fate, watcher)?;
             let line = text.as_str();
             lines.push_str(line)?;
             if let Err(_) = write_text(writer, line) {
@@ -444,23 +447,6 @@ impl Stage {
         ensures { result ≡ meant_count filter.now self.now.queue }
     {
         self.queue.count_meant(filter)
-    }
-
-    /// Delivers the letter that is meant and has so many before it that are. What is printed.
-    fn deliver_at(
-        &mut self,
-        filter: &Filter,
-        passed: usize,
-        watcher: &mut dyn Watcher,
-    ) -> Result<String, AllocError>
-        requires { passed < meant_count filter.now self.old.queue }
-        ensures { IfOk result (λ text. Delivers filter.now passed self.old (string_bytes text) self.new) }
-    {
-        watcher.passing(passed)?;
-        let Some(letter) = self.queue.take_meant(filter, passed) else {
-            unreachable!()
-        };
-        self.hand_over(&letter, watcher)
     }
 
     /// Hands a letter to its addressee, and tells of it. What is printed.

@@ -4,11 +4,10 @@ use crate::group::{CLIENT, Group, set_of};
 use crate::runs::{FIRST, SECOND, report_of};
 use host_types::{Bytes, ClientId, Digest, ReplicaId, Request, SeqNo, View};
 use pbft_codec::{Body, Checkpoint, Commit, PrePrepare, Prepare, Snapshot};
-use service_core::State;
 use std::alloc::Global;
 use std::sync::Arc;
 use std::test::Fail;
-use world_script::{Event, History, Row, World, audit};
+use world_script::{Event, History, Row, State, World, audit};
 
 /// The digest of the null request: SHA-256 of no bytes (FIPS 180-4).
 const NULL_DIGEST: Digest = Digest([

@@ -1,6 +1,5 @@
 //! Four replicas, of which one may be faulty, and a client.
 
-use crate::listed::are_listed;
 use host_types::{Bytes, ClientEntry, ClientId, Config, Digest, ReplicaId, ReplicaSet, TenantId};
 use lms_tree::{Height, Signer};
 use pbft_codec::{Body, CodecFault, RequestBody, Role, Signed, signed_bytes};
@@ -8,7 +7,7 @@ use seal::{open, request_digest};
 use std::alloc::{AllocError, Global};
 use std::sync::Arc;
 use std::test::Fail;
-use world_script::{Event, Report, World, WorldFault, run_world};
+use world_script::{Event, Report, World, WorldFault, are_listed, run_world};
 
 /// The one client.
 pub const CLIENT: u32 = 16;

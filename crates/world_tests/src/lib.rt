@@ -12,7 +12,6 @@ mod group;
 mod held;
 #[cfg(test)]
 mod lines;
-mod listed;
 #[cfg(test)]
 mod reads;
 #[cfg(test)]
@@ -23,8 +22,3 @@ mod runs;
 mod scripts;
 
 pub use held::{files_in, script_with};
-pub use listed::are_listed;
-pub use world_script::{
-    Dest, Done, Event, Halt, Input, KeySources, Keys, Letter, Outcome, Output, Report, Row, Stage,
-    Status, Unwatched, Watcher, WorldFault, read_input, read_script, run_step, run_world,
-};

@@ -1,4 +1,7 @@
+mod Blames
+mod Finding
+mod Judging
 mod Searching
+mod Shrinking
 mod Telling
 mod Tracing
-mod Judging

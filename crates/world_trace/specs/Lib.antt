@@ -1,5 +1,8 @@
 pub mod Blaming
 pub mod Exploring
+pub mod Finding
+pub mod Searches
 pub mod Searching
+pub mod Shrinking
 pub mod Telling
 pub mod Traces

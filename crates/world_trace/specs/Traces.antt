@@ -1,5 +1,5 @@
 -- Statement: what a trace writes: of each step what is told of it, and then what it prints.
-use Rattle.std.specs.Prelude.{◌≡◌, ◌≢◌, ℕ, ◌+◌, ◌-◌, List, [], ◌∷◌, ◌++◌, length, Option, Result, Ok, Err, ◌⊎◌, slice_get}
+use Rattle.std.specs.Prelude.{◌≡◌, ℕ, ◌+◌, ◌-◌, List, [], ◌∷◌, ◌++◌, length, Option, Result, Ok, Err, ◌⊎◌, slice_get}
 use Rattle.std.specs.List.{flat_map}
 use Rattle.std.specs.Io.KnownBytes.{Appends}
 use Rattle.script_text.specs.ScriptFault.{ScriptFault}
@@ -17,7 +17,7 @@ use Rattle.world_script.specs.Running.{Reports}
 use Rattle.world_script.specs.Scripts.{step_number}
 use Rattle.world_script.specs.Writing.{AppendsFront}
 use Rattle.world_script.specs.declared.fault.RunFault.{RunFault}
-use Rattle.world_script.specs.declared.fault.RunFault.TheVariants.{TooManyDeliveries, Write, Memory}
+use Rattle.world_script.specs.declared.fault.RunFault.TheVariants.{Write, Memory}
 use Rattle.world_script.specs.declared.played.Played.{Played}
 use Rattle.world_script.specs.declared.played.Played.TheVariants.{Whole, Unexpected}
 

@@ -1,11 +1,12 @@
 //! A script under many orders of its deliveries.
 
 ghost use Rattle.std.specs.Prelude.{◌≡◌, [], IfOk, string_bytes};
-ghost use Rattle.script_text.specs.Orders.{named_in, ordered};
+ghost use Rattle.script_text.specs.Orders.{named_in, ordered, ordered_step, step_in};
 ghost use Rattle.world_script.specs.Keys.{keys_of};
 ghost use Rattle.world_script.specs.Starts.{start_of};
 ghost use Rattle.world_trace.specs.Exploring.{IsOutcome};
 ghost use Rattle.world_trace.specs.Searching.{IsUnder, Judges, StepExplored, differing_in};
+ghost use Rattle.world_trace.specs.Shrinking.{drawn_for};
 
 use crate::evidence::Evidence;
 use crate::in_memory::run_in_memory;
@@ -62,8 +63,8 @@ pub struct Explored {
     pub printed: Vec<u8>,
 }
 
-/// Runs a script with all its deliveries in the order that a seed draws, and sees whether what is wanted holds then. The keys are
-/// its head's, which were made before. The error is that memory ran out.
+/// Runs a script with all its deliveries in the order that a seed draws, their chances kept, and sees whether what is wanted holds
+/// then. The keys are its head's, which were made before. The error is that memory ran out.
 pub fn explore_seed(
     alloc: Global,
     script: &Script,
@@ -114,7 +115,7 @@ impl Explorer {
         let mut number: u32 = 0;
         for step in script.steps.as_slice() {
             number = number.saturating_add(1);
-            if let Some(outcome) = self.step(number, step, DeliveryOrder::Drawn(seed))? {
+            if let Some(outcome) = self.step(number, step, order_under(seed, &step.step))? {
                 return Ok(outcome);
             }
         }
@@ -163,9 +164,12 @@ impl Explorer {
         }
     }
 
-    /// How many letters were passed over at each delivery in an order that is drawn or chosen, at most 65,536 of them, since this was
-    /// last asked.
-    pub(crate) fn take_passed(&mut self) -> Vec<u64> {
+    /// How many letters were passed over at each letter that was delivered in an order that is drawn or chosen, at most 65,536 of them,
+    /// since this was last asked.
+    pub(crate) fn take_passed(&mut self) -> Vec<u64>
+        ensures stage { self.new.stage ≡ self.old.stage }
+        ensures unread { string_bytes self.new.unread ≡ string_bytes self.old.unread }
+    {
         replace(&mut self.listener.passed, Vec::new(self.alloc))
     }
 
@@ -192,6 +196,17 @@ fn differing(unread: &str, step: &Step) -> Option<usize>
     match step {
         Step::Expect(expected) => differing_line(expected.as_slice(), unread.as_bytes()),
         _ => None,
+    }
+}
+
+/// The order of a step's deliveries under a seed.
+pub(crate) fn order_under(seed: u64, step: &Step) -> DeliveryOrder
+    ensures step { step_in result step.now ≡ ordered_step seed step.now }
+    ensures order { result ≡ drawn_for seed step.now }
+{
+    match step {
+        Step::Deliver { order, .. } => order.under(seed),
+        _ => DeliveryOrder::Drawn(seed),
     }
 }
 

@@ -1,11 +1,16 @@
 //! What is found under one seed after another.
 
-ghost use Rattle.std.specs.Prelude.{◌≡◌};
+ghost use Rattle.std.specs.Prelude.{◌≡◌, ◌+◌, ◌-◌, ◌^◌, ◌<◌, ◌≤◌, ◌↔◌, ℕ, List, Option, Contains, IfOk, IsTrue, length, min, string_bytes};
+ghost use Rattle.script_text.specs.Orders.{ordered};
+ghost use Rattle.world_chart.specs.Lines.{blame_line};
 ghost use Rattle.world_script.specs.Keys.{keys_of};
+ghost use Rattle.world_trace.specs.Exploring.{IsOutcome};
+ghost use Rattle.world_trace.specs.Finding.{AreExplored, IsLineOf, IsNew, Stands, TakesSeeds, TellsBlame, TellsChoices, TellsEnd, TellsOne};
+ghost use Rattle.world_trace.specs.Searches.{Explores, Searches, seed_line};
 
 use crate::explore::{Explored, Outcome, Seeds, Wanted, explore_seed};
 use crate::shrink::{Finding, Found};
-use script_text::{Script, ScriptFault, ScriptKind, Step};
+use script_text::{Script, ScriptFault, Step};
 use std::alloc::{AllocError, Global};
 use std::cmp::min;
 use std::io::Write;
@@ -36,17 +41,23 @@ pub enum Searched {
 /// script early, or what is wanted doesn't hold at its end. Writes a line for it, and before it one for each
 /// blame, with the first seed under which it was heard; and how many seeds there were, where all agreed. It tells how many
 /// keys are made, and under how many seeds the script was run. Where the search shrinks, a line follows the finding for each step
-/// that delivers, `# step 4: choose = [0, 2]`: with these choices in place of their orders the script comes to the same finding.
+/// that delivers, `# step 4: choose = [0, 2]`, or `# step 4: order = 3` where it has chances: with these in place of their orders the
+/// script comes to the same finding.
 pub fn explore_script<O: Write, P: Progress>(
     alloc: Global,
     search: Search,
     script: &Script,
     writer: &mut O,
     progress: &mut P,
-) -> Result<Searched, ScriptFault> {
+) -> Result<Searched, ScriptFault>
+    ensures { Explores script.now search (O.contents writer.old) (O.contents writer.new) result }
+{
     match explore_in_turn(alloc, script, search, writer, progress) {
         Ok(searched) => Ok(searched),
-        Err(fault) => Err(report(ScriptFault::at_head(fault.into()), writer)),
+        Err(fault) => {
+            let reported = report(ScriptFault::at_head(fault.into()), writer);
+            Err(reported)
+        }
     }
 }
 
@@ -60,10 +71,16 @@ pub fn explore_side_by_side<R: Threads + Sync, O: Write, P: Progress>(
     script: &Script,
     writer: &mut O,
     progress: &mut P,
-) -> Result<Searched, ScriptFault> {
+) -> Result<Searched, ScriptFault>
+    requires { 0 < workers }
+    ensures { Explores script.now search (O.contents writer.old) (O.contents writer.new) result }
+{
     match explore_in_batches(rt, alloc, workers, script, search, writer, progress) {
         Ok(searched) => Ok(searched),
-        Err(fault) => Err(report(ScriptFault::at_head(fault.into()), writer)),
+        Err(fault) => {
+            let reported = report(ScriptFault::at_head(fault.into()), writer);
+            Err(reported)
+        }
     }
 }
 
@@ -73,55 +90,272 @@ fn explore_in_turn<O: Write, P: Progress>(
     search: Search,
     writer: &mut O,
     progress: &mut P,
-) -> Result<Searched, RunFault> {
-    let Search { seeds, wanted, .. } = search;
+) -> Result<Searched, RunFault>
+    ensures { Searches script.now search (O.contents writer.old) (O.contents writer.new) result }
+{
     let sources = KeySources::watched(alloc, &script.head, progress)?;
-    let mut findings = Findings::new(alloc);
-    for seed in seeds.first..seeds.end {
-        let explored = explore_seed(alloc, script, &sources, seed, wanted)?;
-        if findings.take(seed, &explored, writer)? == Searched::Refused {
-            tell_unexpected(script, &explored, progress);
-            return refused(
-                alloc,
-                script,
-                &sources,
-                search,
-                seed,
-                explored.outcome,
-                writer,
-            );
-        }
-        tell(seeds, seed.saturating_add(1), progress);
-    }
-    findings.end(seeds, writer)
+    let searching = Searching {
+        alloc,
+        script,
+        sources: &sources,
+        search,
+    };
+    searching.run_in_turn(writer, progress)
 }
 
-/// Ends a search with what was found under a seed, whose line is written. Where the search shrinks, the choices are written, too.
-fn refused<O: Write>(
+fn explore_in_batches<R: Threads + Sync, O: Write, P: Progress>(
+    rt: &R,
     alloc: Global,
+    workers: usize,
     script: &Script,
-    sources: &KeySources,
     search: Search,
-    seed: u64,
-    outcome: Outcome,
     writer: &mut O,
+    progress: &mut P,
 ) -> Result<Searched, RunFault>
-    requires { sources.now ≡ keys_of script.now.head }
+    requires { 0 < workers }
+    ensures { Searches script.now search (O.contents writer.old) (O.contents writer.new) result }
 {
-    if search.shrinks {
-        let found = Found {
+    let sources = KeySources::watched(alloc, &script.head, progress)?;
+    let searching = Searching {
+        alloc,
+        script,
+        sources: &sources,
+        search,
+    };
+    searching.run_in_batches(rt, workers, writer, progress)
+}
+
+/// A search that runs, the script that is searched, and its head's keys.
+#[derive(Clone, Copy)]
+struct Searching<'a> {
+    alloc: Global,
+    script: &'a Script,
+    sources: &'a KeySources,
+    search: Search,
+}
+
+impl Searching<'_> {
+    /// Runs the script under one seed after another.
+    fn run_in_turn<O: Write, P: Progress>(
+        self,
+        writer: &mut O,
+        progress: &mut P,
+    ) -> Result<Searched, RunFault>
+        requires { self.sources.now ≡ keys_of self.script.now.head }
+        ensures { Searches self.entry.script.now self.entry.search (O.contents writer.old) (O.contents writer.new) result }
+    {
+        let Seeds { first, end } = self.search.seeds;
+        let mut blamed = Vec::new(self.alloc);
+        let mut next = first;
+        while next < end {
+            let explored = self.explore(next)?;
+            match self.take(next, &explored, &mut blamed, writer, progress)? {
+                Searched::Agreed => {}
+                Searched::Refused => return Ok(Searched::Refused),
+            }
+            next += 1;
+            self.tell(next, progress);
+        }
+        self.end(writer)
+    }
+
+    /// Runs it under so many seeds at a time.
+    fn run_in_batches<R: Threads + Sync, O: Write, P: Progress>(
+        self,
+        rt: &R,
+        workers: usize,
+        writer: &mut O,
+        progress: &mut P,
+    ) -> Result<Searched, RunFault>
+        requires keys { self.sources.now ≡ keys_of self.script.now.head }
+        requires workers { 0 < workers }
+        ensures { Searches self.entry.script.now self.entry.search (O.contents writer.old) (O.contents writer.new) result }
+    {
+        let Seeds { first, end } = self.search.seeds;
+        let mut blamed = Vec::new(self.alloc);
+        let mut next = first;
+        while next < end {
+            let left = usize::try_from(end - next).unwrap_or(usize::MAX);
+            let count = min(workers, left);
+            let batch = self.explore_batch(rt, next, count)?;
+            match self.take_batch(next, &batch, &mut blamed, writer, progress)? {
+                Searched::Agreed => {}
+                Searched::Refused => return Ok(Searched::Refused),
+            }
+            next += count as u64;
+            self.tell(next, progress);
+        }
+        self.end(writer)
+    }
+
+    fn explore(self, seed: u64) -> Result<Explored, AllocError>
+        requires { self.sources.now ≡ keys_of self.script.now.head }
+        ensures { IfOk result (λ explored. IsOutcome (ordered seed self.entry.script.now) self.entry.search.wanted explored.outcome) }
+    {
+        let Searching {
             alloc,
             script,
             sources,
+            search,
+        } = self;
+        explore_seed(alloc, script, sources, seed, search.wanted)
+    }
+
+    /// Runs the script under so many seeds from one on, side by side.
+    fn explore_batch<R: Threads + Sync>(
+        self,
+        rt: &R,
+        first: u64,
+        count: usize,
+    ) -> Result<Vec<Result<Explored, AllocError>>, AllocError>
+        requires keys { self.sources.now ≡ keys_of self.script.now.head }
+        requires fits { first + count < 2 ^ 64 }
+        ensures count { IfOk result (λ batch. length batch.items ≡ count) }
+        ensures each { IfOk result (λ batch. AreExplored self.entry.script.now self.entry.search.wanted first batch.items) }
+    {
+        let Searching {
+            alloc,
+            script,
+            sources,
+            search,
+        } = self;
+        let wanted = search.wanted;
+        let run = move |index: usize| -> Result<Explored, AllocError>
+            requires { sources.now ≡ keys_of script.now.head }
+            ensures { IfOk result (λ explored. IsOutcome (ordered (min (first + index) 18446744073709551615) script.entry.now) wanted explored.outcome) }
+        {
+            let seed = first.saturating_add(index as u64);
+            explore_seed(alloc, script, sources, seed, wanted)
+        };
+        thread::map_indices(rt, alloc, count, &run)
+    }
+
+    /// Takes what came of the script under the seeds from one on, one after another.
+    fn take_batch<O: Write, P: Progress>(
+        self,
+        first: u64,
+        batch: &[Result<Explored, AllocError>],
+        blamed: &mut Vec<Blame>,
+        writer: &mut O,
+        progress: &mut P,
+    ) -> Result<Searched, RunFault>
+        requires keys { self.sources.now ≡ keys_of self.script.now.head }
+        requires each { AreExplored self.script.now self.search.wanted first batch.now }
+        requires within { first + length batch.now ≤ self.search.seeds.end }
+        ensures { (start : Option (List ℕ)) → Stands self.entry.script.now self.entry.search first blamed.old.items start (O.contents writer.old) → TakesSeeds self.entry.script.now self.entry.search (first + length batch.now) blamed.new.items start (O.contents writer.new) result }
+    {
+        let mut seed = first;
+        for explored in batch {
+            let Ok(explored) = explored else {
+                return Err(RunFault::Memory);
+            };
+            match self.take(seed, explored, blamed, writer, progress)? {
+                Searched::Agreed => {}
+                Searched::Refused => return Ok(Searched::Refused),
+            }
+            seed += 1;
+        }
+        Ok(Searched::Agreed)
+    }
+
+    /// Takes what came of the script under a seed, and writes what is new of it.
+    fn take<O: Write, P: Progress>(
+        self,
+        seed: u64,
+        explored: &Explored,
+        blamed: &mut Vec<Blame>,
+        writer: &mut O,
+        progress: &mut P,
+    ) -> Result<Searched, RunFault>
+        requires keys { self.sources.now ≡ keys_of self.script.now.head }
+        requires comes { IsOutcome (ordered seed self.script.now) self.search.wanted explored.now.outcome }
+        requires within { seed < self.search.seeds.end }
+        ensures { (start : Option (List ℕ)) → Stands self.entry.script.now self.entry.search seed blamed.old.items start (O.contents writer.old) → TakesSeeds self.entry.script.now self.entry.search (seed + 1) blamed.new.items start (O.contents writer.new) result }
+    {
+        self.write_blame(seed, &explored.blamed, blamed, writer)?;
+        let Some(line) = line_of_outcome(self.alloc, seed, &explored.outcome)? else {
+            return Ok(Searched::Agreed);
+        };
+        write_text(writer, &line)?;
+        tell_unexpected(self.script, explored, progress);
+        self.write_choices(seed, explored.outcome, writer)?;
+        Ok(Searched::Refused)
+    }
+
+    /// Writes who is blamed under a seed and why, unless that was so under an earlier one.
+    fn write_blame<O: Write>(
+        self,
+        seed: u64,
+        heard: &[Blame],
+        blamed: &mut Vec<Blame>,
+        writer: &mut O,
+    ) -> Result<(), RunFault>
+        ensures { TellsBlame seed heard.now blamed.old.items blamed.new.items (O.contents writer.old) (O.contents writer.new) result }
+    {
+        for blame in heard {
+            self.write_one(seed, blame, blamed, writer)?;
+        }
+        Ok(())
+    }
+
+    fn write_one<O: Write>(
+        self,
+        seed: u64,
+        blame: &Blame,
+        blamed: &mut Vec<Blame>,
+        writer: &mut O,
+    ) -> Result<(), RunFault>
+        ensures { TellsOne seed blame.now blamed.old.items blamed.new.items (O.contents writer.old) (O.contents writer.new) result }
+    {
+        if !is_new(blamed, blame)? {
+            return Ok(());
+        }
+        let line = line_of_blame(self.alloc, seed, blame)?;
+        write_text(writer, &line)
+    }
+
+    /// Writes the choices of what was found under a seed, where the search shrinks it.
+    fn write_choices<O: Write>(
+        self,
+        seed: u64,
+        outcome: Outcome,
+        writer: &mut O,
+    ) -> Result<(), RunFault>
+        requires { self.sources.now ≡ keys_of self.script.now.head }
+        ensures { TellsChoices self.entry.script.now self.entry.search outcome (O.contents writer.old) (O.contents writer.new) result }
+    {
+        if !self.search.shrinks {
+            return Ok(());
+        }
+        let found = Found {
+            alloc: self.alloc,
+            script: self.script,
+            sources: self.sources,
             finding: Finding {
                 seed,
-                wanted: search.wanted,
+                wanted: self.search.wanted,
                 outcome,
             },
         };
-        found.write_choices(writer)?;
+        found.write_choices(writer)
     }
-    Ok(Searched::Refused)
+
+    /// Writes how many seeds there were.
+    fn end<O: Write>(self, writer: &mut O) -> Result<Searched, RunFault>
+        ensures { TellsEnd (self.entry.search.seeds.end - self.entry.search.seeds.first) (O.contents writer.old) (O.contents writer.new) result }
+    {
+        let Seeds { first, end } = self.search.seeds;
+        let many = end.saturating_sub(first);
+        let line = format!(in self.alloc; "explored {many} seeds\n")?;
+        write_text(writer, &line)?;
+        Ok(Searched::Agreed)
+    }
+
+    /// Tells that the script was run under the seeds before this one.
+    fn tell<P: Progress>(self, next: u64, progress: &mut P) {
+        let Seeds { first, end } = self.search.seeds;
+        progress.seeds(next.saturating_sub(first), end.saturating_sub(first));
+    }
 }
 
 /// Tells what the `expect` wants that found other lines, if one did, and what was printed.
@@ -137,130 +371,30 @@ fn tell_unexpected<P: Progress>(script: &Script, explored: &Explored, progress: 
     }
 }
 
-/// Tells that the script was run under the seeds before this one.
-fn tell<P: Progress>(seeds: Seeds, next: u64, progress: &mut P) {
-    let Seeds { first, end } = seeds;
-    progress.seeds(next.saturating_sub(first), end.saturating_sub(first));
-}
-
-fn explore_in_batches<R: Threads + Sync, O: Write, P: Progress>(
-    rt: &R,
-    alloc: Global,
-    workers: usize,
-    script: &Script,
-    search: Search,
-    writer: &mut O,
-    progress: &mut P,
-) -> Result<Searched, RunFault> {
-    let Search { seeds, wanted, .. } = search;
-    let sources = KeySources::watched(alloc, &script.head, progress)?;
-    let mut findings = Findings::new(alloc);
-    let mut next = seeds.first;
-    for _ in seeds.first..seeds.end {
-        let left = usize::try_from(seeds.end.saturating_sub(next)).unwrap_or(usize::MAX);
-        let count = min(workers, left);
-        let batch = run_batch(rt, alloc, script, &sources, wanted, next, count)?;
-        if batch.is_empty() {
-            break;
-        }
-        for explored in batch {
-            let explored = explored?;
-            if findings.take(next, &explored, writer)? == Searched::Refused {
-                tell_unexpected(script, &explored, progress);
-                return refused(
-                    alloc,
-                    script,
-                    &sources,
-                    search,
-                    next,
-                    explored.outcome,
-                    writer,
-                );
-            }
-            next = next.saturating_add(1);
-        }
-        tell(seeds, next, progress);
-    }
-    findings.end(seeds, writer)
-}
-
-/// Runs a script under so many seeds from one on, side by side.
-fn run_batch<R: Threads + Sync>(
-    rt: &R,
-    alloc: Global,
-    script: &Script,
-    sources: &KeySources,
-    wanted: Wanted,
-    first: u64,
-    count: usize,
-) -> Result<Vec<Result<Explored, AllocError>>, AllocError>
-    requires { sources.now ≡ keys_of script.now.head }
+/// Notes who is blamed. Whether he was not blamed so before.
+fn is_new(blamed: &mut Vec<Blame>, blame: &Blame) -> Result<bool, AllocError>
+    ensures { IfOk result (IsNew blame.now blamed.old.items blamed.new.items) }
 {
-    let run = move |index: usize| -> Result<Explored, AllocError> {
-        let seed = first.saturating_add(index as u64);
-        explore_seed(alloc, script, sources, seed, wanted)
-    };
-    thread::map_indices(rt, alloc, count, &run)
+    if is_among(blamed, blame) {
+        return Ok(false);
+    }
+    blamed.push(*blame)?;
+    Ok(true)
 }
 
-/// What was found under the seeds so far.
-#[derive(Drop)]
-struct Findings {
-    alloc: Global,
-    blamed: Vec<Blame>,
+/// Whether someone was blamed so before.
+fn is_among(blamed: &[Blame], blame: &Blame) -> bool
+    ensures { IsTrue result ↔ Contains blamed.now blame.now }
+{
+    blamed.contains(blame)
 }
 
-impl Findings {
-    fn new(alloc: Global) -> Findings {
-        Findings {
-            alloc,
-            blamed: Vec::new(alloc),
-        }
-    }
-
-    /// Takes what came of the script under a seed, and writes what is new of it.
-    fn take<O: Write>(
-        &mut self,
-        seed: u64,
-        explored: &Explored,
-        writer: &mut O,
-    ) -> Result<Searched, RunFault> {
-        for blame in &explored.blamed {
-            self.blame(seed, *blame, writer)?;
-        }
-        match line_of_outcome(self.alloc, seed, &explored.outcome)? {
-            Some(line) => {
-                write_text(writer, &line)?;
-                Ok(Searched::Refused)
-            }
-            None => Ok(Searched::Agreed),
-        }
-    }
-
-    /// Writes who is blamed and why, unless that was so under an earlier seed.
-    fn blame<O: Write>(&mut self, seed: u64, blame: Blame, writer: &mut O) -> Result<(), RunFault> {
-        if !self.is_new(blame)? {
-            return Ok(());
-        }
-        let line = line_of(self.alloc, &Happening::Blamed(blame))?;
-        write_text(writer, &format!(in self.alloc; "seed {seed} {line}")?)
-    }
-
-    /// Whether someone was not blamed so under an earlier seed; from now on he was.
-    fn is_new(&mut self, blame: Blame) -> Result<bool, AllocError> {
-        if self.blamed.contains(&blame) {
-            return Ok(false);
-        }
-        self.blamed.push(blame)?;
-        Ok(true)
-    }
-
-    /// Writes how many seeds there were.
-    fn end<O: Write>(&self, seeds: Seeds, writer: &mut O) -> Result<Searched, RunFault> {
-        let many = seeds.end.saturating_sub(seeds.first);
-        write_text(writer, &format!(in self.alloc; "explored {many} seeds\n")?)?;
-        Ok(Searched::Agreed)
-    }
+/// The line of blame under a seed.
+fn line_of_blame(alloc: Global, seed: u64, blame: &Blame) -> Result<String, AllocError>
+    ensures { IfOk result (λ line. string_bytes line ≡ seed_line seed (blame_line blame.now)) }
+{
+    let line = line_of(alloc, &Happening::Blamed(*blame))?;
+    format!(in alloc; "seed {seed} {line}")
 }
 
 /// The line that says why a seed ends the search; none where what is wanted held.
@@ -268,7 +402,9 @@ fn line_of_outcome(
     alloc: Global,
     seed: u64,
     outcome: &Outcome,
-) -> Result<Option<String>, AllocError> {
+) -> Result<Option<String>, AllocError>
+    ensures { IfOk result (IsLineOf seed outcome.now) }
+{
     let line = match *outcome {
         Outcome::Agreed => return Ok(None),
         Outcome::Audited(fault) => {

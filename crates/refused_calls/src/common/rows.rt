@@ -3,7 +3,7 @@
 use crate::common::told::leading;
 use host_types::Digest;
 use sha2::{Digest as _, Sha256};
-use world_tests::{Dest, Done, Input, Output, Row};
+use world_script::{Dest, Done, Input, Output, Row};
 
 /// The first bytes of a hash of all that a row says.
 pub(crate) fn leading_of(row: &Row) -> u64 {

@@ -1,7 +1,7 @@
 //! The events that happen to the replicas of a script when it is played.
 
 ghost use Rattle.std.specs.Prelude.{◌≡◌};
-ghost use Rattle.world_tests.specs.Keys.{keys_of};
+ghost use Rattle.world_script.specs.Keys.{keys_of};
 
 use anyhow::{Result, anyhow};
 use host_types::{Bytes, Config, ReplicaId, ReplicaSet};
@@ -9,7 +9,7 @@ use lms_tree::Signer;
 use script_text::{Head, NamedStep, Node, Script, Step};
 use std::alloc::{AllocError, Global};
 use std::sync::Arc;
-use world_tests::{Event, KeySources, Keys, Letter, Row, Stage, Unwatched, Watcher, run_step};
+use world_script::{Event, KeySources, Keys, Letter, Row, Stage, Unwatched, Watcher, run_step};
 
 /// The correct replicas of a script before their first signatures.
 #[derive(Drop)]

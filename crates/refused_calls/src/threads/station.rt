@@ -19,7 +19,7 @@ use std::marker::Brand;
 use std::sync::ledger::Blank;
 use std::sync::{Arc, Wait};
 use std::thread::Threads;
-use world_tests::{Halt, Row, Status};
+use world_script::{Halt, Row, Status};
 
 /// The replica at the station.
 const REPLICA: ReplicaId = ReplicaId(1);

@@ -1,8 +1,8 @@
 use Rattle.std.proofs.Common.{◌≡◌, ◌<◌, ℕ, List, length, rules, sym, subst}
 use Rattle.std.specs.Prelude.{IsSomeAnd}
 use Rattle.std.specs.VecDeque.{deque_len}
-use Rattle.world_queue.specs.Letters.{LetterFacts}
-use Rattle.world_queue.specs.Effects.{IsPlace, IsTaken}
+use Rattle.world_queue.specs.Letters.{IsTaken, LetterFacts}
+use Rattle.world_queue.specs.Effects.{IsPlace}
 use Rattle.world_queue.proofs.Lists.{taken_at}
 use Rattle.world_queue.proofs.queue.Queue.take_meant.Goals as goal
 

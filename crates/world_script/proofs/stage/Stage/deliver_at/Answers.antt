@@ -4,7 +4,6 @@ use Rattle.std.proofs.lemmas.Result.{IfOk-weaker}
 use Rattle.world_queue.specs.Letters.{meant_count}
 use Rattle.world_script.specs.Facts.{StageFacts}
 use Rattle.world_script.specs.Stages.{Delivers}
-use Rattle.world_script.proofs.Delivering.{delivered_at}
 use Rattle.world_script.proofs.stage.Stage.deliver_at.Goals as goal
 
 pub take_meant-requires : goal.take_meant-requires
@@ -19,5 +18,5 @@ returns g c =
     let view : kept ≡ c.args.self.now = c.self.view_is in
     IfOk-weaker c.hand_over.result _ _
     (λ text handed. subst (λ (s : StageFacts). Delivers c.args.filter.now c.args.passed s (string_bytes text) c.hand_over.new.self) view
-    (delivered_at c.args.filter.now c.args.passed kept c.hand_over.new.self c.in-Some.letter c.take_meant.new.self (string_bytes text) c.in-Some.ensures handed))
+    (record { letter = c.in-Some.letter; left = c.take_meant.new.self; taken = c.in-Some.ensures; handed = handed }))
     c.hand_over.ensures
