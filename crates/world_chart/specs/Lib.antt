@@ -2,6 +2,10 @@ pub mod Charts
 pub mod Diagrams
 pub mod Drawing
 pub mod Rows
-pub use Rattle.world_lines.specs.Lines
 pub use Rattle.world_lines.specs.Blame
+pub use Rattle.world_lines.specs.Changes
+pub use Rattle.world_lines.specs.Lines
+pub use Rattle.world_lines.specs.Sayings
+pub use Rattle.world_lines.specs.declared.happening.Cause
 pub use Rattle.world_lines.specs.declared.happening.Happening
+pub use Rattle.world_lines.specs.declared.saying.Saying

@@ -14,6 +14,6 @@ mod rows;
 pub use chart::Chart;
 pub use lanes::Lanes;
 pub use world_lines::{
-    Blame, Cause, Claim, Happening, Leaving, Standing, Topic, changes, claim_of, leaf_claim_of,
-    line_of, saying_in, view_claim_of, words_of,
+    Blame, Cause, Claim, Happening, Leaving, Saying, Standing, Topic, changes, claim_of,
+    leaf_claim_of, line_of, saying_in, view_claim_of, words_of,
 };

@@ -1,8 +1,11 @@
--- Statement: what becomes of a replica's standing.
-use Rattle.std.specs.Prelude.{◌==◌, Bool, true, false, not, ◌&&◌, ◌||◌, List, [], ◌∷◌, ◌++◌, Option, Some, None, if◌then◌else◌}
+-- Statement: what becomes of a replica's standing, and what a row does.
+use Rattle.std.specs.Prelude.{◌==◌, Bool, true, false, not, ◌&&◌, ◌||◌, List, [], ◌∷◌, ◌++◌, map, Option, Some, None, if◌then◌else◌}
 use Rattle.host_types.specs.declared.ReplicaId.{ReplicaId}
+use Rattle.replica_core.specs.Facts.{RowFacts}
 use Rattle.replica_core.specs.declared.halt.Halt.{Halt}
 use Rattle.replica_core.specs.declared.replica.Status.{Status}
+use Rattle.replica_core.specs.declared.row.Done.{Done}
+use Rattle.replica_core.specs.declared.row.Done.TheVariants as dones
 use Rattle.world_lines.specs.declared.standing.Standing.{Standing}
 use Rattle.world_lines.specs.declared.happening.Happening.{Happening}
 use Rattle.world_lines.specs.declared.happening.Happening.TheVariants as happens
@@ -27,3 +30,18 @@ changes s =
     ++ (where_so (s.after.active && (not s.before.active || is_new s.before s.after)) (happens.Entered s.at s.after.view)
     ++ (where_so (not (s.before.low.0 == s.after.low.0)) (happens.Raised s.at s.after.low)
     ++ halts_now s.at s.before.halted s.after.halted))
+
+-- the same of a replica that may be no correct one
+abbrev pub changes_from : ReplicaId → Option Status → Option Status → List Happening
+changes_from at None after = []
+changes_from at (Some before) None = []
+changes_from at (Some before) (Some after) = changes (record { at = at; before = before; after = after })
+
+-- What it did to its state, in order.
+abbrev pub doing : ReplicaId → Done → Happening
+doing at (dones.Executed number digest result) = happens.Executed at number
+doing at (dones.Installed number digest) = happens.Installed at number
+
+abbrev pub doings : ReplicaId → Option RowFacts → List Happening
+doings at None = []
+doings at (Some row) = map (doing at) row.done

@@ -1,5 +1,5 @@
 -- Events at a replica: what is printed of bytes that it refuses.
-use Rattle.std.proofs.Common.{◌≡◌, ℕ, Bool, true, false, List, [], Option, None, Result, Ok, Err, refl, sym, ap, subst, ◌∙◌}
+use Rattle.std.proofs.Common.{◌≡◌, ℕ, Bool, true, false, List, [], Option, Some, None, Result, Ok, Err, refl, sym, ap, subst, ◌∙◌}
 use Rattle.std.specs.Prelude.{nat_lt, is_some}
 use Rattle.host_types.specs.Configuration.{replicas_for}
 use Rattle.host_types.specs.declared.ReplicaId.{ReplicaId}
@@ -9,10 +9,11 @@ use Rattle.drained_records.specs.Facts.{RowFacts}
 use Rattle.drained_records.specs.WorldFault.TheVariants as faults
 use Rattle.drained_records.specs.Worlds.{Answer, Delivers, Gives, Refuses, Where, WorldFacts}
 use Rattle.drained_records.specs.Event.TheVariants as events
-use Rattle.world_script.specs.Parts.{Happened}
-use Rattle.world_script.specs.Stages as stages
+use Rattle.script_text.specs.Node.TheVariants.{Replica}
+use Rattle.world_script.specs.Parts.{Happened, Takes}
+use Rattle.world_script.proofs.Telling.{takes_resting, takes_running}
 use Rattle.world_script.specs.Facts.{StageFacts}
-use Rattle.world_script.specs.Stages.{Occurs, Receives, Turn, is_running, letters_in, queued, refusal_of}
+use Rattle.world_script.specs.Stages.{Receives, Turn, is_running, refusal_of}
 
 same_row : (x y : Option RowFacts) → ◌≡◌ {A = Answer} (Ok x) (Ok y) → x ≡ y
 same_row x y h = cc h
@@ -40,32 +41,32 @@ nothing_refused s w id bytes row g runs stops = by (opening s.world.config bytes
       let none = same_row row None d.0 in
       absurd (true_false (sym runs ∙ ap (λ (x : WorldFacts). is_running x id) (sym d.1) ∙ stops (ap is_some none)))
 
-pub occurred : (s t : StageFacts) (id : ReplicaId) (bytes : List ℕ) (gave : Bool) → Happened s id (events.Deliver id bytes) gave t → Occurs s id (events.Deliver id bytes) t
-occurred s t id bytes gave h = record { row = h.row; world = h.world; gives = h.gives; continues = h.continues; new = h.new }
-
-abbrev pub IsHandled : StageFacts → ReplicaId → List ℕ → List ℕ → StageFacts → Type 0
-IsHandled s id bytes text t = stages.AtReplica s id bytes text t
-
-where_running : (s t : StageFacts) (id : ReplicaId) (bytes text : List ℕ) → is_running s.world id ≡ true → Receives s id bytes text t → IsHandled s id bytes text t
-where_running s t id bytes text runs r =
-    subst (λ (b : Bool). Where b (Receives s id bytes text t) (◌≡◌ {A = Turn} (text, t) ([], s))) (sym runs) r
+received : (s t : StageFacts) (id : ReplicaId) (bytes text : List ℕ) (row : Option RowFacts) (h : Happened s id (events.Deliver id bytes) row t) → text ≡ refusal_of id (opening s.world.config bytes)
+    → Receives s id bytes text t
+received s t id bytes text row h is = record {
+  occurs = record { row = row; world = h.world; gives = h.gives; continues = h.continues; new = h.new };
+  text_is = is;
+}
 
 -- A replica that does not run does nothing.
-pub passes_over : (s : StageFacts) (id : ReplicaId) (bytes text : List ℕ) → is_running s.world id ≡ false → text ≡ [] → IsHandled s id bytes text s
-passes_over s id bytes text rests none =
-    subst (λ (b : Bool). Where b (Receives s id bytes text s) (◌≡◌ {A = Turn} (text, s) ([], s))) (sym rests) (ap {B = Turn} (λ (x : List ℕ). (x, s)) none)
+pub passes_over : (s : StageFacts) (id : ReplicaId) (bytes text : List ℕ) → is_running s.world id ≡ false → text ≡ [] → Takes (Replica id) s bytes text None s
+passes_over s id bytes text rests none = takes_resting s s id bytes text rests (ap {B = Turn} (λ (x : List ℕ). (x, s)) none)
 
 -- It gave a row, or has halted: nothing is printed.
-pub handled : (s t : StageFacts) (id : ReplicaId) (bytes text : List ℕ) (gave : Bool) → is_running s.world id ≡ true → Happened s id (events.Deliver id bytes) gave t
-    → (gave ≡ false → is_running t.world id ≡ false) → text ≡ [] → IsHandled s id bytes text t
-handled s t id bytes text gave runs h stops none =
-    where_running s t id bytes text runs (record {
-      occurs = occurred s t id bytes gave h;
-      text_is = none ∙ sym (nothing_refused s h.world id bytes h.row h.gives runs (λ no. ap (λ (u : StageFacts). is_running u.world id) (sym h.new) ∙ stops (h.gave_is ∙ no)));
-    })
+pub handled : (s t : StageFacts) (id : ReplicaId) (bytes text : List ℕ) (row : Option RowFacts) → is_running s.world id ≡ true → Happened s id (events.Deliver id bytes) row t
+    → (is_some row ≡ false → is_running t.world id ≡ false) → text ≡ [] → Takes (Replica id) s bytes text row t
+unfolding received
+handled s t id bytes text row runs h stops none =
+    takes_running s t id bytes text runs
+    (received s t id bytes text row h (none ∙ sym (nothing_refused s h.world id bytes row h.gives runs (λ no. ap (λ (u : StageFacts). is_running u.world id) (sym h.new) ∙ stops no))))
+
+none_is : (row : Option RowFacts) → is_some row ≡ false → row ≡ None
+none_is None lacks = refl
+none_is (Some row) lacks = absurd (true_false lacks)
 
 -- It gave none and continues: what is printed is why the bytes are refused.
-pub refused : (s t : StageFacts) (id : ReplicaId) (bytes text : List ℕ) (gave : Bool) → is_running s.world id ≡ true → Happened s id (events.Deliver id bytes) gave t
-    → text ≡ refusal_of id (opening s.world.config bytes) → IsHandled s id bytes text t
-refused s t id bytes text gave runs h is =
-    where_running s t id bytes text runs (record { occurs = occurred s t id bytes gave h; text_is = is })
+pub refused : (s t : StageFacts) (id : ReplicaId) (bytes text : List ℕ) (row : Option RowFacts) → is_running s.world id ≡ true → Happened s id (events.Deliver id bytes) row t → is_some row ≡ false
+    → text ≡ refusal_of id (opening s.world.config bytes) → Takes (Replica id) s bytes text None t
+unfolding received
+refused s t id bytes text row runs h lacks is =
+    subst (λ (r : Option RowFacts). Takes (Replica id) s bytes text r t) (none_is row lacks) (takes_running s t id bytes text runs (received s t id bytes text row h is))

@@ -9,9 +9,7 @@ use Rattle.drained_records.specs.Worlds.{Runs, Where, WorldFacts, first_world}
 use Rattle.drained_records.specs.Event.{Event}
 use Rattle.world_queue.specs.Sessions.{SessionState}
 use Rattle.host_types.specs.declared.ClientId.{ClientId}
-use Rattle.script_text.specs.Scripts.{script_for}
-use Rattle.script_text.specs.declared.dialect.Dialect.TheVariants.{World}
-use Rattle.script_text.specs.declared.files.NamedFile.{NamedFile}
+use Rattle.script_text.specs.Heads.{IsLegal}
 use Rattle.script_text.specs.declared.script.DeliveryOrder.{DeliveryOrder}
 use Rattle.script_text.specs.declared.script.Filter.{Filter}
 use Rattle.pbft_codec.specs.declared.body.Body.{Body}
@@ -37,7 +35,7 @@ use Rattle.world_queue.specs.declared.fates.Fate.{Fate}
 use Rattle.world_queue.specs.declared.fates.Fate.TheVariants.{Handed, Lost, Repeated, TimedOut}
 use Rattle.world_script.specs.Starts.{is_faulty, start_of}
 use Rattle.world_script.proofs.Hearing.{passed_hears}
-use Rattle.world_script.proofs.LegalHeads.{head_configuration, head_listed, script_legal}
+use Rattle.world_script.proofs.LegalHeads.{head_configuration, head_listed}
 
 -- ---- runs
 
@@ -146,14 +144,14 @@ pub passed_leads : (script : Script) (t : StageFacts) → Passes script t → Le
 passed_leads script t p =
     on (start_of script.head).world p.scene.stage.world t.world (plays_lead (first_scene script.head) p.before p.text p.scene p.plays) (first_part_leads p.scene.stage p.later t p.part)
 
-pub on_run : (files : List NamedFile) (input : List ℕ) (script : Script) (t : StageFacts) → script_for World files input ≡ Ok script → Passes script t → IsOnRun script.head t
-on_run files input script t is p =
+pub on_run : (script : Script) (t : StageFacts) → IsLegal script.head.f script.head.k script.head.clients → Passes script t → IsOnRun script.head t
+on_run script t known p =
     let h = script.head in
     let w = passed_leads script t p in
     record {
       events = w.0;
       runs = w.1;
       heard = passed_hears script t p;
-      sound = sound_worlds (configuration_of h) (is_faulty h) (correct_signers h) (head_configuration h (script_legal files input script is)) (head_listed h) w.0 t.world
+      sound = sound_worlds (configuration_of h) (is_faulty h) (correct_signers h) (head_configuration h known) (head_listed h) w.0 t.world
           (runs_lead (first_world (configuration_of h) (is_faulty h) (correct_signers h)) w.0 t.world w.1);
     }

@@ -11,10 +11,12 @@ use Rattle.host_types.specs.declared.config.ClientEntry.{ClientEntry}
 use Rattle.host_types.specs.declared.config.ConfigFault.{ConfigFault}
 use Rattle.host_types.specs.declared.config.ConfigFault.TheVariants.{BadF, WrongReplicaCount, BadInterval, TooMany, DuplicateClient}
 use Rattle.drained_records.specs.Worlds.{AreListed, correct_ids}
-use Rattle.script_text.specs.Forms.{only_keys, pair_of}
+use Rattle.script_text.specs.Forms.{only_keys, pair_of, unknown_where, wrong_where}
 use Rattle.script_text.specs.Heads.{HeadFacts, IsLegal, byte_of, head_from, head_in, head_keys, head_of, head_read, keyless, keyless_configuration, listed_clients, needed_head, optional_head}
 use Rattle.script_text.specs.Scripts.{document, script_from, script_for, script_in, script_with, steps_in, listed_steps}
-use Rattle.script_text.specs.declared.dialect.Dialect.TheVariants.{World}
+use Rattle.script_text.specs.Dialects.{head_for, names_faulty}
+use Rattle.script_text.specs.declared.dialect.Dialect.{Dialect}
+use Rattle.script_text.specs.declared.dialect.Dialect.TheVariants.{World, Seeded, Threads}
 use Rattle.script_text.specs.ScriptFault.{ScriptFault}
 use Rattle.script_text.specs.Client.{Client}
 use Rattle.script_text.specs.declared.script.Script.{Script}
@@ -98,18 +100,34 @@ from_steps : (h : HeadFacts) (r : Result (List NamedStep) ScriptFault) (script :
 from_steps h (Ok xs) script known is = subst (λ (x : Script). IsLegalHead x.head) (ok_is _ script is) known
 from_steps h (Err fault) script known is = absurd (err_ok is)
 
-from_document : (files : List NamedFile) (o : Option Members) (script : Script) → script_in World files o ≡ Ok script → IsLegalHead script.head
-from_document files None script is = absurd (err_ok is)
-from_document files (Some members) script is =
-    by_result (λ r. script_with World files members r ≡ Ok script → IsLegalHead script.head) (head_in members)
-    (λ h e is. from_steps h (steps_in World files h (listed_steps members)) script (head_legal members h e) is) (λ fault is. absurd (err_ok is)) is
+-- Nothing else is wrong with it.
+not_wrong : (members : Members) (h : HeadFacts) (b : Bool) → wrong_where b (head_in members) ≡ Ok h → IsLegalHead h
+not_wrong members h true =
+    by_result (λ r. wrong_where true r ≡ Ok h → IsLegalHead h) (head_in members) (λ g e is. absurd (err_ok is)) (λ fault is. absurd (err_ok is))
+not_wrong members h false = head_legal members h
 
-if_short : (b : Bool) (fault : ScriptFault) (files : List NamedFile) (o : Option Members) (script : Script) → (if b then Err fault else script_in World files o) ≡ Ok script → IsLegalHead script.head
-if_short true fault files o script is = absurd (err_ok is)
-if_short false fault files o script is = from_document files o script is
+not_unknown : (members : Members) (h : HeadFacts) (b c : Bool) → unknown_where c (wrong_where b (head_in members)) ≡ Ok h → IsLegalHead h
+not_unknown members h b true =
+    by_result (λ r. unknown_where true r ≡ Ok h → IsLegalHead h) (wrong_where b (head_in members)) (λ g e is. absurd (err_ok is)) (λ fault is. absurd (err_ok is))
+not_unknown members h b false = not_wrong members h b
 
-pub script_legal : (files : List NamedFile) (input : List ℕ) (script : Script) → script_for World files input ≡ Ok script → IsLegal script.head.f script.head.k script.head.clients
-script_legal files input script is = if_short (nat_lt 1048576 (length input)) _ files (document input) script is
+legal_for : (dialect : Dialect) (members : Members) (h : HeadFacts) → head_for dialect members ≡ Ok h → IsLegalHead h
+legal_for World members h is = head_legal members h is
+legal_for Seeded members h is = head_legal members h is
+legal_for Threads members h is = not_unknown members h (names_faulty members) _ is
+
+from_document : (dialect : Dialect) (files : List NamedFile) (o : Option Members) (script : Script) → script_in dialect files o ≡ Ok script → IsLegalHead script.head
+from_document dialect files None script is = absurd (err_ok is)
+from_document dialect files (Some members) script is =
+    by_result (λ r. script_with dialect files members r ≡ Ok script → IsLegalHead script.head) (head_for dialect members)
+    (λ h e is. from_steps h (steps_in dialect files h (listed_steps members)) script (legal_for dialect members h e) is) (λ fault is. absurd (err_ok is)) is
+
+if_short : (b : Bool) (fault : ScriptFault) (dialect : Dialect) (files : List NamedFile) (o : Option Members) (script : Script) → (if b then Err fault else script_in dialect files o) ≡ Ok script → IsLegalHead script.head
+if_short true fault dialect files o script is = absurd (err_ok is)
+if_short false fault dialect files o script is = from_document dialect files o script is
+
+pub script_legal : (dialect : Dialect) (files : List NamedFile) (input : List ℕ) (script : Script) → script_for dialect files input ≡ Ok script → IsLegal script.head.f script.head.k script.head.clients
+script_legal dialect files input script is = if_short (nat_lt 1048576 (length input)) _ dialect files (document input) script is
 
 -- ---- its configuration
 

@@ -14,7 +14,7 @@ pub mod Playing
 mod Reporting
 mod Printed
 mod Ranges
-mod Timing
+mod Telling
 mod Turns
 pub mod Written
 mod FaultLine

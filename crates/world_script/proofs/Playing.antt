@@ -1,5 +1,5 @@
 -- The steps of a script, one after another.
-use Rattle.std.proofs.Common.{◌≡◌, ℕ, ◌+◌, ◌<◌, ◌≤◌, List, [], ◌∷◌, ◌++◌, length, get_or, take, drop, Option, Some, None, Ok, Err, refl, sym, ap, subst, ◌∙◌, inl, inr, arith}
+use Rattle.std.proofs.Common.{◌≡◌, ℕ, suc, ◌+◌, ◌<◌, ◌≤◌, List, [], ◌∷◌, ◌++◌, length, get_or, take, drop, Option, Some, None, Ok, Err, refl, sym, ap, subst, ◌∙◌, inl, inr, arith}
 use Rattle.std.specs.Prelude.{Result, String, min}
 use Rattle.std.specs.Io.KnownBytes.{Appends}
 use Rattle.std.specs.String.{string_bytes}
@@ -12,12 +12,14 @@ use Rattle.script_text.specs.declared.script.NamedStep.{NamedStep}
 use Rattle.script_text.specs.declared.script.Script.{Script}
 use Rattle.script_text.specs.declared.script.Step.{Step}
 use Rattle.script_text.specs.declared.script.Step.TheVariants as steps
-use Rattle.world_script.specs.Endings.{Ends, StepEnds}
+use Rattle.world_script.specs.Endings.{StepEnds}
 use Rattle.world_script.specs.Faults.{kind_of}
 use Rattle.world_script.specs.Expecting.{Holds, IsUnexpected, MayPrint, Scene, behind, first_scene, unread_behind, unexpected_line}
 use Rattle.world_script.specs.Running.{Compares, Fails, RunsSteps}
 use Rattle.world_script.specs.Scripts.{BreaksOff, Plays}
-use Rattle.world_script.specs.Parts.{Performs}
+use Rattle.world_script.specs.Parts.{TellsActs, TellsStep}
+use Rattle.world_script.specs.Seen as seen
+use Rattle.world_script.specs.Seen.{RunTells, Seen, StepTells, Tells, acts_seen, step_seen}
 use Rattle.world_queue.specs.Letters.{LetterFacts}
 use Rattle.world_script.specs.Facts.{StageFacts}
 use Rattle.world_script.specs.Stages.{Begins, Overruns, Prints, after_naming, with_named}
@@ -26,6 +28,7 @@ use Rattle.world_script.specs.declared.fault.RunFault.{RunFault}
 use Rattle.world_script.specs.declared.fault.RunFault.TheVariants.{TooManyDeliveries, Write, Memory}
 use Rattle.world_script.specs.declared.played.Played.{Played}
 use Rattle.world_script.specs.declared.played.Played.TheVariants.{Whole, Unexpected}
+use Rattle.world_script.proofs.Telling.{told_more, told_none}
 use Rattle.world_script.proofs.Written.{both, front_then, nothing}
 
 pub plays_more : (steps : List NamedStep) (step : NamedStep) (s u : Scene) (t : StageFacts) (text line : List ℕ) → Plays s steps text u → Prints u.stage step.step line t → Holds u.unread step.step
@@ -106,26 +109,29 @@ nothing_named : (t : StageFacts) (name : Option (List ℕ)) (expected : List ℕ
 nothing_named t name expected =
     ap (λ (o : Option LetterFacts). with_named t name o) (slice_get_past t.queue (length t.queue) (omega arith)) ∙ unnamed t name
 
-compares : (number : ℕ) (s : Scene) (name : Option (List ℕ)) (expected : List ℕ) (old new : Option (List ℕ)) (r : Result Played RunFault) (later : List ℕ) → Compares number expected s.unread old new r later
-    → StepEnds number s (record { step = steps.Expect expected; name = name }) old new r (record { stage = s.stage; unread = later })
-compares number s name expected old new (Ok Whole) later c = (
-  [],
-  s.stage,
-  (refl, refl),
-  c.0,
-  ap (λ (x : List ℕ). record { stage = s.stage; unread = x }) c.1 ∙ ap (λ (u : StageFacts). record { stage = u; unread = [] }) (sym (nothing_named s.stage name expected)),
-  nothing_more old new c.2,
+compares : (number : ℕ) (s : Scene) (name : Option (List ℕ)) (expected : List ℕ) (old new : Option (List ℕ)) (r : Result Played RunFault) (later : List ℕ) (told : List Seen → Type 0)
+    → Compares number expected s.unread old new r later → StepTells number s (record { step = steps.Expect expected; name = name }) old new r (record { stage = s.stage; unread = later }) told told
+compares number s name expected old new (Ok Whole) later told c = (
+  (
+    [],
+    s.stage,
+    (refl, refl),
+    c.0,
+    ap (λ (x : List ℕ). record { stage = s.stage; unread = x }) c.1 ∙ ap (λ (u : StageFacts). record { stage = u; unread = [] }) (sym (nothing_named s.stage name expected)),
+    nothing_more old new c.2,
+  ),
+  told_none told,
 )
-compares number s name expected old new (Ok Unexpected) later c = (unexpected_line number c.0, (c.0, c.1, refl), c.2)
-compares number s name expected old new (Err TooManyDeliveries) later c = absurd c
-compares number s name expected old new (Err Memory) later c = ([], inl refl, nothing_more old new c)
-compares number s name expected old new (Err Write) later c = (unexpected_line number c.0, inr (c.0, c.1, refl), c.2)
+compares number s name expected old new (Ok Unexpected) later told c = ((unexpected_line number c.0, (c.0, c.1, refl), c.2), told_none told)
+compares number s name expected old new (Err TooManyDeliveries) later told c = absurd c
+compares number s name expected old new (Err Memory) later told c = (([], inl refl, nothing_more old new c), tt)
+compares number s name expected old new (Err Write) later told c = ((unexpected_line number c.0, inr (c.0, c.1, refl), c.2), tt)
 
-pub compared : (number : ℕ) (s : Scene) (x : NamedStep) (expected given : List ℕ) (old new : Option (List ℕ)) (r : Result Played RunFault) (later : List ℕ) → x.step ≡ steps.Expect expected → given ≡ expected
-    → Compares number given s.unread old new r later → StepEnds number s x old new r (record { stage = s.stage; unread = later })
-compared number s x expected given old new r later is same c =
-    subst (λ (step : Step). StepEnds number s (record { step = step; name = x.name }) old new r (record { stage = s.stage; unread = later })) (sym is)
-    (compares number s x.name expected old new r later (subst (λ (xs : List ℕ). Compares number xs s.unread old new r later) same c))
+pub compared : (number : ℕ) (s : Scene) (x : NamedStep) (expected given : List ℕ) (old new : Option (List ℕ)) (r : Result Played RunFault) (later : List ℕ) (told : List Seen → Type 0) → x.step ≡ steps.Expect expected
+    → given ≡ expected → Compares number given s.unread old new r later → StepTells number s x old new r (record { stage = s.stage; unread = later }) told told
+compared number s x expected given old new r later told is same c =
+    subst (λ (step : Step). StepTells number s (record { step = step; name = x.name }) old new r (record { stage = s.stage; unread = later }) told told) (sym is)
+    (compares number s x.name expected old new r later told (subst (λ (xs : List ℕ). Compares number xs s.unread old new r later) same c))
 
 -- ---- another step
 
@@ -144,46 +150,78 @@ other_unread : (unread text : List ℕ) (step : Step) → IsOther step → unrea
 other_unread unread text (steps.Expect e) other = absurd (other e refl)
 other_unread unread text step other = refl
 
-module _ (number : ℕ) (s : Scene) (x : NamedStep) (old new : Option (List ℕ)) (t : Scene) where
+module _ (number : ℕ) (s : Scene) (x : NamedStep) (old new : Option (List ℕ)) (t : Scene) (told after : List Seen → Type 0) where
   -- It is done, and its text and the message that it names are noted.
-  pub step_done : (text later : List ℕ) (u v : StageFacts) → IsOther x.step → Prints s.stage x.step text u → Appends old new text → later ≡ s.unread ++ text
-      → v ≡ after_naming (length s.stage.queue) x u → t ≡ record { stage = v; unread = later } → StepEnds number s x old new (Ok Whole) t
-  step_done text later u v other p a is named same = (
-    text,
-    u,
-    p,
-    other_holds s.unread x.step other,
-    same ∙ ap (λ (w : StageFacts). record { stage = w; unread = later }) named
-        ∙ ap (λ (l : List ℕ). record { stage = after_naming (length s.stage.queue) x u; unread = l }) (is ∙ sym (other_unread s.unread text x.step other)),
-    a,
+  pub step_done : (line : String Global) (later : List ℕ) (u v : StageFacts) → IsOther x.step → RunTells s.stage x.step old new (Ok line) u told after → later ≡ s.unread ++ string_bytes line
+      → v ≡ after_naming (length s.stage.queue) x u → t ≡ record { stage = v; unread = later } → StepTells number s x old new (Ok Whole) t told after
+  step_done line later u v other e is named same = (
+    (
+      string_bytes line,
+      u,
+      e.0.0,
+      other_holds s.unread x.step other,
+      same ∙ ap (λ (w : StageFacts). record { stage = w; unread = later }) named
+          ∙ ap (λ (l : List ℕ). record { stage = after_naming (length s.stage.queue) x u; unread = l }) (is ∙ sym (other_unread s.unread (string_bytes line) x.step other)),
+      e.0.1,
+    ),
+    e.1,
   )
 
-  pub step_fails : (fault : RunFault) (u : StageFacts) → Ends s.stage x.step old new (Err fault) u → StepEnds number s x old new (Err fault) t
+  pub step_fails : (fault : RunFault) (u : StageFacts) → RunTells s.stage x.step old new (Err fault) u told after → StepTells number s x old new (Err fault) t told after
   step_fails TooManyDeliveries u e = e
   step_fails Memory u e = e
-  step_fails Write u e = (e.0, inl e.1, e.2)
+  step_fails Write u e = ((e.0.0, inl e.0.1, e.0.2), tt)
 
   -- It is done, but memory runs out for its text or its message.
-  pub step_unnoted : (text : List ℕ) (u : StageFacts) → Prints s.stage x.step text u → Appends old new text → StepEnds number s x old new (Err Memory) t
-  step_unnoted text u p a = (text, begun s.stage x.step text u p, a)
+  pub step_unnoted : (line : String Global) (u : StageFacts) (between : List Seen → Type 0) → RunTells s.stage x.step old new (Ok line) u told between → StepTells number s x old new (Err Memory) t told after
+  step_unnoted line u between e = ((string_bytes line, begun s.stage x.step (string_bytes line) u e.0.0, e.0.1), tt)
 
 -- ---- a step that delivers nothing
 
-module _ (s t : StageFacts) (text : List ℕ) where
-  prints_all : (step : Step) → ((f : Filter) (order : DeliveryOrder) → step ≡ steps.Deliver f order → ⊥) → Performs s step text t → Prints s step text t
-  prints_all (steps.Deliver f order) rest p = absurd (rest f order refl)
-  prints_all other rest p = p
+abbrev IsQuiet : Step → Type 0
+IsQuiet step = (f : Filter) (order : DeliveryOrder) → step ≡ steps.Deliver f order → ⊥
 
-  begins_all : (step : Step) → ((f : Filter) (order : DeliveryOrder) → step ≡ steps.Deliver f order → ⊥) → Performs s step text t → Begins s step text
+module _ (s t : StageFacts) (told : List Seen → Type 0) where
+  -- It prints nothing, or this is told.
+  pub performed_quietly : (step : Step) (text : List ℕ) (later : List Seen → Type 0) → length text ≡ 0 → TellsActs s step text t told later → TellsStep s step text t told later
+  performed_quietly (steps.Deliver f order) text later none tells = tells
+  performed_quietly other [] later none tells = (tells.0, subst (λ (xs : List Seen). Tells told xs later) (sym (append-nil (acts_seen s other [] t tells.0))) tells.1)
+  performed_quietly other (c ∷ cs) later none tells = absurd (more none) where
+    more : {n : ℕ} → suc n ≡ 0 → ⊥
+    more h = omega (arith, h)
+
+  pub performed_aloud : (step : Step) (text : List ℕ) (between later : List Seen → Type 0) → (length text ≡ 0 → ⊥) → TellsActs s step text t told between → Tells between (seen.Printed t step text ∷ []) later
+      → TellsStep s step text t told later
+  performed_aloud (steps.Deliver f order) text between later some tells printed = tells
+  performed_aloud other [] between later some tells printed = absurd (some refl)
+  performed_aloud other (c ∷ cs) between later some tells printed =
+      (tells.0, told_more told between later (acts_seen s other (c ∷ cs) t tells.0) (seen.Printed t other (c ∷ cs) ∷ []) tells.1 printed)
+
+module _ (s t : StageFacts) (text : List ℕ) (told later : List Seen → Type 0) where
+  abbrev TellsAll : Step → List ℕ → Type 0
+  TellsAll step line = (prints : Prints s step line t) × Tells told (step_seen s step line t prints) later
+
+  tells_all : (step : Step) → IsQuiet step → TellsStep s step text t told later → TellsAll step text
+  tells_all (steps.Deliver f order) rest p = absurd (rest f order refl)
+  tells_all other rest p = p
+
+  begins_all : (step : Step) → IsQuiet step → TellsStep s step text t told later → Begins s step text
   begins_all (steps.Deliver f order) rest p = absurd (rest f order refl)
-  begins_all other rest p = inr (t, p)
+  begins_all other rest p = inr (t, p.0)
 
-  pub ends_whole : (step : Step) (old new : Option (List ℕ)) (line : String Global) → text ≡ string_bytes line → ((f : Filter) (order : DeliveryOrder) → step ≡ steps.Deliver f order → ⊥) → Performs s step text t
-      → Appends old new text → Ends s step old new (Ok line) t
+  pub ends_whole : (step : Step) (old new : Option (List ℕ)) (line : String Global) → text ≡ string_bytes line → IsQuiet step → TellsStep s step text t told later → Appends old new text
+      → RunTells s step old new (Ok line) t told later
   ends_whole step old new line is rest p whole =
-      (subst (λ (x : List ℕ). Prints s step x t) is (prints_all step rest p), subst (Appends old new) is whole)
+      let all = subst (TellsAll step) is (tells_all step rest p) in ((all.0, subst (Appends old new) is whole), all.1)
 
-  pub ends_cut : (step : Step) (old new : Option (List ℕ)) (fault : RunFault) → ((f : Filter) (order : DeliveryOrder) → step ≡ steps.Deliver f order → ⊥) → Performs s step text t
-      → AppendsFront old new text → fault ≡ Write → Ends s step old new (Err fault) t
+  pub ends_cut : (step : Step) (old new : Option (List ℕ)) (fault : RunFault) → IsQuiet step → TellsStep s step text t told later → AppendsFront old new text → fault ≡ Write
+      → RunTells s step old new (Err fault) t told later
   ends_cut step old new fault rest p front is =
-      subst (λ (g : RunFault). Ends s step old new (Err g) t) (sym is) (text, begins_all step rest p, front)
+      subst (λ (g : RunFault). RunTells s step old new (Err g) t told later) (sym is) ((text, begins_all step rest p, front), tt)
+
+-- Memory runs out before it prints anything.
+pub ends_unprinted : (s t : StageFacts) (step : Step) (old : Option (List ℕ)) (told later : List Seen → Type 0) → IsQuiet step → RunTells s step old old (Err Memory) t told later
+ends_unprinted s t step old told later rest = (([], begins_with step rest, nothing old), tt) where
+  begins_with : (step : Step) → IsQuiet step → Begins s step []
+  begins_with (steps.Deliver f order) rest = absurd (rest f order refl)
+  begins_with other rest = inl refl

@@ -9,6 +9,7 @@ pub mod Passing
 pub mod Printing
 pub mod Running
 pub mod Scripts
+pub mod Seen
 pub mod Stages
 pub mod Starts
 pub mod Writing
@@ -24,6 +25,7 @@ pub use Rattle.drained_records.specs.Input
 pub use Rattle.drained_records.specs.Journals
 pub use Rattle.drained_records.specs.Output
 pub use Rattle.drained_records.specs.Setup
+pub use Rattle.drained_records.specs.Status
 pub use Rattle.drained_records.specs.WorldFault
 pub use Rattle.drained_records.specs.Worlds
 pub use Rattle.drained_records.specs.declared.missing.Missing

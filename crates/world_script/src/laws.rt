@@ -11,7 +11,8 @@ ghost use Rattle.pbft_codec.specs.declared.body.Body.{Body};
 ghost use Rattle.pbft_codec.specs.declared.signed.Signed.{Signed};
 ghost use Rattle.script_text.specs.Heads.{HeadFacts};
 ghost use Rattle.script_text.specs.Scripts.{script_for};
-ghost use Rattle.script_text.specs.declared.dialect.Dialect.TheVariants.{World};
+ghost use Rattle.script_text.specs.Orders.{ordered};
+ghost use Rattle.script_text.specs.declared.dialect.Dialect.{Dialect};
 ghost use Rattle.script_text.specs.declared.files.NamedFile.{NamedFile};
 ghost use Rattle.script_text.specs.declared.script.Script.{Script};
 ghost use Rattle.service_model.specs.TenantStates.{Service};
@@ -23,9 +24,12 @@ ghost use Rattle.world_script.specs.Starts.{is_faulty};
 
 /// Each stage that a script passes, whatever files it names, during its steps and behind them, has a world that its events led to:
 /// so the correct replicas agree there, unless somebody forged, and what `show`, `digest` and `state`
-/// print and the Replies that clients are handed are of their journals.
+/// print and the Replies that clients are handed are of their journals. So it is under each seed.
 pub fn scripts_run_sound_worlds()
-    ensures { (files : List NamedFile) (input : List ℕ) (script : Script) (t : StageFacts) → script_for World files input ≡ Ok script → Passes script t → IsOnRun script.head t }
+    ensures own { (dialect : Dialect) (files : List NamedFile) (input : List ℕ) (script : Script) (t : StageFacts) → script_for dialect files input ≡ Ok script → Passes script t
+        → IsOnRun script.head t }
+    ensures seeded { (dialect : Dialect) (files : List NamedFile) (input : List ℕ) (script : Script) (seed : ℕ) (t : StageFacts) → script_for dialect files input ≡ Ok script
+        → Passes (ordered seed script) t → IsOnRun script.head t }
 {}
 
 /// Where at most f replicas are faulty, nobody forged and no digests collided, `audit` prints `audit agreed`, wherever it stands in a

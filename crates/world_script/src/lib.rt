@@ -43,6 +43,6 @@ pub use script_text::{
 };
 pub use signers::are_listed;
 pub use stage::Stage;
-pub use watcher::{Untold, Watcher};
+pub use watcher::{Delivery, Expiry, Untold, Watcher};
 pub use world_queue::{Letter, line_of_reply, open_sessions};
 pub use writing::{write_bytes, write_text};

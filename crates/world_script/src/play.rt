@@ -3,9 +3,9 @@
 ghost use Rattle.std.specs.Prelude.{◌≡◌, ◌≢◌, ◌⊎◌, ◌++◌, OnOk, IfErr, IsOk, string_bytes};
 ghost use Rattle.std.specs.Io.KnownBytes.{Appends};
 ghost use Rattle.script_text.specs.ScriptKind.TheVariants as kinds;
-ghost use Rattle.world_script.specs.Endings.{StepEnds};
 ghost use Rattle.world_script.specs.Running.{Compares, PlaysWhatIsRead, Reports, RunsRead, RunsSteps};
 ghost use Rattle.world_script.specs.Scripts.{WritesWhatIsRead};
+ghost use Rattle.world_script.specs.Seen.{StepTells};
 ghost use Rattle.world_script.specs.Stages.{after_naming};
 ghost use Rattle.world_script.specs.Starts.{start_of};
 
@@ -133,7 +133,7 @@ fn run_steps_at<O: Write, P: Progress>(
 }
 
 /// Runs the step of this number, and writes what it prints. `unread` is what was printed since the last `expect`. Progress is told
-/// what an `expect` finds, and the watcher of what happens.
+/// what an `expect` finds, and the watcher of what happens, of each thing once and in order.
 pub fn run_step<O: Write, P: Progress>(
     stage: &mut Stage,
     unread: &mut String,
@@ -143,7 +143,7 @@ pub fn run_step<O: Write, P: Progress>(
     progress: &mut P,
     watcher: &mut dyn Watcher,
 ) -> Result<Played, RunFault>
-    ensures { StepEnds number (record { stage = stage.old; unread = string_bytes unread.old }) step.now (O.contents writer.old) (O.contents writer.new) result (record { stage = stage.new; unread = string_bytes unread.new }) }
+    ensures { StepTells number (record { stage = stage.old; unread = string_bytes unread.old }) step.now (O.contents writer.old) (O.contents writer.new) result (record { stage = stage.new; unread = string_bytes unread.new }) (told watcher.old) (told watcher.new) }
 {
     if let Step::Expect(expected) = &step.step {
         return compare(

@@ -11,26 +11,26 @@ ghost use Rattle.world_script.specs.Starts.{forgers_from, numbers_of, start_of};
 ghost use Rattle.script_text.specs.declared.script.DeliveryOrder.TheVariants as orders;
 ghost use Rattle.script_text.specs.declared.script.Step.TheVariants as steps;
 ghost use Rattle.script_text.specs.Node.TheVariants as nodes;
-ghost use Rattle.world_script.specs.Endings.{Ends};
 ghost use Rattle.world_script.specs.Keys.{correct_from, keys_of};
 ghost use Rattle.world_queue.specs.Parties.{key_of};
 ghost use Rattle.world_queue.specs.Letters.{copies, first_meant, meant_count};
 ghost use Rattle.world_queue.specs.Waiting.{first_open};
 ghost use Rattle.drained_records.specs.Event.TheVariants as events;
-ghost use Rattle.world_script.specs.Parts.{DeliversNext, Performs, Happened, HasMore, ahead, with_message};
+ghost use Rattle.world_script.specs.Parts.{DeliversNext, Expires, Happened, HasMore, Takes, TellsActs, TellsHanding, TellsStep, TellsTimeout, TellsTimeouts, ahead, with_message};
+ghost use Rattle.world_script.specs.Seen.{RunTells, Tells, losses_seen, standing};
 ghost use Rattle.pbft_codec.specs.declared.body.Body.TheVariants as bodies;
 ghost use Rattle.pbft_codec.specs.declared.body.request.RequestBody.{RequestBody};
 ghost use Rattle.pbft_codec.specs.WellFormed.{BodyWellFormed};
-ghost use Rattle.world_script.specs.Stages.{AllTimeOut, HandsTo, TimesOut, AtReplica, at_client, digest_named, forged_body, forges, is_request, is_running, letters_in, letters_of, lacked_memory, halt_in, refusal_of, all_replicas, after_naming, message_of, queued, requested};
+ghost use Rattle.world_script.specs.Stages.{digest_named, forged_body, forges, is_request, is_running, letters_in, letters_of, lacked_memory, halt_in, refusal_of, all_replicas, after_naming, message_of, queued, requested};
 ghost use Rattle.seal.specs.Opening.{opening};
 
 use crate::fault::RunFault;
 use crate::keys::KeySources;
 use crate::made::Made;
 use crate::progress::{Progress, Unwatched};
-use crate::watcher::Watcher;
+use crate::watcher::{Delivery, Expiry, Watcher};
 use crate::writing::write_text;
-use drained_records::{Dest, Event, Halt, Output, Row, World};
+use drained_records::{Dest, Event, Halt, Output, Row, Status, World};
 use host_types::{Bytes, ClientId, Config, Digest, ReplicaId, ReplicaSet};
 use lms_tree::Signer;
 use pbft_codec::Body;
@@ -151,14 +151,15 @@ impl Stage {
 
     // ---- steps
 
-    /// Runs a step, writes what it prints, and returns that. An `expect` is not looked at. The watcher is told of what happens.
+    /// Runs a step, writes what it prints, and returns that. An `expect` is not looked at. The watcher is told of what happens, of
+    /// each thing once and in order.
     pub fn run<O: Write>(
         &mut self,
         step: &Step,
         writer: &mut O,
         watcher: &mut dyn Watcher,
     ) -> Result<String, RunFault>
-        ensures { Ends self.old step.now (O.contents writer.old) (O.contents writer.new) result self.new }
+        ensures { RunTells self.old step.now (O.contents writer.old) (O.contents writer.new) result self.new (told watcher.old) (told watcher.new) }
     {
         if let Step::Deliver { filter, order } = step {
             return match order {
@@ -179,18 +180,21 @@ impl Stage {
         }
     }
 
-    /// Runs a step that delivers nothing, and tells that it is done. What is printed.
+    /// Runs a step that delivers nothing, and tells of what it prints. What is printed.
     fn perform(&mut self, step: &Step, watcher: &mut dyn Watcher) -> Result<String, AllocError>
-        ensures { IfOk result (λ text. Performs self.old step.now (string_bytes text) self.new) }
+        ensures { IfOk result (λ text. TellsStep self.old step.now (string_bytes text) self.new (told watcher.old) (told watcher.new)) }
     {
         let text = self.act(step, watcher)?;
+        if text.as_bytes().is_empty() {
+            return Ok(text);
+        }
         watcher.printed(self, step, &text)?;
         Ok(text)
     }
 
-    /// Does what a step says that delivers nothing. What is printed.
+    /// Does what a step says that delivers nothing, and tells of it. What is printed.
     fn act(&mut self, step: &Step, watcher: &mut dyn Watcher) -> Result<String, AllocError>
-        ensures { IfOk result (λ text. Performs self.old step.now (string_bytes text) self.new) }
+        ensures { IfOk result (λ text. TellsActs self.old step.now (string_bytes text) self.new (told watcher.old) (told watcher.new)) }
     {
         let nothing = String::new(self.alloc);
         match step {
@@ -210,13 +214,15 @@ impl Stage {
     }
 
     /// Tells of the letters that a change of the queue loses.
-    fn tell_lost(&self, edit: &QueueEdit, watcher: &mut dyn Watcher) -> Result<(), AllocError> {
+    fn tell_lost(&self, edit: &QueueEdit, watcher: &mut dyn Watcher) -> Result<(), AllocError>
+        ensures { OnOk result (Tells (told watcher.old) (losses_seen self.now edit.now) (told watcher.new)) }
+    {
         let QueueEdit::Drop(filter) = edit else {
             return Ok(());
         };
         for index in 0..self.queue.len() {
             if let Some(letter) = self.queue.meant_at(filter, index) {
-                watcher.losing(letter)?;
+                watcher.lost(letter)?;
             }
         }
         Ok(())
@@ -357,7 +363,7 @@ impl Stage {
         writer: &mut O,
         watcher: &mut dyn Watcher,
     ) -> Result<String, RunFault>
-        ensures { Ends self.old (steps.Deliver filter.now orders.Oldest) (O.contents writer.old) (O.contents writer.new) result self.new }
+        ensures { RunTells self.old (steps.Deliver filter.now orders.Oldest) (O.contents writer.old) (O.contents writer.new) result self.new (told watcher.old) (told watcher.new) }
     {
         let mut lines = String::new(self.alloc);
         let mut others = Queue::new(self.alloc);
@@ -386,13 +392,13 @@ impl Stage {
         watcher: &mut dyn Watcher,
     ) -> Result<Option<String>, AllocError>
         requires { first_meant filter.now others.old ≡ None }
-        ensures { IfOk result (λ text. DeliversNext filter.now (ahead others.old self.old) (option_map string_bytes text) others.new self.new) }
+        ensures { IfOk result (λ text. DeliversNext filter.now (ahead others.old self.old) (option_map string_bytes text) others.new self.new (told watcher.old) (told watcher.new)) }
     {
         let Some(letter) = self.queue.next_meant(filter, others)? else {
             swap(&mut self.queue, others);
             return Ok(None);
         };
-        let text = self.hand_over(&letter, watcher)?;
+        let text = self.hand_over(letter, 0, watcher)?;
         Ok(Some(text))
     }
 
@@ -418,7 +424,7 @@ impl Stage {
         writer: &mut O,
         watcher: &mut dyn Watcher,
     ) -> Result<String, RunFault>
-        ensures { Ends self.old (steps.Deliver filter.now order.now) (O.contents writer.old) (O.contents writer.new) result self.new }
+        ensures { RunTells self.old (steps.Deliver filter.now order.now) (O.contents writer.old) (O.contents writer.new) result self.new (told watcher.old) (told watcher.new) }
     {
         let mut lines = String::new(self.alloc);
         let mut state = seed_of(order);
@@ -449,52 +455,51 @@ impl Stage {
         self.queue.count_meant(filter)
     }
 
-    /// Hands a letter to its addressee, and tells of it. What is printed.
+    /// Hands a letter to its addressee that passed over so many, and tells of it. What is printed.
     fn hand_over(
         &mut self,
-        letter: &Letter,
+        letter: Letter,
+        passed: usize,
         watcher: &mut dyn Watcher,
     ) -> Result<String, AllocError>
-        ensures { IfOk result (λ text. HandsTo letter.now.to self.old letter.now.bytes (string_bytes text) self.new) }
+        ensures { IfOk result (λ text. TellsHanding letter passed self.old (string_bytes text) self.new (told watcher.old) (told watcher.new)) }
     {
-        watcher.about(self, letter)?;
-        match letter.to() {
-            Node::Replica(id) => self.hand_to_replica(id, letter.bytes(), watcher),
-            Node::Client(client) => self.hand_to_client(client, letter.bytes(), watcher),
+        let before = self.standing(letter.to());
+        let (text, row) = self.take(letter.to(), letter.bytes())?;
+        let delivery = Delivery {
+            letter,
+            passed,
+            before,
+            row,
+            text,
+        };
+        watcher.handed(self, &delivery)?;
+        Ok(delivery.text)
+    }
+
+    /// Where a correct replica stands.
+    fn standing(&self, node: Node) -> Option<Status>
+        ensures { result ≡ standing self.now.world node }
+    {
+        match node {
+            Node::Replica(id) => self.world.status(id),
+            Node::Client(_) => None,
         }
     }
 
-    /// Hands bytes to a client, and tells what came of it. What is printed.
-    fn hand_to_client(
-        &mut self,
-        client: ClientId,
-        bytes: &[u8],
-        watcher: &mut dyn Watcher,
-    ) -> Result<String, AllocError>
-        ensures { IfOk result (λ text. (string_bytes text, self.new) ≡ at_client self.old client (opening self.old.world.config bytes.now)) }
+    /// Lets bytes come to a node. What is printed, and the row that it gave.
+    fn take(&mut self, to: Node, bytes: &[u8]) -> Result<(String, Option<Row>), AllocError>
+        ensures { IfOk result (λ r. Takes to self.old bytes.now (string_bytes r.0) r.1 self.new) }
     {
-        let text = self.sessions.deliver(client, bytes)?;
-        watcher.handed(self, Node::Client(client), &text, None)?;
-        Ok(text)
-    }
-
-    /// Hands bytes to a replica, and tells what came of it. What is printed.
-    fn hand_to_replica(
-        &mut self,
-        id: ReplicaId,
-        bytes: &[u8],
-        watcher: &mut dyn Watcher,
-    ) -> Result<String, AllocError>
-        ensures { IfOk result (λ text. AtReplica self.old id bytes.now (string_bytes text) self.new) }
-    {
-        let (text, row) = self.take_in(id, bytes)?;
-        watcher.handed(self, Node::Replica(id), &text, row)?;
-        Ok(text)
+        match to {
+            Node::Replica(id) => self.take_in(id, bytes),
+            Node::Client(client) => Ok((self.sessions.deliver(client, bytes)?, None)),
+        }
     }
 
     /// Lets bytes come to a replica. One that is faulty or has stopped does nothing. What is printed, and the row that it gave.
     fn take_in(&mut self, id: ReplicaId, bytes: &[u8]) -> Result<(String, Option<Row>), AllocError>
-        ensures { IfOk result (λ r. AtReplica self.old id bytes.now (string_bytes r.0) self.new) }
+        ensures { IfOk result (λ r. Takes (nodes.Replica id) self.old bytes.now (string_bytes r.0) r.1 self.new) }
     {
         let nothing = String::new(self.alloc);
         if !self.is_running(id) {
@@ -510,7 +515,7 @@ impl Stage {
 
     /// Lets bytes come to a replica, and queues what it gives. The row, if it gave one.
     fn receive(&mut self, id: ReplicaId, bytes: &[u8]) -> Result<Option<Row>, AllocError>
-        ensures { IfOk result (λ row. Happened self.old id (events.Deliver id bytes.now) (is_some row) self.new) }
+        ensures { IfOk result (λ row. Happened self.old id (events.Deliver id bytes.now) row self.new) }
     {
         let event = Event::Deliver {
             to: id,
@@ -521,7 +526,7 @@ impl Stage {
 
     /// Timeouts at replicas, one after another.
     fn time_out(&mut self, at: &[ReplicaId], watcher: &mut dyn Watcher) -> Result<(), AllocError>
-        ensures { OnOk result (AllTimeOut self.old at.now self.new) }
+        ensures { OnOk result (TellsTimeouts self.old at.now self.new (told watcher.old) (told watcher.new)) }
     {
         for id in at {
             self.time_out_at(*id, watcher)?;
@@ -531,16 +536,21 @@ impl Stage {
 
     /// A timeout at a replica, of which it tells. One that is faulty or has stopped does nothing.
     fn time_out_at(&mut self, id: ReplicaId, watcher: &mut dyn Watcher) -> Result<(), AllocError>
-        ensures { OnOk result (TimesOut self.old id self.new) }
+        ensures { OnOk result (TellsTimeout self.old id self.new (told watcher.old) (told watcher.new)) }
     {
-        watcher.about_timeout(self, id)?;
+        let before = self.standing(Node::Replica(id));
         let row = self.expire(id)?;
-        watcher.timed_out(self, id, row)
+        let expiry = Expiry {
+            before,
+            at: id,
+            row,
+        };
+        watcher.timed_out(self, &expiry)
     }
 
     /// Lets a replica's timer expire. The row, if it gave one.
     fn expire(&mut self, id: ReplicaId) -> Result<Option<Row>, AllocError>
-        ensures { OnOk result (TimesOut self.old id self.new) }
+        ensures { IfOk result (λ row. Expires self.old id row self.new) }
     {
         if !self.is_running(id) {
             return Ok(None);
@@ -550,7 +560,7 @@ impl Stage {
 
     /// Lets an event happen at a replica, and queues what it gives. The row, if it gave one.
     fn happen(&mut self, id: ReplicaId, event: &Event) -> Result<Option<Row>, AllocError>
-        ensures { IfOk result (λ row. Happened self.old id event.now (is_some row) self.new) }
+        ensures { IfOk result (λ row. Happened self.old id event.now row self.new) }
     {
         let Ok(row) = self.world.event(event) else {
             return Err(AllocError);

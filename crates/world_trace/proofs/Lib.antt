@@ -1,6 +1,8 @@
 mod Blames
 mod Finding
 mod Judging
+mod Noting
+mod Resting
 mod Searching
 mod Shrinking
 mod Telling

@@ -10,6 +10,7 @@ use Rattle.script_text.specs.declared.script.Step.{Step}
 use Rattle.world_script.specs.Expecting.{Scene, first_scene}
 use Rattle.world_script.specs.Facts.{StageFacts}
 use Rattle.world_script.specs.Scripts.{BreaksOff, Plays, step_number}
+use Rattle.world_script.specs.Seen.{Seen}
 use Rattle.world_script.specs.Stages.{Overruns}
 use Rattle.world_script.specs.declared.fault.RunFault.{RunFault}
 use Rattle.world_script.specs.declared.fault.RunFault.TheVariants.{TooManyDeliveries, Memory}
@@ -129,12 +130,15 @@ judged_in script order_at i s all done wanted outcome j = judged_at (in_order or
 -- ---- a step that runs in memory
 
 -- it has too many deliveries, wherever its lines go
-pub overruns_so : (number : ℕ) (s : Scene) (x : NamedStep) (old new : List ℕ) (ended : Result Played RunFault) (t : Scene) → ended ≡ Err TooManyDeliveries → RunsInMemory number s x old new ended t
+pub overruns_so : (number : ℕ) (s : Scene) (x : NamedStep) (old new : List ℕ) (ended : Result Played RunFault) (t : Scene) (told later : List Seen → Type 0) → ended ≡ Err TooManyDeliveries
+    → RunsInMemory number s x old new ended t told later
     → StepExplored number s x (Some (outcomes.Faulted (record { kind = kinds.TooManyDeliveries; step = number }))) t
-overruns_so number s x old new ended t is runs = by (subst (λ (r : Result Played RunFault). RunsInMemory number s x old new r t) is runs) where
+overruns_so number s x old new ended t told later is runs = by (subst (λ (r : Result Played RunFault). RunsInMemory number s x old new r t told later) is runs) where
   other : (let r : Result Played RunFault = Err TooManyDeliveries in r) ≡ Err Memory → ⊥
   other e = cc
 
-  by : RunsInMemory number s x old new (Err TooManyDeliveries) t → StepExplored number s x (Some (outcomes.Faulted (record { kind = kinds.TooManyDeliveries; step = number }))) t
-  by (inl ends) = (refl, (ends.1.0, ends.1.1, tt))
-  by (inr full) = absurd (other full.0)
+  by : RunsInMemory number s x old new (Err TooManyDeliveries) t told later → StepExplored number s x (Some (outcomes.Faulted (record { kind = kinds.TooManyDeliveries; step = number }))) t
+  by r = elim r.runs [
+    | inl ends ↦ (refl, (ends.1.0.0, ends.1.0.1, tt))
+    | inr full ↦ absurd (other full.0)
+  ]

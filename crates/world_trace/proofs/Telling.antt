@@ -1,9 +1,10 @@
 -- How a step is told, and what it printed is written behind that.
-use Rattle.std.proofs.Common.{◌≡◌, ℕ, ◌+◌, ◌<◌, ◌≤◌, List, [], ◌++◌, length, get_or, take, Option, Some, Ok, Err, refl, sym, ap, subst, ◌∙◌, inl, inr, arith}
-use Rattle.std.specs.Prelude.{Result}
+use Rattle.std.proofs.Common.{◌≡◌, ℕ, ◌+◌, ◌<◌, ◌≤◌, List, [], ◌++◌, length, get_or, take, Option, Some, None, Ok, Err, refl, sym, ap, subst, ◌∙◌, inl, inr, arith}
+use Rattle.std.specs.Prelude.{IfSome, Result, ◌⊎◌}
 use Rattle.std.specs.List.{flat_map}
 use Rattle.std.specs.Io.KnownBytes.{Appends}
 use Rattle.std.proofs.lemmas.List.{append-nil, flat_map_more, length-append, take_more}
+use Rattle.std.proofs.lemmas.Option.{IfSome_then}
 use Rattle.script_text.specs.Steps.{step_name}
 use Rattle.script_text.specs.declared.script.NamedStep.{NamedStep}
 use Rattle.script_text.specs.declared.script.Step.{Step}
@@ -13,6 +14,7 @@ use Rattle.world_chart.specs.Lines.{began_line, happening_line}
 use Rattle.world_script.specs.Endings.{StepEnds}
 use Rattle.world_script.specs.Expecting.{MayPrint, Scene}
 use Rattle.world_script.specs.Facts.{StageFacts}
+use Rattle.world_script.specs.Seen.{Seen, StepTells, Tells, end_seen}
 use Rattle.world_script.specs.Stages.{Begins, Overruns, max_deliveries}
 use Rattle.world_script.specs.Writing.{AppendsFront}
 use Rattle.world_script.specs.declared.fault.RunFault.{RunFault}
@@ -21,22 +23,32 @@ use Rattle.world_script.specs.declared.played.Played.{Played}
 use Rattle.world_script.specs.declared.played.Played.TheVariants.{Whole, Unexpected}
 use Rattle.world_script.proofs.Playing.{begun}
 use Rattle.world_script.proofs.Written.{both, front_then, nothing}
-use Rattle.world_trace.specs.Telling.{PassesOn, RunsInMemory, TellsSome, told_until}
+use Rattle.world_trace.specs.Happenings.{AreTold}
+use Rattle.world_trace.specs.Telling.{AreNoted, PassesOn, RunsInMemory, TellsSome, told_until}
 use Rattle.world_trace.specs.Traces.{IsTold, StepTraced, TellsEarly}
 
 -- ---- what was printed into memory
 
-same_text : (old new : Option (List ℕ)) (printed text : List ℕ) → Appends old new printed → printed ≡ text → Appends old new text
+abbrev same_text : (old new : Option (List ℕ)) (printed text : List ℕ) → Appends old new printed → printed ≡ text → Appends old new text
 same_text old new printed text w same = subst (Appends old new) same w
 
 -- What a step printed into memory that was empty is what it prints to any writer.
-moved : (number : ℕ) (s : Scene) (x : NamedStep) (printed : List ℕ) (old new : Option (List ℕ)) (r : Result Played RunFault) (t : Scene) → (r ≡ Err Write → ⊥) → StepEnds number s x (Some []) (Some printed) r t
+abbrev pub moved : (number : ℕ) (s : Scene) (x : NamedStep) (printed : List ℕ) (old new : Option (List ℕ)) (r : Result Played RunFault) (t : Scene) → (r ≡ Err Write → ⊥) → StepEnds number s x (Some []) (Some printed) r t
     → Appends old new printed → StepEnds number s x old new r t
 moved number s x printed old new (Ok Whole) t other e w = (e.0, e.1, e.2, e.3, e.4, same_text old new printed e.0 w e.5)
 moved number s x printed old new (Ok Unexpected) t other e w = (e.0, e.1, same_text old new printed e.0 w e.2)
 moved number s x printed old new (Err TooManyDeliveries) t other e w = (e.0, e.1, same_text old new printed e.0 w e.2)
 moved number s x printed old new (Err Memory) t other e w = (e.0, e.1, same_text old new printed e.0 w e.2)
 moved number s x printed old new (Err Write) t other e w = absurd (other refl)
+
+-- The same is seen of it.
+same_seen : (number : ℕ) (s : Scene) (x : NamedStep) (printed : List ℕ) (old new : Option (List ℕ)) (r : Result Played RunFault) (t : Scene) (other : r ≡ Err Write → ⊥) (e : StepEnds number s x (Some []) (Some printed) r t)
+    (w : Appends old new printed) → end_seen number s x (Some []) (Some printed) r t e ≡ end_seen number s x old new r t (moved number s x printed old new r t other e w)
+same_seen number s x printed old new (Ok Whole) t other e w = refl
+same_seen number s x printed old new (Ok Unexpected) t other e w = refl
+same_seen number s x printed old new (Err TooManyDeliveries) t other e w = refl
+same_seen number s x printed old new (Err Memory) t other e w = refl
+same_seen number s x printed old new (Err Write) t other e w = absurd (other refl)
 
 overran : (s : StageFacts) (step : Step) (text : List ℕ) → Overruns s step text → Begins s step text
 overran s (steps.Deliver f order) text o = (max_deliveries, o.0, at_most max_deliveries, o.1) where
@@ -62,34 +74,52 @@ nothing_cut old new printed none w = empty (length w.front) (length w.rest) (sym
   empty : (n m : ℕ) → 0 ≡ n + m → 0 < m → ⊥
   empty n m e h = omega (arith, e, h)
 
-module _ (number : ℕ) (place : Option ℕ) (s : Scene) (x : NamedStep) (old between new : Option (List ℕ)) (ended r : Result Played RunFault) (t : Scene) (told printed : List ℕ) where
+module _ (number : ℕ) (place : Option ℕ) (s : Scene) (x : NamedStep) (old between new : Option (List ℕ)) (t : Scene) (mark printed : List ℕ) (happened : List Happening) (is : mark ≡ began_line number place (step_name x.step)) where
+  abbrev pub told : List ℕ
+  told = mark ++ flat_map happening_line happened
+
+  -- It is told with what was seen of it.
+  told_with : (seen : Option (List Seen)) → IfSome seen (λ (xs : List Seen). AreTold xs happened) → IsTold number place x.step seen told
+  told_with seen are = record {
+    happened = happened;
+    is = ap (λ (bs : List ℕ). bs ++ flat_map happening_line happened) is;
+    are_told = are;
+  }
+
   -- It is told, and what it printed is passed on.
-  pub passed : IsTold number place x.step told → Appends old between told → RunsInMemory number s x [] printed ended t → PassesOn ended printed between new r → StepTraced number place s x old new r t
-  passed is tells (inl e) (inl whole) = inl (record {
+  by : (ended r : Result Played RunFault) → Appends old between told → ((ended ≡ Err Write → ⊥) × StepTells number s x (Some []) (Some printed) ended t (AreNoted []) (AreNoted happened)) ⊎ ((ended ≡ Err Memory) × (printed ≡ []))
+      → PassesOn ended printed between new r → StepTraced number place s x old new r t
+  by ended r tells (inl e) (inl whole) = subst (λ (q : Result Played RunFault). StepTraced number place s x old new q t) (sym whole.0) (inl (record {
     told = told;
     between = between;
-    is_told = is;
     tells = tells;
-    ends = subst (λ (q : Result Played RunFault). StepEnds number s x between new q t) (sym whole.0) (moved number s x printed between new ended t e.0 e.1 whole.1);
-  })
-  passed is tells (inl e) (inr cut) = inl (record {
+    ends = moved number s x printed between new ended t e.0 e.1.0 whole.1;
+    is_told = told_with (end_seen number s x between new ended t (moved number s x printed between new ended t e.0 e.1.0 whole.1))
+        (subst (λ (o : Option (List Seen)). IfSome o (λ (xs : List Seen). AreTold xs happened)) (same_seen number s x printed between new ended t e.0 e.1.0 whole.1)
+        (IfSome_then (end_seen number s x (Some []) (Some printed) ended t e.1.0) e.1.1 (λ (xs : List Seen) (tells_of : Tells (AreNoted []) xs (AreNoted happened)). tells_of [] refl)));
+  }))
+  by ended r tells (inl e) (inr cut) = subst (λ (q : Result Played RunFault). StepTraced number place s x old new q t) (sym cut.0) (inl (record {
     told = told;
     between = between;
-    is_told = is;
     tells = tells;
-    ends = subst (λ (q : Result Played RunFault). StepEnds number s x between new q t) (sym cut.0) (printed, may_print number s x printed ended t e.0 e.1, cut.1);
-  })
-  passed is tells (inr none) (inl whole) =
+    ends = (printed, may_print number s x printed ended t e.0 e.1.0, cut.1);
+    is_told = told_with None tt;
+  }))
+  by ended r tells (inr none) (inl whole) =
       inr (subst (λ (q : Result Played RunFault). TellsEarly number place x.step old new q) (sym (whole.0 ∙ none.0))
-      (told, inr is, subst (Appends old new) (ap (λ (bs : List ℕ). told ++ bs) none.1 ∙ append-nil told) (both old between new told printed tells whole.1)))
-  passed is tells (inr none) (inr cut) = absurd (nothing_cut between new printed none.1 cut.1)
+      (told, inr (told_with None tt), subst (Appends old new) (ap (λ (bs : List ℕ). told ++ bs) none.1 ∙ append-nil told) (both old between new told printed tells whole.1)))
+  by ended r tells (inr none) (inr cut) = absurd (nothing_cut between new printed none.1 cut.1)
+
+  pub passed : (ended r : Result Played RunFault) → Appends old between told → RunsInMemory number s x [] printed ended t (AreNoted []) (AreNoted happened) → PassesOn ended printed between new r → StepTraced number place s x old new r t
+  passed ended r tells e passes = by ended r tells e.runs passes
 
 -- ---- what is told
 
-pub told_of : (number : ℕ) (place : Option ℕ) (step : Step) (mark : List ℕ) (happened : List Happening) → mark ≡ began_line number place (step_name step) → IsTold number place step (mark ++ flat_map happening_line happened)
+told_of : (number : ℕ) (place : Option ℕ) (step : Step) (mark : List ℕ) (happened : List Happening) → mark ≡ began_line number place (step_name step) → IsTold number place step None (mark ++ flat_map happening_line happened)
 told_of number place step mark happened is = record {
   happened = happened;
   is = ap (λ (bs : List ℕ). bs ++ flat_map happening_line happened) is;
+  are_told = tt;
 }
 
 -- Telling ends early.

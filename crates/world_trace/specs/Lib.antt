@@ -1,6 +1,9 @@
 pub mod Blaming
 pub mod Exploring
 pub mod Finding
+pub mod Happenings
+pub mod Heard
+pub mod Noting
 pub mod Searches
 pub mod Searching
 pub mod Shrinking

@@ -5,12 +5,13 @@ use Rattle.std.specs.Io.KnownBytes.{Appends}
 use Rattle.script_text.specs.declared.script.NamedStep.{NamedStep}
 use Rattle.world_chart.specs.Happening.{Happening}
 use Rattle.world_chart.specs.Lines.{happening_line}
-use Rattle.world_script.specs.Endings.{StepEnds}
 use Rattle.world_script.specs.Expecting.{Scene}
+use Rattle.world_script.specs.Seen.{Seen, StepTells}
 use Rattle.world_script.specs.Writing.{AppendsFront}
 use Rattle.world_script.specs.declared.fault.RunFault.{RunFault}
 use Rattle.world_script.specs.declared.fault.RunFault.TheVariants.{TooManyDeliveries, Write, Memory}
 use Rattle.world_script.specs.declared.played.Played.{Played}
+use Rattle.world_trace.specs.Happenings.{AreTold}
 
 -- a mark, and the lines of the first so many things that happened
 abbrev pub told_until : List ℕ → List Happening → ℕ → List ℕ
@@ -22,10 +23,13 @@ TellsSome mark happened old new Memory = (n : ℕ) × Appends old new (told_unti
 TellsSome mark happened old new Write = (n : ℕ) × AppendsFront old new (told_until mark happened n)
 TellsSome mark happened old new TooManyDeliveries = ⊥
 
--- A step is run, and prints into memory, to these bytes; or that has no room for what it prints.
-abbrev pub RunsInMemory : ℕ → Scene → NamedStep → List ℕ → List ℕ → Result Played RunFault → Scene → Type 0
-RunsInMemory number s x old new result t =
-    ((result ≢ Err Write) × StepEnds number s x (Some old) (Some new) result t) ⊎ ((result ≡ Err Memory) × (new ≡ []))
+-- What was seen is what is noted.
+abbrev pub AreNoted : List Happening → List Seen → Type 0
+AreNoted happened seen = AreTold seen happened
+
+-- A step is run, of which one who watches is told, and prints into memory, to these bytes; or that has no room for what it prints.
+pub record RunsInMemory (number : ℕ) (s : Scene) (x : NamedStep) (old new : List ℕ) (result : Result Played RunFault) (t : Scene) (told later : List Seen → Type 0) : Type 0 where
+  pub runs : ((result ≢ Err Write) × StepTells number s x (Some old) (Some new) result t told later) ⊎ ((result ≡ Err Memory) × (new ≡ []))
 
 -- What was printed into memory is written whole, and the step ended so; or its first bytes are.
 abbrev pub PassesOn : Result Played RunFault → List ℕ → Option (List ℕ) → Option (List ℕ) → Result Played RunFault → Type 0

@@ -1,5 +1,5 @@
 -- Statement: what a trace writes: of each step what is told of it, and then what it prints.
-use Rattle.std.specs.Prelude.{◌≡◌, ℕ, ◌+◌, ◌-◌, List, [], ◌∷◌, ◌++◌, length, Option, Result, Ok, Err, ◌⊎◌, slice_get}
+use Rattle.std.specs.Prelude.{◌≡◌, ℕ, ◌+◌, ◌-◌, List, [], ◌∷◌, ◌++◌, length, Option, None, Result, Ok, Err, IfSome, ◌⊎◌, slice_get}
 use Rattle.std.specs.List.{flat_map}
 use Rattle.std.specs.Io.KnownBytes.{Appends}
 use Rattle.script_text.specs.ScriptFault.{ScriptFault}
@@ -15,33 +15,37 @@ use Rattle.world_script.specs.Expecting.{Scene, first_scene}
 use Rattle.world_script.specs.Faults.{kind_of}
 use Rattle.world_script.specs.Running.{Reports}
 use Rattle.world_script.specs.Scripts.{step_number}
+use Rattle.world_script.specs.Seen.{Seen, end_seen}
 use Rattle.world_script.specs.Writing.{AppendsFront}
 use Rattle.world_script.specs.declared.fault.RunFault.{RunFault}
 use Rattle.world_script.specs.declared.fault.RunFault.TheVariants.{Write, Memory}
 use Rattle.world_script.specs.declared.played.Played.{Played}
 use Rattle.world_script.specs.declared.played.Played.TheVariants.{Whole, Unexpected}
+use Rattle.world_trace.specs.Happenings.{AreTold}
 
 -- ---- a step
 
 -- What is told of a step: its mark, with its number, the line of the text on which it stands where that is known, and its
--- name; and a line for each thing that happened.
-pub record IsTold (number : ℕ) (place : Option ℕ) (step : Step) (told : List ℕ) : Type 0 where
+-- name; and a line for each thing that happened: where it is known what was seen, all of that.
+pub record IsTold (number : ℕ) (place : Option ℕ) (step : Step) (seen : Option (List Seen)) (told : List ℕ) : Type 0 where
   pub happened : List Happening
   pub is : told ≡ began_line number place (step_name step) ++ flat_map happening_line happened
+  pub are_told : IfSome seen (λ xs. AreTold xs happened)
 
 -- Telling ends early, with all that was told: where memory ran out, or, with the first bytes of it, where a write failed.
 abbrev pub TellsEarly : ℕ → Option ℕ → Step → Option (List ℕ) → Option (List ℕ) → Result Played RunFault → Type 0
-TellsEarly number place step old new (Err Memory) = (told : List ℕ) × ((told ≡ []) ⊎ IsTold number place step told) × Appends old new told
-TellsEarly number place step old new (Err Write) = (told : List ℕ) × IsTold number place step told × AppendsFront old new told
+TellsEarly number place step old new (Err Memory) = (told : List ℕ) × ((told ≡ []) ⊎ IsTold number place step None told) × Appends old new told
+TellsEarly number place step old new (Err Write) = (told : List ℕ) × IsTold number place step None told × AppendsFront old new told
 TellsEarly number place step old new other = ⊥
 
--- It is told, and then written how the step of this number ends, as a run writes it.
+-- It is told, and then written how the step of this number ends, as a run writes it. All that was seen of it is told, unless memory ran
+-- out or a write failed.
 pub record IsTraced (number : ℕ) (place : Option ℕ) (s : Scene) (x : NamedStep) (old new : Option (List ℕ)) (result : Result Played RunFault) (t : Scene) : Type 0 where
   pub told : List ℕ
   pub between : Option (List ℕ)
-  pub is_told : IsTold number place x.step told
   pub tells : Appends old between told
   pub ends : StepEnds number s x between new result t
+  pub is_told : IsTold number place x.step (end_seen number s x between new result t ends) told
 
 abbrev pub StepTraced : ℕ → Option ℕ → Scene → NamedStep → Option (List ℕ) → Option (List ℕ) → Result Played RunFault → Scene → Type 0
 StepTraced number place s x old new result t = IsTraced number place s x old new result t ⊎ TellsEarly number place x.step old new result

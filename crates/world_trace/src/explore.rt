@@ -10,15 +10,15 @@ ghost use Rattle.world_trace.specs.Shrinking.{drawn_for};
 
 use crate::evidence::Evidence;
 use crate::in_memory::run_in_memory;
-use host_types::{ClientId, ReplicaId};
+use host_types::ClientId;
 use pbft_codec::Sequence;
-use script_text::{DeliveryOrder, Filter, NamedStep, Node, Script, ScriptFault, ScriptKind, Step};
+use script_text::{DeliveryOrder, Filter, NamedStep, Script, ScriptFault, ScriptKind, Step};
 use std::alloc::{AllocError, Global};
 use std::mem::replace;
 use world_chart::{Blame, Claim};
 use world_script::{
-    AuditFault, KeySources, Letter, Played, Row, RunFault, Stage, Unwatched, Watcher,
-    differing_line,
+    AuditFault, Delivery, Expiry, KeySources, Letter, Played, Row, RunFault, Stage, Unwatched,
+    Watcher, differing_line,
 };
 
 /// The seeds from the first on, without the last.
@@ -305,51 +305,30 @@ struct Listener {
 }
 
 impl Listener {
-    fn listen(&mut self, row: Option<Row>) -> Result<(), AllocError> {
+    fn listen(&mut self, row: &Option<Row>) -> Result<(), AllocError> {
         match row {
-            Some(row) => self.evidence.add(&row),
+            Some(row) => self.evidence.add(row),
             None => Ok(()),
         }
     }
 }
 
 impl Watcher for Listener {
-    fn passing(&mut self, passed: usize) -> Result<(), AllocError> {
+    ghost told = { λ _ _. Unit {0} };
+
+    fn handed(&mut self, _stage: &Stage, delivery: &Delivery) -> Result<(), AllocError> {
         if self.passed.len() < MAX_CHOICES {
-            self.passed.push(passed as u64)?;
+            self.passed.push(delivery.passed as u64)?;
         }
+        self.listen(&delivery.row)
+    }
+
+    fn lost(&mut self, _letter: &Letter) -> Result<(), AllocError> {
         Ok(())
     }
 
-    fn about(&mut self, _stage: &Stage, _letter: &Letter) -> Result<(), AllocError> {
-        Ok(())
-    }
-
-    fn handed(
-        &mut self,
-        _stage: &Stage,
-        _to: Node,
-        _line: &str,
-        row: Option<Row>,
-    ) -> Result<(), AllocError> {
-        self.listen(row)
-    }
-
-    fn losing(&mut self, _letter: &Letter) -> Result<(), AllocError> {
-        Ok(())
-    }
-
-    fn about_timeout(&mut self, _stage: &Stage, _at: ReplicaId) -> Result<(), AllocError> {
-        Ok(())
-    }
-
-    fn timed_out(
-        &mut self,
-        _stage: &Stage,
-        _at: ReplicaId,
-        row: Option<Row>,
-    ) -> Result<(), AllocError> {
-        self.listen(row)
+    fn timed_out(&mut self, _stage: &Stage, expiry: &Expiry) -> Result<(), AllocError> {
+        self.listen(&expiry.row)
     }
 
     fn printed(&mut self, _stage: &Stage, _step: &Step, _text: &str) -> Result<(), AllocError> {

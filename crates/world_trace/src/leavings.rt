@@ -1,6 +1,11 @@
 //! ViewChanges, and Commits of their signers that they hide.
 
-use host_types::{Digest, SeqNo, View};
+ghost use Rattle.std.specs.Prelude.{List, OnOk};
+ghost use Rattle.seal.specs.Opening.{CheckedMessage};
+ghost use Rattle.world_trace.specs.Heard.{AllRest, AreLeft, AreCommits, IsHeardCommit, IsHeardLeft, KeepsHeard};
+
+use host_types::{SeqNo, View};
+use pbft_codec::Commit;
 use std::alloc::{AllocError, Global};
 use std::cmp::max;
 use std::collections::BTreeMap;
@@ -8,10 +13,10 @@ use world_chart::{Blame, Claim, Leaving};
 
 /// Whose Commit for which number of which view.
 #[derive(Clone, Copy, Debug, PartialEq, Eq, PartialOrd, Ord)]
-pub(crate) struct CommitPlace {
-    pub(crate) signer: u32,
-    pub(crate) number: SeqNo,
-    pub(crate) view: View,
+struct CommitPlace {
+    signer: u32,
+    number: SeqNo,
+    view: View,
 }
 
 impl CommitPlace {
@@ -45,6 +50,13 @@ struct LeavingPlace {
     view: View,
 }
 
+/// A Commit that was heard.
+#[derive(Clone, Copy)]
+pub(crate) struct HeardCommit {
+    pub(crate) signer: u32,
+    pub(crate) commit: Commit,
+}
+
 /// A ViewChange that was heard.
 #[derive(Drop)]
 struct Left {
@@ -56,12 +68,14 @@ struct Left {
 #[derive(Drop)]
 pub(crate) struct Leavings {
     alloc: Global,
-    commits: BTreeMap<CommitPlace, Vec<Digest>>,
+    commits: BTreeMap<CommitPlace, Vec<HeardCommit>>,
     left: BTreeMap<LeavingPlace, Vec<Left>>,
 }
 
 impl Leavings {
-    pub(crate) fn new(alloc: Global) -> Leavings {
+    pub(crate) fn new(alloc: Global) -> Leavings
+        ensures { (ms : List CheckedMessage) → KeepsHeard ms result }
+    {
         Leavings {
             alloc,
             commits: BTreeMap::new(alloc),
@@ -72,33 +86,48 @@ impl Leavings {
     /// Hears a Commit, and adds to the news each ViewChange that hides it.
     pub(crate) fn commit(
         &mut self,
-        place: CommitPlace,
-        digest: Digest,
+        said: HeardCommit,
         news: &mut Vec<Blame>,
-    ) -> Result<(), AllocError> {
-        let from = LeavingPlace {
-            signer: place.signer,
-            view: View(place.view.0.saturating_add(1)),
-        };
-        for (later, changes) in self.left.range(from..) {
-            if later.signer != place.signer {
-                break;
-            }
-            for change in changes.iter() {
-                add_hidden(change, place, digest, news)?;
-            }
-        }
-        self.keep_commit(place, digest)
+    ) -> Result<(), AllocError>
+        ensures { OnOk result ((ms : List CheckedMessage) → IsHeardCommit ms said → KeepsHeard ms self.old → AllRest ms news.old.items → KeepsHeard ms self.new × AllRest ms news.new.items) }
+    {
+        self.add_leavings(&said, news)?;
+        self.keep_commit(said)
     }
 
-    fn keep_commit(&mut self, place: CommitPlace, digest: Digest) -> Result<(), AllocError> {
-        if let Some(digests) = self.commits.get_mut(&place) {
-            digests.push(digest)?;
+    /// Adds a Commit to the news for each ViewChange of its signer that hides it.
+    fn add_leavings(&self, said: &HeardCommit, news: &mut Vec<Blame>) -> Result<(), AllocError>
+        ensures { OnOk result ((ms : List CheckedMessage) → IsHeardCommit ms said.now → KeepsHeard ms self.now → AllRest ms news.old.items → AllRest ms news.new.items) }
+    {
+        let from = LeavingPlace {
+            signer: said.signer,
+            view: View(said.commit.view.0.saturating_add(1)),
+        };
+        for (later, changes) in self.left.range(from..) {
+            if later.signer != said.signer {
+                break;
+            }
+            add_hiding(changes, said, news)?;
+        }
+        Ok(())
+    }
+
+    /// Keeps a Commit.
+    fn keep_commit(&mut self, said: HeardCommit) -> Result<(), AllocError>
+        ensures { OnOk result ((ms : List CheckedMessage) → IsHeardCommit ms said → KeepsHeard ms self.old → KeepsHeard ms self.new) }
+    {
+        let place = CommitPlace {
+            signer: said.signer,
+            number: said.commit.number,
+            view: said.commit.view,
+        };
+        if let Some(commits) = self.commits.get_mut(&place) {
+            commits.push(said)?;
             return Ok(());
         }
-        let mut digests = Vec::new(self.alloc);
-        digests.push(digest)?;
-        match self.commits.insert(place, digests) {
+        let mut commits = Vec::new(self.alloc);
+        commits.push(said)?;
+        match self.commits.insert(place, commits) {
             Ok(_) => Ok(()),
             Err(_) => Err(AllocError),
         }
@@ -110,14 +139,24 @@ impl Leavings {
         claim: Claim,
         leaving: Leaving,
         news: &mut Vec<Blame>,
-    ) -> Result<(), AllocError> {
+    ) -> Result<(), AllocError>
+        ensures { OnOk result ((ms : List CheckedMessage) → IsHeardLeft ms (record { claim = claim; leaving = leaving }) → KeepsHeard ms self.old → AllRest ms news.old.items → KeepsHeard ms self.new × AllRest ms news.new.items) }
+    {
         let left = Left { claim, leaving };
-        let mut from = CommitPlace::above(claim.signer, left.leaving.low());
+        self.add_commits(&left, news)?;
+        self.keep_leaving(left)
+    }
+
+    /// Adds to the news each Commit that a ViewChange of its signer hides.
+    fn add_commits(&self, left: &Left, news: &mut Vec<Blame>) -> Result<(), AllocError>
+        ensures { OnOk result ((ms : List CheckedMessage) → IsHeardLeft ms left.now → KeepsHeard ms self.now → AllRest ms news.old.items → AllRest ms news.new.items) }
+    {
+        let mut from = CommitPlace::above(left.claim.signer, left.leaving.low());
         for _ in 0..u64::MAX {
             let Some(first) = from else { break };
-            from = self.add_next(&left, first, news)?;
+            from = self.add_next(left, first, news)?;
         }
-        self.keep_leaving(left)
+        Ok(())
     }
 
     /// Adds to the news the Commits at the first place from this one on that has some of the signer, where the ViewChange hides
@@ -127,9 +166,11 @@ impl Leavings {
         left: &Left,
         from: CommitPlace,
         news: &mut Vec<Blame>,
-    ) -> Result<Option<CommitPlace>, AllocError> {
+    ) -> Result<Option<CommitPlace>, AllocError>
+        ensures { OnOk result ((ms : List CheckedMessage) → IsHeardLeft ms left.now → KeepsHeard ms self.now → AllRest ms news.old.items → AllRest ms news.new.items) }
+    {
         let mut found = self.commits.range(from..);
-        let Some((place, digests)) = found.next() else {
+        let Some((place, commits)) = found.next() else {
             return Ok(None);
         };
         let CommitPlace {
@@ -140,9 +181,7 @@ impl Leavings {
         if signer != from.signer {
             return Ok(None);
         }
-        for digest in digests.iter() {
-            add_hidden(left, *place, *digest, news)?;
-        }
+        add_hidden(left, commits, news)?;
         if view.0 >= left.leaving.view().0 {
             return Ok(CommitPlace::above(signer, number));
         }
@@ -151,21 +190,20 @@ impl Leavings {
         Ok(CommitPlace::behind(signer, number, last))
     }
 
-    fn keep_leaving(&mut self, left: Left) -> Result<(), AllocError> {
+    /// Keeps a ViewChange.
+    fn keep_leaving(&mut self, left: Left) -> Result<(), AllocError>
+        ensures { OnOk result ((ms : List CheckedMessage) → IsHeardLeft ms left → KeepsHeard ms self.old → KeepsHeard ms self.new) }
+    {
         let place = LeavingPlace {
             signer: left.claim.signer,
             view: left.leaving.view(),
         };
         if let Some(changes) = self.left.get_mut(&place) {
-            return match changes.push(left) {
-                Ok(()) => Ok(()),
-                Err(_) => Err(AllocError),
-            };
+            changes.push(left)?;
+            return Ok(());
         }
         let mut changes = Vec::new(self.alloc);
-        if changes.push(left).is_err() {
-            return Err(AllocError);
-        }
+        changes.push(left)?;
         match self.left.insert(place, changes) {
             Ok(_) => Ok(()),
             Err(_) => Err(AllocError),
@@ -173,18 +211,40 @@ impl Leavings {
     }
 }
 
+/// Adds a Commit to the news for each of the ViewChanges that hides it.
+fn add_hiding(changes: &[Left], said: &HeardCommit, news: &mut Vec<Blame>) -> Result<(), AllocError>
+    ensures { OnOk result ((ms : List CheckedMessage) → AreLeft ms changes.now → IsHeardCommit ms said.now → AllRest ms news.old.items → AllRest ms news.new.items) }
+{
+    for change in changes {
+        add_if_hidden(change, said, news)?;
+    }
+    Ok(())
+}
+
+/// Adds those of the Commits to the news that a ViewChange hides.
+fn add_hidden(left: &Left, commits: &[HeardCommit], news: &mut Vec<Blame>) -> Result<(), AllocError>
+    ensures { OnOk result ((ms : List CheckedMessage) → IsHeardLeft ms left.now → AreCommits ms commits.now → AllRest ms news.old.items → AllRest ms news.new.items) }
+{
+    for said in commits {
+        add_if_hidden(left, said, news)?;
+    }
+    Ok(())
+}
+
 /// Adds a Commit to the news where a ViewChange of its signer hides it.
-fn add_hidden(
-    left: &Left,
-    place: CommitPlace,
-    digest: Digest,
-    news: &mut Vec<Blame>,
-) -> Result<(), AllocError> {
-    if left.leaving.hides(place.view, place.number) {
+fn add_if_hidden(left: &Left, said: &HeardCommit, news: &mut Vec<Blame>) -> Result<(), AllocError>
+    ensures { OnOk result ((ms : List CheckedMessage) → IsHeardLeft ms left.now → IsHeardCommit ms said.now → AllRest ms news.old.items → AllRest ms news.new.items) }
+{
+    let Commit {
+        view,
+        number,
+        digest,
+    } = said.commit;
+    if left.claim.signer == said.signer && left.leaving.hides(view, number) {
         news.push(Blame::Hidden {
             change: left.claim,
-            view: place.view,
-            number: place.number,
+            view,
+            number,
             digest,
         })?;
     }

@@ -6,7 +6,7 @@ ghost use Rattle.std.specs.Io.KnownBytes.{Appends};
 ghost use Rattle.script_text.specs.Steps.{step_name};
 ghost use Rattle.world_chart.specs.Lines.{began_line, happening_line};
 ghost use Rattle.world_script.specs.Starts.{start_of};
-ghost use Rattle.world_trace.specs.Telling.{PassesOn, TellsSome};
+ghost use Rattle.world_trace.specs.Telling.{AreNoted, PassesOn, RunsInMemory, TellsSome};
 ghost use Rattle.world_trace.specs.Traces.{StepTraced, TracesScript, TracesSteps};
 
 use crate::in_memory::run_in_memory;
@@ -122,19 +122,32 @@ impl Traced {
         let mut printed: Vec<u8> = Vec::new(self.alloc);
         self.tracer.clear();
         let mark = mark_of(self.alloc, number, place, &step.step)?;
-        let ended = run_in_memory(
-            &mut self.stage,
-            &mut self.unread,
-            number,
-            step,
-            &mut printed,
-            progress,
-            &mut self.tracer,
-        );
+        let ended = self.run(number, step, &mut printed, progress);
         if let Err(fault) = write_told(self.alloc, &mark, self.tracer.happened(), writer) {
             return Err(fault);
         }
         pass_on(ended, &printed, writer)
+    }
+
+    /// Runs a step, which prints into memory, and notes what happens.
+    fn run<P: Progress>(
+        &mut self,
+        number: u32,
+        step: &NamedStep,
+        printed: &mut Vec<u8>,
+        progress: &mut P,
+    ) -> Result<Played, RunFault>
+        ensures { RunsInMemory number (record { stage = self.old.stage; unread = string_bytes self.old.unread }) step.now printed.old.items printed.new.items result (record { stage = self.new.stage; unread = string_bytes self.new.unread }) (AreNoted self.old.tracer.happened.items) (AreNoted self.new.tracer.happened.items) }
+    {
+        run_in_memory(
+            &mut self.stage,
+            &mut self.unread,
+            number,
+            step,
+            printed,
+            progress,
+            &mut self.tracer,
+        )
     }
 }
 

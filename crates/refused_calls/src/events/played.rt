@@ -9,7 +9,9 @@ use lms_tree::Signer;
 use script_text::{Head, NamedStep, Node, Script, Step};
 use std::alloc::{AllocError, Global};
 use std::sync::Arc;
-use world_script::{Event, KeySources, Keys, Letter, Row, Stage, Unwatched, Watcher, run_step};
+use world_script::{
+    Delivery, Event, Expiry, KeySources, Keys, Letter, Stage, Unwatched, Watcher, run_step,
+};
 
 /// The correct replicas of a script before their first signatures.
 #[derive(Drop)]
@@ -122,39 +124,22 @@ impl Recorder {
 }
 
 impl Watcher for Recorder {
-    fn about(&mut self, _stage: &Stage, letter: &Letter) -> Result<(), AllocError> {
-        if let Node::Replica(to) = letter.to() {
-            let bytes = Bytes::from_vec(Vec::from_slice(self.alloc, letter.bytes())?);
+    ghost told = { λ _ _. Unit {0} };
+
+    fn handed(&mut self, _stage: &Stage, delivery: &Delivery) -> Result<(), AllocError> {
+        if let Node::Replica(to) = delivery.letter.to() {
+            let bytes = Bytes::from_vec(Vec::from_slice(self.alloc, delivery.letter.bytes())?);
             self.events.push(Event::Deliver { to, bytes })?;
         }
         Ok(())
     }
 
-    fn handed(
-        &mut self,
-        _stage: &Stage,
-        _to: Node,
-        _line: &str,
-        _row: Option<Row>,
-    ) -> Result<(), AllocError> {
+    fn lost(&mut self, _letter: &Letter) -> Result<(), AllocError> {
         Ok(())
     }
 
-    fn losing(&mut self, _letter: &Letter) -> Result<(), AllocError> {
-        Ok(())
-    }
-
-    fn about_timeout(&mut self, _stage: &Stage, at: ReplicaId) -> Result<(), AllocError> {
-        self.events.push(Event::Timeout { at })?;
-        Ok(())
-    }
-
-    fn timed_out(
-        &mut self,
-        _stage: &Stage,
-        _at: ReplicaId,
-        _row: Option<Row>,
-    ) -> Result<(), AllocError> {
+    fn timed_out(&mut self, _stage: &Stage, expiry: &Expiry) -> Result<(), AllocError> {
+        self.events.push(Event::Timeout { at: expiry.at })?;
         Ok(())
     }
 

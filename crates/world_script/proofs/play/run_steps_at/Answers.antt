@@ -19,7 +19,7 @@ returns-in-Err g c =
     subst (λ (k : ScriptKind). Fails k c.args.script.now c.saturating_add-number.result (g.O.Write.contents c.args.writer.now) (g.O.Write.contents c.run_step.new.writer)) (sym c.into-kind.ensures)
     (fails c.in-Err.fault c.args.script.now c.loop-step.step-index c.step-item.result c.saturating_add-number.result before after _ _ _
     (subst (λ (xs : List NamedStep). c.loop-step.step-index < length xs) same c.loop-step-test.true) (subst (λ (xs : List NamedStep). c.step-item.result ≡ get_or xs c.loop-step.step-index c.step-item.result) same c.step-item.is)
-    (numbered c.loop-step.number c.loop-step.step-index c.saturating_add-number.result c.loop-step.invariant.0 c.saturating_add-number.ensures) c.loop-step.invariant.1 c.in-Err.ensures)
+    (numbered c.loop-step.number c.loop-step.step-index c.saturating_add-number.result c.loop-step.invariant.0 c.saturating_add-number.ensures) c.loop-step.invariant.1 c.in-Err.ensures.0)
 
 pub returns-in-Ok-Unexpected : goal.returns-in-Ok-Unexpected
 returns-in-Ok-Unexpected g c =
@@ -29,7 +29,7 @@ returns-in-Ok-Unexpected g c =
     stops_unexpected c.args.script.now c.loop-step.step-index c.step-item.result c.saturating_add-number.result before after _ _ _
     (subst (λ (xs : List NamedStep). c.loop-step.step-index < length xs) same c.loop-step-test.true) (subst (λ (xs : List NamedStep). c.step-item.result ≡ get_or xs c.loop-step.step-index c.step-item.result) same c.step-item.is)
     (numbered c.loop-step.number c.loop-step.step-index c.saturating_add-number.result c.loop-step.invariant.0 c.saturating_add-number.ensures) c.loop-step.invariant.1
-    (rw c.in-Ok-Unexpected.field-0-is at c.in-Ok-Unexpected.ensures)
+    (rw c.in-Ok-Unexpected.field-0-is at c.in-Ok-Unexpected.ensures.0)
 
 pub loop-step-preserved : goal.loop-step-preserved
 loop-step-preserved g c =
@@ -39,5 +39,5 @@ loop-step-preserved g c =
       numbered c.loop-step.number c.loop-step.step-index c.saturating_add-number.result c.loop-step.invariant.0 c.saturating_add-number.ensures,
       one_more_done c.args.script.now c.loop-step.step-index c.step-item.result c.saturating_add-number.result before after _ _ _
           (subst (λ (xs : List NamedStep). c.loop-step.step-index < length xs) same c.loop-step-test.true) (subst (λ (xs : List NamedStep). c.step-item.result ≡ get_or xs c.loop-step.step-index c.step-item.result) same c.step-item.is)
-          c.loop-step.invariant.1 (rw c.in-Ok-Whole.field-0-is at c.in-Ok-Whole.ensures),
+          c.loop-step.invariant.1 (rw c.in-Ok-Whole.field-0-is at c.in-Ok-Whole.ensures.0),
     )

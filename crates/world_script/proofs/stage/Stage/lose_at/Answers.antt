@@ -1,10 +1,16 @@
-use Rattle.std.proofs.Common.{◌≡◌, ◌<◌, sym, subst}
-use Rattle.world_queue.specs.Letters.{meant_count}
+use Rattle.std.proofs.Common.{List, [], ℕ, ap, ◌∙◌}
 use Rattle.world_script.specs.Facts.{StageFacts}
+use Rattle.world_script.specs.Stages.{Turn}
 use Rattle.world_script.proofs.stage.Stage.lose_at.Goals as goal
 
-pub take_meant-requires : goal.take_meant-requires
-take_meant-requires g c =
-    let kept : StageFacts = record { world = c.self.inside.world; forgers = c.self.inside.forgers.items; sessions = c.self.inside.sessions.sessions.items; made = c.self.inside.made.items; named = c.self.inside.named.items; queue = c.self.inside.queue } in
-    let view : kept ≡ c.args.self.now = c.self.view_is in
-    subst (λ (s : StageFacts). c.args.passed < meant_count c.args.filter.now s.queue) (sym view) c.requires
+pub returns : goal.returns
+returns g c =
+    let taken = c.take_meant-letter.ensures in (
+      record {
+        letter = c.take_meant-letter.result;
+        left = taken.0;
+        taken = taken.1;
+        turn = ap {B = Turn} (λ (bs : List ℕ). (bs, c.take_meant-letter.new.self)) c.new.ensures.bytes ∙ ap {B = Turn} (λ (s : StageFacts). ([], s)) taken.2;
+      },
+      c.in_ok-lost.ensures,
+    )
