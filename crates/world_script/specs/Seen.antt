@@ -29,9 +29,9 @@ use Rattle.world_script.specs.declared.fault.RunFault.TheVariants.{TooManyDelive
 use Rattle.world_script.specs.declared.played.Played.{Played}
 use Rattle.world_script.specs.declared.played.Played.TheVariants.{Whole, Unexpected}
 
--- What is seen, each with the world then: a letter that was handed over, with where its addressee stood before, how many letters
--- that were meant it passed over, the row that it gave and what was printed; a letter that was lost; a timeout, with where the
--- replica stood before and the row that it gave; and what a step printed that hands nothing over.
+-- What is seen: a letter that was handed over, with where its addressee stood before, how many letters that were meant it passed
+-- over, the row that it gave, what was printed and the world then; a letter that was lost; a timeout, with where the replica stood
+-- before, the row that it gave and the world then; and what a step printed that hands nothing over, with the stage behind it.
 pub data Seen : Type 0 where
   Handed : Option Status → LetterFacts → ℕ → Option RowFacts → List ℕ → WorldFacts → Seen
   Lost : LetterFacts → Seen

@@ -164,8 +164,8 @@ impl Explorer {
         }
     }
 
-    /// How many letters were passed over at each letter that was delivered in an order that is drawn or chosen, at most 65,536 of them,
-    /// since this was last asked.
+    /// How many letters were passed over at each letter that was handed over, at most 65,536 of them, since this was last asked.
+    /// Each `deliver` has an order that is drawn or chosen here.
     pub(crate) fn take_passed(&mut self) -> Vec<u64>
         ensures stage { self.new.stage ≡ self.old.stage }
         ensures unread { string_bytes self.new.unread ≡ string_bytes self.old.unread }

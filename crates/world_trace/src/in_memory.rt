@@ -6,8 +6,8 @@ ghost use Rattle.world_trace.specs.Telling.{RunsInMemory};
 use script_text::NamedStep;
 use world_script::{Played, Progress, RunFault, Stage, Watcher, run_step};
 
-/// Runs the step of this number, as `run_step` does, which tells the watcher. What it prints is added to the bytes: that fails for lack of memory alone,
-/// and then they are none.
+/// Runs the step of this number, as `run_step` does, which tells the watcher. What it prints is added to the bytes: that fails for
+/// lack of memory alone, and then they are none.
 pub(crate) fn run_in_memory<P: Progress>(
     stage: &mut Stage,
     unread: &mut String,
